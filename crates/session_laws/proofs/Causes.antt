@@ -3,31 +3,23 @@ use Rattle.std.proofs.Common.{◌≡◌, ◌≢◌, ◌⊎◌, inl, inr, ℕ, �
 use Rattle.std.specs.List.{list_any}
 use Rattle.std.proofs.lemmas.List.{append-nil}
 use Rattle.std.proofs.lemmas.List.Folds.{list_any-append}
-use Rattle.containers.proofs.Choices.{by_test, chosen, both_left, eq_test, left_if, ne_test, not_both, taken_if}
 use Rattle.connection_info.specs.Protocol.{is_resp3}
-use Rattle.redis_error.specs.declared.fault_kind.FaultKind.TheVariants as kind
 use Rattle.redis_error.specs.declared.redis_error.RedisError.{RedisError}
-use Rattle.redis_error.specs.declared.redis_error.RedisError.TheVariants as error
 use Rattle.redis_error.specs.Errors.{is_io}
 use Rattle.driver_model.specs.declared.outcome.Outcome.{Outcome}
 use Rattle.driver_model.specs.declared.outcome.Outcome.TheVariants as outcome
-use Rattle.driver_model.specs.declared.outcome.Shape.{Shape}
-use Rattle.driver_model.specs.Shape.{outcome_of, verdict_of}
+use Rattle.driver_model.specs.News.{News}
 use Rattle.mux_conn.specs.declared.act.LinkAct.{LinkAct}
 use Rattle.mux_conn.specs.declared.act.LinkAct.TheVariants as act
 use Rattle.shared_session.specs.Generations as machine
 use Rattle.shared_session.specs.Generations.{creation_fails, fails_creation, has_cause, is_cause_in, shows_cause}
 use Rattle.shared_session.specs.Turn.{shown, shown_each, source_of, timer_of}
-use Rattle.legal_trace.specs.Ledger.{Ledger, End, cut, failure_in, is_fault, is_full, is_over}
-use Rattle.legal_trace.specs.Story.{Story, Try, answered, bytes_of, clocked, holds, is_open, last_of, rounds, shape, tried, waits}
-use Rattle.legal_trace.specs.Owed.{cut_off_if, owed_to_message, owed_to_try, owed_unstarted, owed_waiting}
-use Rattle.legal_trace.specs.Book.{Book, entered, entered_each, faults_in, if_own, info_in}
-use Rattle.legal_trace.specs.Legal.{AllStand, MayAnswer, MayStand, MayTell, current_link, is_cause, is_caused, is_lost_in}
-use Rattle.legal_trace.proofs.Causes.{needs_in, needs_link, verdict_needs_none}
-use Rattle.legal_trace.proofs.Moves.{one_holds}
-use Rattle.legal_trace.proofs.Plain.{same_some}
-use Rattle.session_laws.proofs.Lost.{IsEndOf, IsNewEnd, IsOldEnd, is_shut_down, new_kept, old_kept, over_kept}
-use Rattle.session_laws.proofs.Owes.{answered_closed}
+use Rattle.legal_trace.specs.Ledger.{End, failure_in, is_fault, is_over}
+use Rattle.legal_trace.specs.Book.{Book, entered, entered_each, faults_in, info_in}
+use Rattle.legal_trace.specs.Legal.{AllStand, current_link, is_cause, is_caused, is_lost_in}
+use Rattle.legal_trace.proofs.Causes.{needs_link}
+use Rattle.session_laws.proofs.Lost.{IsNewEnd, IsOldEnd, heard_kept, new_kept, old_kept}
+use Rattle.session_laws.proofs.Tied.{AreCalm}
 
 -- the errors of a turn
 --
@@ -63,6 +55,8 @@ pub record IsAdded (b c : Book) (a : LinkAct) : Type 0 where
   pub failed : c.failed ≡ (b.failed || fails_creation a)
   pub turns : c.turns ≡ b.turns
   pub shut : c.shut ≡ b.shut
+  pub running : c.running ≡ b.running
+  pub rest : c.rest ≡ b.rest
 
 -- neither an error nor a failed creation
 quiet : (errors : List RedisError) (failed : Bool) → (errors ≡ errors ++ []) × (failed ≡ (failed || false))
@@ -74,24 +68,24 @@ quiet errors failed = (sym (append-nil errors), or_none failed)
 
 -- each act adds so
 act_adds : (b : Book) (l t c : ℕ) (a : LinkAct) → IsAdded b (entered b (shown l t c a)) a
-act_adds b l t c (act.Outcome n o) = record { errors = refl; failed = (quiet b.errors b.failed).1; turns = refl; shut = refl }
-act_adds b l t c (act.Created e) = record { errors = (quiet b.errors b.failed).0; failed = refl; turns = refl; shut = refl }
-act_adds b l t c (act.Round n) = record { errors = (quiet b.errors b.failed).0; failed = (quiet b.errors b.failed).1; turns = refl; shut = refl }
-act_adds b l t c (act.Took n count) = record { errors = (quiet b.errors b.failed).0; failed = (quiet b.errors b.failed).1; turns = refl; shut = refl }
-act_adds b l t c (act.Timer n ms) = record { errors = (quiet b.errors b.failed).0; failed = (quiet b.errors b.failed).1; turns = refl; shut = refl }
-act_adds b l t c (act.RenewalTimer k ms) = record { errors = (quiet b.errors b.failed).0; failed = (quiet b.errors b.failed).1; turns = refl; shut = refl }
-act_adds b l t c act.NeedCreds = record { errors = (quiet b.errors b.failed).0; failed = (quiet b.errors b.failed).1; turns = refl; shut = refl }
-act_adds b l t c act.NeedRenewals = record { errors = (quiet b.errors b.failed).0; failed = (quiet b.errors b.failed).1; turns = refl; shut = refl }
-act_adds b l t c (act.SetUp message need len) = record { errors = (quiet b.errors b.failed).0; failed = (quiet b.errors b.failed).1; turns = refl; shut = refl }
-act_adds b l t c (act.Renewed message need len) = record { errors = (quiet b.errors b.failed).0; failed = (quiet b.errors b.failed).1; turns = refl; shut = refl }
-act_adds b l t c (act.Push info) = record { errors = (quiet b.errors b.failed).0; failed = (quiet b.errors b.failed).1; turns = refl; shut = refl }
-act_adds b l t c (act.Message m) = record { errors = (quiet b.errors b.failed).0; failed = (quiet b.errors b.failed).1; turns = refl; shut = refl }
-act_adds b l t c (act.Monitor v) = record { errors = (quiet b.errors b.failed).0; failed = (quiet b.errors b.failed).1; turns = refl; shut = refl }
-act_adds b l t c (act.Watch message need len) = record { errors = (quiet b.errors b.failed).0; failed = (quiet b.errors b.failed).1; turns = refl; shut = refl }
-act_adds b l t c act.Close = record { errors = (quiet b.errors b.failed).0; failed = (quiet b.errors b.failed).1; turns = refl; shut = refl }
-act_adds b l t c (act.Write bytes) = record { errors = (quiet b.errors b.failed).0; failed = (quiet b.errors b.failed).1; turns = refl; shut = refl }
-act_adds b l t c (act.Wait n kind) = record { errors = (quiet b.errors b.failed).0; failed = (quiet b.errors b.failed).1; turns = refl; shut = refl }
-act_adds b l t c (act.Start message n need len) = record { errors = (quiet b.errors b.failed).0; failed = (quiet b.errors b.failed).1; turns = refl; shut = refl }
+act_adds b l t c (act.Outcome n o) = record { errors = refl; failed = (quiet b.errors b.failed).1; turns = refl; shut = refl; running = refl; rest = refl }
+act_adds b l t c (act.Created e) = record { errors = (quiet b.errors b.failed).0; failed = refl; turns = refl; shut = refl; running = refl; rest = refl }
+act_adds b l t c (act.Round n) = record { errors = (quiet b.errors b.failed).0; failed = (quiet b.errors b.failed).1; turns = refl; shut = refl; running = refl; rest = refl }
+act_adds b l t c (act.Took n count) = record { errors = (quiet b.errors b.failed).0; failed = (quiet b.errors b.failed).1; turns = refl; shut = refl; running = refl; rest = refl }
+act_adds b l t c (act.Timer n ms) = record { errors = (quiet b.errors b.failed).0; failed = (quiet b.errors b.failed).1; turns = refl; shut = refl; running = refl; rest = refl }
+act_adds b l t c (act.RenewalTimer k ms) = record { errors = (quiet b.errors b.failed).0; failed = (quiet b.errors b.failed).1; turns = refl; shut = refl; running = refl; rest = refl }
+act_adds b l t c act.NeedCreds = record { errors = (quiet b.errors b.failed).0; failed = (quiet b.errors b.failed).1; turns = refl; shut = refl; running = refl; rest = refl }
+act_adds b l t c act.NeedRenewals = record { errors = (quiet b.errors b.failed).0; failed = (quiet b.errors b.failed).1; turns = refl; shut = refl; running = refl; rest = refl }
+act_adds b l t c (act.SetUp message need len) = record { errors = (quiet b.errors b.failed).0; failed = (quiet b.errors b.failed).1; turns = refl; shut = refl; running = refl; rest = refl }
+act_adds b l t c (act.Renewed message need len) = record { errors = (quiet b.errors b.failed).0; failed = (quiet b.errors b.failed).1; turns = refl; shut = refl; running = refl; rest = refl }
+act_adds b l t c (act.Push info) = record { errors = (quiet b.errors b.failed).0; failed = (quiet b.errors b.failed).1; turns = refl; shut = refl; running = refl; rest = refl }
+act_adds b l t c (act.Message m) = record { errors = (quiet b.errors b.failed).0; failed = (quiet b.errors b.failed).1; turns = refl; shut = refl; running = refl; rest = refl }
+act_adds b l t c (act.Monitor v) = record { errors = (quiet b.errors b.failed).0; failed = (quiet b.errors b.failed).1; turns = refl; shut = refl; running = refl; rest = refl }
+act_adds b l t c (act.Watch message need len) = record { errors = (quiet b.errors b.failed).0; failed = (quiet b.errors b.failed).1; turns = refl; shut = refl; running = refl; rest = refl }
+act_adds b l t c act.Close = record { errors = (quiet b.errors b.failed).0; failed = (quiet b.errors b.failed).1; turns = refl; shut = refl; running = refl; rest = refl }
+act_adds b l t c (act.Write bytes) = record { errors = (quiet b.errors b.failed).0; failed = (quiet b.errors b.failed).1; turns = refl; shut = refl; running = refl; rest = refl }
+act_adds b l t c (act.Wait n kind) = record { errors = (quiet b.errors b.failed).0; failed = (quiet b.errors b.failed).1; turns = refl; shut = refl; running = refl; rest = refl }
+act_adds b l t c (act.Start message n need len) = record { errors = (quiet b.errors b.failed).0; failed = (quiet b.errors b.failed).1; turns = refl; shut = refl; running = refl; rest = refl }
 
 -- one of three
 or_assoc : (x y z : Bool) → ((x || y) || z) ≡ (x || (y || z))
@@ -99,15 +93,28 @@ or_assoc true y z = refl
 or_assoc false y z = refl
 
 -- and so do all
-pub acts_add : (b : Book) (l t c : ℕ) (acts : List LinkAct) → let d = entered_each b (shown_each l t c acts) in (d.errors ≡ b.errors ++ faults_of acts) × (d.failed ≡ (b.failed || creation_fails acts))
-acts_add b l t c [] = quiet b.errors b.failed
+pub record AreAdded (b c : Book) (acts : List LinkAct) : Type 0 where
+  pub errors : c.errors ≡ b.errors ++ faults_of acts
+  pub failed : c.failed ≡ (b.failed || creation_fails acts)
+  pub turns : c.turns ≡ b.turns
+  pub shut : c.shut ≡ b.shut
+  pub running : c.running ≡ b.running
+  pub rest : c.rest ≡ b.rest
+
+pub acts_add : (b : Book) (l t c : ℕ) (acts : List LinkAct) → AreAdded b (entered_each b (shown_each l t c acts)) acts
+acts_add b l t c [] = record { errors = (quiet b.errors b.failed).0; failed = (quiet b.errors b.failed).1; turns = refl; shut = refl; running = refl; rest = refl }
 acts_add b l t c (a ∷ acts) =
     let d : Book = entered b (shown l t c a) in
     let one = act_adds b l t c a in
-    let rest = acts_add d l (t + length (timer_of l a)) (c + length (source_of l a)) acts in (
-      rest.0 ∙ ap (λ (es : List RedisError). es ++ faults_of acts) one.errors ∙ append_assoc b.errors (fault_of a) (faults_of acts),
-      rest.1 ∙ ap (λ (f : Bool). f || creation_fails acts) one.failed ∙ or_assoc b.failed (fails_creation a) (creation_fails acts),
-    )
+    let more = acts_add d l (t + length (timer_of l a)) (c + length (source_of l a)) acts in
+    record {
+      errors = more.errors ∙ ap (λ (es : List RedisError). es ++ faults_of acts) one.errors ∙ append_assoc b.errors (fault_of a) (faults_of acts);
+      failed = more.failed ∙ ap (λ (f : Bool). f || creation_fails acts) one.failed ∙ or_assoc b.failed (fails_creation a) (creation_fails acts);
+      turns = more.turns ∙ one.turns;
+      shut = more.shut ∙ one.shut;
+      running = more.running ∙ one.running;
+      rest = more.rest ∙ one.rest;
+    }
 
 -- an outcome is a cause where one of its errors is
 outcome_causes : (opened : Bool) (o : Outcome) → list_any (machine.is_cause opened) (faults_in o) ≡ is_cause_in opened o
@@ -148,149 +155,8 @@ acts_cause opened (a ∷ acts) =
     list_any-append (machine.is_cause opened) (fault_of a) (faults_of acts)
     ∙ (λ i. act_causes opened a i || acts_cause opened acts i)
 
--- what submissions are answered with whose link goes on
+-- how the link ends in a turn
 --
--- a submission that is open goes to that link with its messages, and came in time
-pub record GoesTo (link : ℕ) (s : Story) : Type 0 where
-  pub on : is_open s ≡ true → s.link ≡ link
-  pub in_time : is_open s ≡ true → s.late ≡ false
-  pub tries_on : is_open s ≡ true → (t : Try) → last_of s.tries ≡ Some t → t.link ≡ link
-
--- the last of these is the last
-last_tried : (ts : List Try) (t : Try) → last_of (ts ++ t ∷ []) ≡ Some t
-last_tried [] t = refl
-last_tried (u ∷ []) t = refl
-last_tried (u ∷ v ∷ ts) t = last_tried (v ∷ ts) t
-
--- one that was answered isn't open
-answered_goes : (link : ℕ) (s : Story) (o : Outcome) → GoesTo link (answered s o)
-answered_goes link s o =
-    let closed : is_open (answered s o) ≡ false = answered_closed (answered s o) s.outcomes o refl in
-    record { on = λ e. absurd (not_both (is_open (answered s o)) closed e); in_time = λ e. absurd (not_both (is_open (answered s o)) closed e); tries_on = λ e. absurd (not_both (is_open (answered s o)) closed e) }
-
--- one whose message starts there
-tried_goes : (link : ℕ) (s : Story) (message : ℕ) → GoesTo link s → GoesTo link (tried s link message)
-tried_goes link s message h = record {
-  on = h.on;
-  in_time = h.in_time;
-  tries_on = λ e t is.
-      let same : record { link = link; message = message } ≡ t = same_some (record { link = link; message = message }) t (sym (last_tried s.tries (record { link = link; message = message })) ∙ is) in
-      ap (λ (u : Try). u.link) (sym same);
-}
-
--- each act of the link leaves it so
-act_goes : (b : Book) (l t c : ℕ) (a : LinkAct) (n : ℕ) → GoesTo l (b.story n) → GoesTo l ((entered b (shown l t c a)).story n)
-act_goes b l t c (act.Created e) n h = h
-act_goes b l t c (act.Round m) n h = chosen (GoesTo l) (m == n) (rounds (b.story n)) (b.story n) (λ e. record { on = h.on; in_time = h.in_time; tries_on = h.tries_on }) (λ e. h)
-act_goes b l t c (act.Took m count) n h = chosen (GoesTo l) (m == n) (holds (b.story n) count) (b.story n) (λ e. record { on = h.on; in_time = h.in_time; tries_on = h.tries_on }) (λ e. h)
-act_goes b l t c (act.Timer m ms) n h = chosen (GoesTo l) (m == n) (clocked (b.story n) t) (b.story n) (λ e. record { on = h.on; in_time = h.in_time; tries_on = h.tries_on }) (λ e. h)
-act_goes b l t c (act.RenewalTimer k ms) n h = h
-act_goes b l t c act.NeedCreds n h = h
-act_goes b l t c act.NeedRenewals n h = h
-act_goes b l t c (act.SetUp message need len) n h = h
-act_goes b l t c (act.Renewed message need len) n h = h
-act_goes b l t c (act.Push info) n h = h
-act_goes b l t c (act.Message m) n h = h
-act_goes b l t c (act.Monitor v) n h = h
-act_goes b l t c (act.Watch message need len) n h = h
-act_goes b l t c act.Close n h = h
-act_goes b l t c (act.Write bytes) n h = h
-act_goes b l t c (act.Wait m kind) n h = chosen (GoesTo l) (m == n) (waits (b.story n) kind) (b.story n) (λ e. record { on = h.on; in_time = h.in_time; tries_on = h.tries_on }) (λ e. h)
-act_goes b l t c (act.Start message m need len) n h = chosen (GoesTo l) (m == n) (tried (b.story n) l message) (b.story n) (λ e. tried_goes l (b.story n) message h) (λ e. h)
-act_goes b l t c (act.Outcome m o) n h = chosen (GoesTo l) (m == n) (answered (b.story n) o) (b.story n) (λ e. answered_goes l (b.story n) o) (λ e. h)
-
--- what one without a message is owed comes of the end of its link, until everything is shut down
-waiting_ends : (shut : Bool) (l : Ledger) (o : Outcome) → shut ≡ false → owed_waiting shut l ≡ Some o → is_over l ≡ true
-waiting_ends shut l o down e = by_end l.end refl (sym (ap (λ (s : Bool). if s && not l.asked then Some (outcome.Fault error.Closed) else owed_unstarted l.end) down) ∙ e)
-  where
-    by_end : (x : Option End) → l.end ≡ x → owed_unstarted x ≡ Some o → is_over l ≡ true
-    by_end None same owes = cc owes
-    by_end (Some end) same owes = ap is_some same
-
--- what a message is owed that is an error which only a new link helps comes of it, too
-message_ends : (l : Ledger) (k : ℕ) (of_shape : Shape) (o : Outcome) → needs_in o ≡ true → owed_to_message l k of_shape ≡ Some o → is_over l ≡ true
-message_ends l k of_shape o needs =
-    chosen (λ (x : Option Outcome). x ≡ Some o → is_over l ≡ true) (is_full l k) (Some (outcome_of (verdict_of of_shape (cut l k of_shape)))) (cut_off_if l.end k of_shape)
-    (λ t e. absurd (not_both (needs_in o) (sym (ap needs_in (same_some (outcome_of (verdict_of of_shape (cut l k of_shape))) o e)) ∙ verdict_needs_none of_shape (cut l k of_shape)) needs))
-    (λ f e. by_end l.end refl e)
-  where
-    by_end : (x : Option End) → l.end ≡ x → cut_off_if x k of_shape ≡ Some o → is_over l ≡ true
-    by_end None same owes = cc owes
-    by_end (Some end) same owes = ap is_some same
-
--- what is owed in one of five ways
-five_ways : (late unspoken empty overdue : Bool) (P : Type 0) (o : Outcome) (x : Option Outcome) → needs_in o ≡ true → late ≡ false → (x ≡ Some o → P)
-    → (if late then Some (outcome.Fault error.Closed) else if unspoken then Some (outcome.Fault error.Resp3Required) else if empty then Some (outcome.Fault error.EmptyCommand) else if overdue then Some (outcome.Fault (error.Io kind.TimedOut)) else x) ≡ Some o → P
-five_ways true unspoken empty overdue P o x needs in_time by e = cc in_time
-five_ways false true empty overdue P o x needs in_time by e = absurd (not_both (needs_in o) (sym (ap needs_in (same_some (outcome.Fault error.Resp3Required) o e))) needs)
-five_ways false false true overdue P o x needs in_time by e = absurd (not_both (needs_in o) (sym (ap needs_in (same_some (outcome.Fault error.EmptyCommand) o e))) needs)
-five_ways false false false true P o x needs in_time by e = absurd (not_both (needs_in o) (sym (ap needs_in (same_some (outcome.Fault (error.Io kind.TimedOut)) o e))) needs)
-five_ways false false false false P o x needs in_time by e = by e
-
--- so an answer that is such an error comes of the end of the link
-answer_ends : (b : Book) (link n : ℕ) (o : Outcome) → GoesTo link (b.story n) → b.shut ≡ false → MayAnswer b n o → needs_in o ≡ true → is_over (b.link link) ≡ true
-answer_ends b link n o goes down may needs =
-    let s = b.story n in
-    five_ways s.late s.unspoken (length (bytes_of s) == 0) s.overdue (is_over (b.link link) ≡ true) o (owed_to_try b s (last_of s.tries)) needs (goes.in_time may.asked) (by_try (last_of s.tries) refl) may.owes
-  where
-    by_try : (t : Option Try) → last_of (b.story n).tries ≡ t → owed_to_try b (b.story n) t ≡ Some o → is_over (b.link link) ≡ true
-    by_try None is e = subst (λ l. is_over (b.link l) ≡ true) (goes.on may.asked) (waiting_ends b.shut (b.link (b.story n).link) o down e)
-    by_try (Some t) is e = subst (λ l. is_over (b.link l) ≡ true) (goes.tries_on may.asked t is) (message_ends (b.link t.link) t.message (shape (b.story n)) o needs e)
-
--- of any outcome
-outcome_ends : (b : Book) (link n : ℕ) (o : Outcome) → GoesTo link (b.story n) → b.shut ≡ false → MayAnswer b n o ⊎ MayTell b n o → needs_in o ≡ true → is_over (b.link link) ≡ true
-outcome_ends b link n o goes down (inl may) needs = answer_ends b link n o goes down may needs
-outcome_ends b link n o goes down (inr may) needs = absurd (not_both (needs_in o) (ap needs_in may.nil) needs)
-
--- a turn that doesn't shut everything down, on this link: all submissions go there, and an error that only a new link helps came
--- since it has ended
-pub record IsOwnTurn (link turn : ℕ) (b : Book) : Type 0 where
-  pub goes : (n : ℕ) → GoesTo link (b.story n)
-  pub now : b.turns - 1 ≡ turn
-  pub runs : b.shut ≡ false
-  pub errors : list_any needs_link b.errors ≡ true → is_over (b.link link) ≡ true
-
--- an act has no such error but at the end of the link
-act_needs : (b : Book) (l t c : ℕ) (a : LinkAct) → ((n : ℕ) → GoesTo l (b.story n)) → b.shut ≡ false → MayStand b (shown l t c a) → list_any needs_link (fault_of a) ≡ true → is_over (b.link l) ≡ true
-act_needs b l t c (act.Outcome n o) goes down may needs = outcome_ends b l n o (goes n) down may needs
-act_needs b l t c (act.Created e) goes down may needs = cc needs
-act_needs b l t c (act.Round n) goes down may needs = cc needs
-act_needs b l t c (act.Took n count) goes down may needs = cc needs
-act_needs b l t c (act.Timer n ms) goes down may needs = cc needs
-act_needs b l t c (act.RenewalTimer k ms) goes down may needs = cc needs
-act_needs b l t c act.NeedCreds goes down may needs = cc needs
-act_needs b l t c act.NeedRenewals goes down may needs = cc needs
-act_needs b l t c (act.SetUp message need len) goes down may needs = cc needs
-act_needs b l t c (act.Renewed message need len) goes down may needs = cc needs
-act_needs b l t c (act.Push info) goes down may needs = cc needs
-act_needs b l t c (act.Message m) goes down may needs = cc needs
-act_needs b l t c (act.Monitor v) goes down may needs = cc needs
-act_needs b l t c (act.Watch message need len) goes down may needs = cc needs
-act_needs b l t c act.Close goes down may needs = cc needs
-act_needs b l t c (act.Write bytes) goes down may needs = cc needs
-act_needs b l t c (act.Wait n kind) goes down may needs = cc needs
-act_needs b l t c (act.Start message n need len) goes down may needs = cc needs
-
--- so each act leaves it so
-act_own : (b : Book) (l t c turn : ℕ) (a : LinkAct) → MayStand b (shown l t c a) → IsOwnTurn l turn b → IsOwnTurn l turn (entered b (shown l t c a))
-act_own b l t c turn a may h =
-    let added = act_adds b l t c a in
-    record {
-      goes = λ n. act_goes b l t c a n (h.goes n);
-      now = ap (λ k. k - 1) added.turns ∙ h.now;
-      runs = added.shut ∙ h.runs;
-      errors = over_kept b l t c a (list_any needs_link (entered b (shown l t c a)).errors) may
-          (λ e. elim (one_holds (list_any needs_link b.errors) (list_any needs_link (fault_of a)) (sym (list_any-append needs_link b.errors (fault_of a)) ∙ sym (ap (list_any needs_link) added.errors) ∙ e)) [
-            | inl old ↦ h.errors old
-            | inr new ↦ act_needs b l t c a h.goes h.runs may new
-          ]);
-    }
-
--- and all do
-pub acts_own : (b : Book) (l t c turn : ℕ) (acts : List LinkAct) → AllStand b (shown_each l t c acts) → IsOwnTurn l turn b → IsOwnTurn l turn (entered_each b (shown_each l t c acts))
-acts_own b l t c turn [] stands h = h
-acts_own b l t c turn (a ∷ acts) stands h = acts_own (entered b (shown l t c a)) l (t + length (timer_of l a)) (c + length (source_of l a)) turn acts stands.1 (act_own b l t c turn a stands.0 h)
-
 -- a link that had not ended ends in this turn, if it does
 pub acts_end : (b : Book) (l t c turn : ℕ) (acts : List LinkAct) → AllStand b (shown_each l t c acts) → b.turns - 1 ≡ turn → IsNewEnd turn (b.link l) → IsNewEnd turn ((entered_each b (shown_each l t c acts)).link l)
 acts_end b l t c turn [] stands now h = h
@@ -302,6 +168,11 @@ pub acts_stay : (b : Book) (l t c : ℕ) (end : End) (acts : List LinkAct) → A
 acts_stay b l t c end [] stands h = h
 acts_stay b l t c end (a ∷ acts) stands h = acts_stay (entered b (shown l t c a)) l (t + length (timer_of l a)) (c + length (source_of l a)) end acts stands.1 (old_kept b l t c end a stands.0 h)
 
+-- and no link has heard anything else
+pub acts_hear : (b : Book) (l m t c : ℕ) (n : News) (acts : List LinkAct) → AllStand b (shown_each l t c acts) → (b.link m).heard ≡ n → ((entered_each b (shown_each l t c acts)).link m).heard ≡ n
+acts_hear b l m t c n [] stands h = h
+acts_hear b l m t c n (a ∷ acts) stands h = acts_hear (entered b (shown l t c a)) l m (t + length (timer_of l a)) (c + length (source_of l a)) n acts stands.1 (heard_kept b l m t c n a stands.0 h)
+
 -- the cause for the next generation
 --
 -- where these come to the same, the book has a cause exactly where the session does
@@ -309,7 +180,7 @@ pub record IsJudged (b : Book) (over opened ended resp3 : Bool) (acts : List Lin
   pub errors_are : b.errors ≡ faults_of acts
   pub ended_is : is_over (current_link b) ≡ ended
   pub speaks : is_resp3 (info_in b.config).protocol ≡ resp3
-  pub needs : list_any needs_link b.errors ≡ true → is_over (current_link b) ≡ true
+  pub calm : is_over (current_link b) ≡ false → AreCalm b.errors
   pub failed_is : (end : End) → (current_link b).end ≡ Some end → is_some (failure_in (Some end)) ≡ not opened
   pub lost_is : (end : End) → (current_link b).end ≡ Some end → ((end.turn == (b.turns - 1)) && (is_fault end.why && end.served)) ≡ (not over && opened)
 
@@ -348,10 +219,9 @@ caused_is b over opened ended resp3 acts h = by_end (current_link b).end refl
     by_end : (x : Option End) → (current_link b).end ≡ x → goal ended
     by_end None is =
         let going : is_over (current_link b) ≡ false = ap is_some is in
-        let fine : list_any needs_link b.errors ≡ false = by_test (list_any needs_link b.errors) _ (λ t. absurd (not_both (is_over (current_link b)) going (h.needs t))) (λ f. f) in
         subst goal (sym going ∙ h.ended_is)
         ((λ i. (is_resp3 (info_in b.config).protocol && is_lost_in (b.turns - 1) (is i)) || list_any (is_cause (is i)) b.errors)
-        ∙ ap (λ x. x || list_any needs_link b.errors) (none_of (is_resp3 (info_in b.config).protocol)) ∙ fine)
+        ∙ ap (λ x. x || list_any needs_link b.errors) (none_of (is_resp3 (info_in b.config).protocol)) ∙ h.calm going)
     by_end (Some end) is =
         let over_is : is_over (current_link b) ≡ true = ap is_some is in
         let same : (e : RedisError) → is_cause (Some end) e ≡ machine.is_cause opened e = cause_same end opened (h.failed_is end is) in

@@ -168,7 +168,7 @@ none_rests b t h = and_false (has_generations b) (is_attempt (current_link b).en
     and_false false y e = refl
 
 -- nothing of this turn is a cause for the next generation
-none_caused : (b : Book) → (current_link b).end ≡ None → AreCalm b.errors → is_caused b ≡ false
+pub none_caused : (b : Book) → (current_link b).end ≡ None → AreCalm b.errors → is_caused b ≡ false
 none_caused b alive calm =
     let lost : is_lost b ≡ false = ap (λ (end : Option End). is_resp3 (info_in b.config).protocol && is_lost_in (b.turns - 1) end) alive ∙ and_none (is_resp3 (info_in b.config).protocol) in
     (λ i. lost i || list_any (is_cause (alive i)) b.errors) ∙ calm

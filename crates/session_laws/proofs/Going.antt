@@ -73,11 +73,14 @@ going_more trace a t stands may tied none renewed = record {
 shown_applied : (b : Book) (t : Inner) → Tied b t → NoneComes b → IsShown b → IsApplied b
 shown_applied b t h comes shown = record { shown = shown; rested = none_rests b t h; generated = comes.0; linked = comes.1; timed = h.numbers.timed }
 
--- the event has had its effect, while nothing is to be answered and the link goes on
+-- while nothing is to be answered and the link goes on, all that the event does is shown
+pub shown_up : (b : Book) (t : Inner) → Tied b t → t.pending ≡ [] → IsToldIn t → is_resting t.life ≡ false → has_ended t.life ≡ false → NoneEnds b → IsShown b
+shown_up b t h none told there up ended =
+    record { answered = none_owed b t h (λ rests. absurd (not_both (is_resting t.life) there rests)) none up; ended = ended; created = created_is b t h; pushed = notices_told b t h told.0; parted = ends_told b t h told.1; sourced = sources_asked b t h }
+
+-- so the event has had its effect
 pub applied_up : (b : Book) (t : Inner) → Tied b t → t.pending ≡ [] → IsToldIn t → is_resting t.life ≡ false → has_ended t.life ≡ false → NoneEnds b → IsApplied b
-applied_up b t h none told there up ended =
-    shown_applied b t h (live_comes b t h there up)
-    (record { answered = none_owed b t h (λ rests. absurd (not_both (is_resting t.life) there rests)) none up; ended = ended; created = created_is b t h; pushed = notices_told b t h told.0; parted = ends_told b t h told.1; sourced = sources_asked b t h })
+applied_up b t h none told there up ended = shown_applied b t h (live_comes b t h there up) (shown_up b t h none told there up ended)
 
 -- each setup has started that is to start, but where its link is held back, where it is so of the link of the session
 pub setups_started : (b : Book) (t : Inner) → Tied b t → ((link : LinkState) (greeting : Greeting) → t.life ≡ SettingUp link greeting → (setup_due (b.link t.link) ≡ None) ⊎ (is_held_back b (b.link t.link) ≡ true)) → SetupsAreStarted b
@@ -216,28 +219,34 @@ begun_up b t h r told ended renewed = record {
 }
 
 -- or none waits
-pub applied_over : (b : Book) (t : Inner) (life : Life) → line_of (link_in life) t.admitted t.waiting ≡ kept_ids t.admitted t.waiting → Tied b t → NoneComes b → t.pending ≡ [] → IsToldIn t → t.life ≡ life → kept_ids t.admitted t.waiting ≡ [] → NoneEnds b → IsApplied b
-applied_over b t life bare h comes none told over empty ended = shown_applied b t h comes (record {
+pub shown_over : (b : Book) (t : Inner) (life : Life) → line_of (link_in life) t.admitted t.waiting ≡ kept_ids t.admitted t.waiting → Tied b t → t.pending ≡ [] → IsToldIn t → t.life ≡ life → kept_ids t.admitted t.waiting ≡ [] → NoneEnds b → IsShown b
+shown_over b t life bare h none told over empty ended = record {
   answered = λ n o. absurd (none_open b t life n bare h none over empty o);
   ended = ended;
   created = created_is b t h;
   pushed = notices_told b t h told.0;
   parted = ends_told b t h told.1;
   sourced = sources_asked b t h;
-})
+}
+
+pub applied_over : (b : Book) (t : Inner) (life : Life) → line_of (link_in life) t.admitted t.waiting ≡ kept_ids t.admitted t.waiting → Tied b t → NoneComes b → t.pending ≡ [] → IsToldIn t → t.life ≡ life → kept_ids t.admitted t.waiting ≡ [] → NoneEnds b → IsApplied b
+applied_over b t life bare h comes none told over empty ended = shown_applied b t h comes (shown_over b t life bare h none told over empty ended)
 
 -- or there is no link, and where everything was shut down none waits
-pub applied_resting : (b : Book) (t : Inner) → Tied b t → NoneComes b → IsHushedIn t → t.pending ≡ [] → IsToldIn t → t.life ≡ Resting → t.admitted ≡ [] → NoneEnds b → IsApplied b
-applied_resting b t h comes hushed none told rests nobody ended = by_test t.shut _
-    (λ over. applied_over b t Resting refl h comes none told rests (λ i. kept_ids (nobody i) (hushed over (ap is_resting rests) i)) ended)
-    (λ awake. shown_applied b t h comes (record {
+pub shown_resting : (b : Book) (t : Inner) → Tied b t → IsHushedIn t → t.pending ≡ [] → IsToldIn t → t.life ≡ Resting → t.admitted ≡ [] → NoneEnds b → IsShown b
+shown_resting b t h hushed none told rests nobody ended = by_test t.shut _
+    (λ over. shown_over b t Resting refl h none told rests (λ i. kept_ids (nobody i) (hushed over (ap is_resting rests) i)) ended)
+    (λ awake. record {
       answered = none_owed b t h (λ r. awake) none (ap has_ended rests);
       ended = ended;
       created = created_is b t h;
       pushed = notices_told b t h told.0;
       parted = ends_told b t h told.1;
       sourced = sources_asked b t h;
-    }))
+    })
+
+pub applied_resting : (b : Book) (t : Inner) → Tied b t → NoneComes b → IsHushedIn t → t.pending ≡ [] → IsToldIn t → t.life ≡ Resting → t.admitted ≡ [] → NoneEnds b → IsApplied b
+applied_resting b t h comes hushed none told rests nobody ended = shown_applied b t h comes (shown_resting b t h hushed none told rests nobody ended)
 
 -- a line of one link that ends none
 pub none_ends_kept : (b : Book) (n : ℕ) (line : Line) → ((l : Ledger) → ending l ≡ None → ending (noted l line) ≡ None) → NoneEnds b → (m : ℕ) → ending (noted_each (b.link m) (if_mine (n == m) line)) ≡ None

@@ -64,6 +64,13 @@ pub mod Renews
 pub mod Rounds
 pub mod Passes
 pub mod Moved
+pub mod Reopen
+pub mod Generate
+pub mod Dial
+pub mod Past
+pub mod Regenerate
+pub mod Judge
+pub mod Return
 pub mod Write
 pub mod Waits
 pub mod Settled

@@ -12,12 +12,15 @@ use Rattle.driver_model.specs.Push.{is_disconnection}
 use Rattle.mux_conn.specs.declared.act.LinkAct.{LinkAct}
 use Rattle.mux_conn.specs.declared.act.LinkAct.TheVariants as act
 use Rattle.shared_session.specs.Turn.{shown}
-use Rattle.legal_trace.specs.Ledger.{Ledger, End, Ending, Start, by_shutdown, by_fault, by_opening, by_attempt, begins, offers, tells, sources, times, parts, ends, ending, ending_up, ending_unready, ending_asked, ending_alive, ending_by, ending_or_shutdown, error_in, is_answered, again_of, is_fault, is_over, is_ready, is_served, is_set_up, is_unreadable, lacks_credentials, lasting, noted, noted_each, setup_result, opening_error}
+use Rattle.legal_trace.specs.Ledger.{Ledger, End, Ending, Start, by_shutdown, by_fault, by_opening, by_attempt, begins, offers, tells, sources, times, parts, ends, ending, ending_up, ending_unready, ending_asked, ending_alive, ending_by, ending_or_shutdown, error_in, is_answered, again_of, is_fault, is_over, is_ready, is_served, is_set_up, is_unreadable, lacks_credentials, lasting, noted, setup_result, opening_error, authorized_by, awaits_credentials, bytes_came, dials, hears, is_renewal_open, is_repeating, lost_by, may_renew, refused_in, renewed_by, unrenewed_by, unrepeated_by, with_news}
 use Rattle.legal_trace.specs.Book.{Book, entered, if_mine, push_line}
 use Rattle.legal_trace.specs.Legal.{MayClose, MayStand}
+use Rattle.legal_trace.proofs.Came.{holds_bytes}
 use Rattle.legal_trace.proofs.Endings.{lasting_is_fault}
 use Rattle.legal_trace.proofs.Ledgers.{mine_keeps}
 use Rattle.legal_trace.proofs.Moves.{up_and_set}
+use Rattle.legal_trace.proofs.Plain.{same_some}
+use Rattle.session_laws.proofs.Unrepeated.{again_hear}
 
 -- everything was shut down
 abbrev pub is_shut_down : Ending → Bool
@@ -156,12 +159,38 @@ new_end b l turn may h = record {
   unwanted = h.unwanted;
   end = λ e is.
       let by = by_ending (b.link l) turn (ending (b.link l)) (ends_by (b.link l) h.heard) may.why may.ends h.unwanted in
-      let same = same_end _ e is in
-      subst (IsEndOf turn) same (record { turn_is = by.turn_is; well = by.well; served = by.served });
+      subst (IsEndOf turn) (same_some _ e is) (record { turn_is = by.turn_is; well = by.well; served = by.served });
 }
-  where
-    same_end : (x y : End) → Some x ≡ Some y → x ≡ y
-    same_end x y e = cc e
+
+-- what news make of the end of a link: they leave it, or its connect fails
+pub news_end : (l : Ledger) (turn : ℕ) (n : News) → ((with_news l turn n).end ≡ l.end) ⊎ ((e : RedisError) × ((with_news l turn n).end ≡ (refused_in l turn e).end))
+news_end l turn silence = inl refl
+news_end l turn connected = inl (chosen (λ (x : Ledger). x.end ≡ l.end) (is_over l) l (record l { up = true }) (λ t. refl) (λ f. refl))
+news_end l turn (refused f) = chosen (λ (x : Ledger). (x.end ≡ l.end) ⊎ ((e : RedisError) × (x.end ≡ (refused_in l turn e).end))) (dials l) (refused_in l turn (error.Io f)) l (λ t. inr (error.Io f, refl)) (λ d. inl refl)
+news_end l turn overdue = inl refl
+news_end l turn (took count) = inl (chosen (λ (x : Ledger). x.end ≡ l.end) l.up _ l (λ t. refl) (λ f. refl))
+news_end l turn (came piece) = inl (chosen (λ (x : Ledger). x.end ≡ l.end) l.up (bytes_came l piece) l (λ t. holds_bytes (λ (x : Ledger). x.end ≡ l.end) l piece (λ rest strange told more. refl)) (λ f. refl))
+news_end l turn (failed f) = inl refl
+news_end l turn (authorized c) = inl (chosen (λ (x : Ledger). x.end ≡ l.end) (awaits_credentials l) (authorized_by l c) l (λ t. refl) (λ f. refl))
+news_end l turn (denied text) = inl refl
+news_end l turn deserted = inl refl
+news_end l turn (renewed c) = inl (chosen (λ (x : Ledger). x.end ≡ l.end) (may_renew l) (renewed_by l c) l (λ t. refl) (λ f. refl))
+news_end l turn unrenewed = inl (chosen (λ (x : Ledger). x.end ≡ l.end) l.up (unrenewed_by l) l (λ t. refl) (λ f. refl))
+news_end l turn (late k) = inl (chosen (λ (x : Ledger). x.end ≡ l.end) (l.up && is_renewal_open l k) (lost_by l) l (λ t. refl) (λ f. refl))
+news_end l turn unrepeated = inl (chosen (λ (x : Ledger). x.end ≡ l.end) (is_repeating l) (unrepeated_by l) l (λ t. refl) (λ f. refl))
+news_end l turn dropped = inl refl
+news_end l turn shut = inl refl
+
+-- so a link that had not ended ends in this turn, if it does
+pub new_heard : (l : Ledger) (turn : ℕ) (n : News) → n ≢ shut → l.again.wanted ≡ false → l.end ≡ None → IsNewEnd turn (noted l (hears turn n))
+new_heard l turn n other unwanted alive = record {
+  heard = other;
+  unwanted = again_hear l turn n ∙ unwanted;
+  end = λ e is. elim (news_end l turn n) [
+    | inl same ↦ (let no : None ≡ Some e = sym (same ∙ alive) ∙ is in cc)
+    | inr new ↦ subst (IsEndOf turn) (same_some _ e (sym new.1 ∙ is)) (record { turn_is = refl; well = lasting_shut_down l.last (by_opening new.0); served = λ f. cc (sym (lasting_is_fault l.last (by_opening new.0)) ∙ f) })
+  ];
+}
 
 -- a link that had ended, in the same way
 pub record IsOldEnd (end : End) (l : Ledger) : Type 0 where
@@ -217,51 +246,43 @@ old_keeps end = record {
   parted = λ l h. record { down = h.down; was = h.was };
 }
 
--- that it is over
-over_keeps : (x : Bool) → KeepsLines (λ l. x ≡ true → is_over l ≡ true)
-over_keeps x = record {
-  begun = λ l s h. h;
-  offered = λ l bytes h. h;
-  told = λ l h. h;
-  sourced = λ l h. h;
-  timed = λ l h. h;
-  parted = λ l h. h;
-}
-
 -- a push tells, or parts
 push_keeps : (P : Ledger → Type 0) → KeepsLines P → (l : Ledger) (kind : PushKind) → P l → P (noted l (push_line kind))
 push_keeps P keeps l kind h = chosen (λ line. P (noted l line)) (is_disconnection kind) parts tells (λ t. keeps.parted l h) (λ f. keeps.told l h)
 
--- so each act keeps it, where its end does
-pub act_keeps : (P : Ledger → Type 0) → KeepsLines P → (b : Book) (l t c : ℕ) (a : LinkAct) → MayStand b (shown l t c a) → (MayClose b l → P (noted (b.link l) (ends (b.turns - 1)))) → P (b.link l) → P ((entered b (shown l t c a)).link l)
-act_keeps P keeps b l t c (act.Created e) may end h = h
-act_keeps P keeps b l t c (act.Round n) may end h = h
-act_keeps P keeps b l t c (act.Took n count) may end h = h
-act_keeps P keeps b l t c (act.Timer n ms) may end h = h
-act_keeps P keeps b l t c (act.RenewalTimer k ms) may end h = mine_keeps P (l == l) (b.link l) times (λ m. keeps.timed (b.link l) h) h
-act_keeps P keeps b l t c act.NeedCreds may end h = mine_keeps P (l == l) (b.link l) sources (λ m. keeps.sourced (b.link l) h) h
-act_keeps P keeps b l t c act.NeedRenewals may end h = mine_keeps P (l == l) (b.link l) sources (λ m. keeps.sourced (b.link l) h) h
-act_keeps P keeps b l t c (act.SetUp message need len) may end h = mine_keeps P (l == l) (b.link l) _ (λ m. keeps.begun (b.link l) _ h) h
-act_keeps P keeps b l t c (act.Renewed message need len) may end h = mine_keeps P (l == l) (b.link l) _ (λ m. keeps.begun (b.link l) _ h) h
-act_keeps P keeps b l t c (act.Push info) may end h = mine_keeps P (l == l) (b.link l) (push_line info.kind) (λ m. push_keeps P keeps (b.link l) info.kind h) h
-act_keeps P keeps b l t c (act.Message m) may end h = mine_keeps P (b.current == l) (b.link l) tells (λ m. keeps.told (b.link l) h) h
-act_keeps P keeps b l t c (act.Monitor v) may end h = mine_keeps P (b.current == l) (b.link l) tells (λ m. keeps.told (b.link l) h) h
-act_keeps P keeps b l t c (act.Watch message need len) may end h = mine_keeps P (l == l) (b.link l) _ (λ m. keeps.begun (b.link l) _ h) h
-act_keeps P keeps b l t c act.Close may end h = mine_keeps P (l == l) (b.link l) (ends (b.turns - 1)) (λ m. end may) h
-act_keeps P keeps b l t c (act.Write bytes) may end h = mine_keeps P (l == l) (b.link l) (offers bytes) (λ m. keeps.offered (b.link l) bytes h) h
-act_keeps P keeps b l t c (act.Wait n kind) may end h = h
-act_keeps P keeps b l t c (act.Start message n need len) may end h = mine_keeps P (l == l) (b.link l) _ (λ m. keeps.begun (b.link l) _ h) h
-act_keeps P keeps b l t c (act.Outcome n o) may end h = h
+-- so each act keeps it of any link, where the end of its own does
+pub act_keeps : (P : Ledger → Type 0) → KeepsLines P → (b : Book) (l m t c : ℕ) (a : LinkAct) → MayStand b (shown l t c a) → (MayClose b l → (l == m) ≡ true → P (noted (b.link m) (ends (b.turns - 1)))) → P (b.link m) → P ((entered b (shown l t c a)).link m)
+act_keeps P keeps b l m t c (act.Created e) may end h = h
+act_keeps P keeps b l m t c (act.Round n) may end h = h
+act_keeps P keeps b l m t c (act.Took n count) may end h = h
+act_keeps P keeps b l m t c (act.Timer n ms) may end h = h
+act_keeps P keeps b l m t c (act.RenewalTimer k ms) may end h = mine_keeps P (l == m) (b.link m) times (λ x. keeps.timed (b.link m) h) h
+act_keeps P keeps b l m t c act.NeedCreds may end h = mine_keeps P (l == m) (b.link m) sources (λ x. keeps.sourced (b.link m) h) h
+act_keeps P keeps b l m t c act.NeedRenewals may end h = mine_keeps P (l == m) (b.link m) sources (λ x. keeps.sourced (b.link m) h) h
+act_keeps P keeps b l m t c (act.SetUp message need len) may end h = mine_keeps P (l == m) (b.link m) _ (λ x. keeps.begun (b.link m) _ h) h
+act_keeps P keeps b l m t c (act.Renewed message need len) may end h = mine_keeps P (l == m) (b.link m) _ (λ x. keeps.begun (b.link m) _ h) h
+act_keeps P keeps b l m t c (act.Push info) may end h = mine_keeps P (l == m) (b.link m) (push_line info.kind) (λ x. push_keeps P keeps (b.link m) info.kind h) h
+act_keeps P keeps b l m t c (act.Message n) may end h = mine_keeps P (b.current == m) (b.link m) tells (λ x. keeps.told (b.link m) h) h
+act_keeps P keeps b l m t c (act.Monitor v) may end h = mine_keeps P (b.current == m) (b.link m) tells (λ x. keeps.told (b.link m) h) h
+act_keeps P keeps b l m t c (act.Watch message need len) may end h = mine_keeps P (l == m) (b.link m) _ (λ x. keeps.begun (b.link m) _ h) h
+act_keeps P keeps b l m t c act.Close may end h = mine_keeps P (l == m) (b.link m) (ends (b.turns - 1)) (λ mine. end may mine) h
+act_keeps P keeps b l m t c (act.Write bytes) may end h = mine_keeps P (l == m) (b.link m) (offers bytes) (λ x. keeps.offered (b.link m) bytes h) h
+act_keeps P keeps b l m t c (act.Wait n kind) may end h = h
+act_keeps P keeps b l m t c (act.Start message n need len) may end h = mine_keeps P (l == m) (b.link m) _ (λ x. keeps.begun (b.link m) _ h) h
+act_keeps P keeps b l m t c (act.Outcome n o) may end h = h
 
 -- a link that ends in this turn, if it does
 pub new_kept : (b : Book) (l t c turn : ℕ) (a : LinkAct) → b.turns - 1 ≡ turn → MayStand b (shown l t c a) → IsNewEnd turn (b.link l) → IsNewEnd turn ((entered b (shown l t c a)).link l)
 new_kept b l t c turn a now may h =
-    act_keeps (IsNewEnd turn) (new_keeps turn) b l t c a may (λ closes. subst (λ k. IsNewEnd turn (noted (b.link l) (ends k))) (sym now) (new_end b l turn closes h)) h
+    act_keeps (IsNewEnd turn) (new_keeps turn) b l l t c a may (λ closes mine. subst (λ k. IsNewEnd turn (noted (b.link l) (ends k))) (sym now) (new_end b l turn closes h)) h
 
 -- one that had ended
 pub old_kept : (b : Book) (l t c : ℕ) (end : End) (a : LinkAct) → MayStand b (shown l t c a) → IsOldEnd end (b.link l) → IsOldEnd end ((entered b (shown l t c a)).link l)
-old_kept b l t c end a may h = act_keeps (IsOldEnd end) (old_keeps end) b l t c a may (λ closes. absurd (old_end b l end closes h)) h
+old_kept b l t c end a may h = act_keeps (IsOldEnd end) (old_keeps end) b l l t c a may (λ closes mine. absurd (old_end b l end closes h)) h
 
--- and one that is over
-pub over_kept : (b : Book) (l t c : ℕ) (a : LinkAct) (x : Bool) → MayStand b (shown l t c a) → (x ≡ true → is_over (b.link l) ≡ true) → x ≡ true → is_over ((entered b (shown l t c a)).link l) ≡ true
-over_kept b l t c a x may h = act_keeps (λ m. x ≡ true → is_over m ≡ true) (over_keeps x) b l t c a may (λ closes t. refl) h
+-- what a link has heard
+heard_keeps : (n : News) → KeepsLines (λ l. l.heard ≡ n)
+heard_keeps n = record { begun = λ l s h. h; offered = λ l bytes h. h; told = λ l h. h; sourced = λ l h. h; timed = λ l h. h; parted = λ l h. h }
+
+pub heard_kept : (b : Book) (l m t c : ℕ) (n : News) (a : LinkAct) → MayStand b (shown l t c a) → (b.link m).heard ≡ n → ((entered b (shown l t c a)).link m).heard ≡ n
+heard_kept b l m t c n a may h = act_keeps (λ x. x.heard ≡ n) (heard_keeps n) b l m t c a may (λ closes mine. h) h
