@@ -1,10 +1,11 @@
 -- A submission that is handed in on a link that is ready, and which nothing holds back, has started.
-use Rattle.std.proofs.Common.{◌≡◌, ◌≢◌, ◌≤◌, ◌^◌, ◌+◌, nat_le, length-append, ℕ, ◌==◌, not, ◌||◌, Bool, true, false, List, [], ◌∷◌, ◌++◌, length, Option, Some, slice_get, if◌then◌else◌, refl, sym, ap, ◌∙◌, subst, arith, inl, inr}
+use Rattle.std.proofs.Common.{◌≡◌, ◌≢◌, ◌≤◌, ◌^◌, ◌+◌, nat_le, length-append, ℕ, ◌==◌, not, ◌||◌, Bool, true, false, List, [], ◌∷◌, ◌++◌, length, Option, Some, slice_get, if◌then◌else◌, refl, sym, ap, ◌∙◌, subst, arith, inl, inr, ◌&&◌, None}
 use Rattle.std.proofs.Math.Bool.{or-false}
-use Rattle.containers.proofs.Choices.{chosen, if_true, if_false, left_if, ne_test, not_both}
-use Rattle.containers.proofs.Places.{get_set_same, get_within}
+use Rattle.containers.proofs.Choices.{chosen, if_true, if_false, left_if, ne_test, not_both, both_right}
+use Rattle.containers.proofs.Places.{get_set_same, get_within, get_set_other}
 use Rattle.link_laws.proofs.Lists.{get_last}
 use Rattle.driver_model.specs.declared.config.Config.{Config}
+use Rattle.driver_model.specs.Config.{manager_of}
 use Rattle.driver_model.specs.declared.event.Event.{Event}
 use Rattle.driver_model.specs.declared.event.EventKind.TheVariants as event
 use Rattle.driver_model.specs.declared.event.Submission.{Submission}
@@ -18,6 +19,7 @@ use Rattle.link_core.specs.Link.{LinkState, Starting, enqueued, is_full, holds_b
 use Rattle.link_core.specs.Outbox.{can_offer}
 use Rattle.link_core.specs.Waiting.{without}
 use Rattle.mux_conn.specs.declared.connection.MultiplexedConnection.{MultiplexedConnection}
+use Rattle.mux_conn.specs.declared.act.LinkAct.TheVariants as act
 use Rattle.mux_conn.specs.declared.life.Greeting.{Greeting}
 use Rattle.mux_conn.specs.declared.life.Life.{Life}
 use Rattle.mux_conn.specs.declared.life.Life.TheVariants.{Resting, Dialing, Wanting, SettingUp, Ready, Ended}
@@ -26,15 +28,17 @@ use Rattle.mux_conn.specs.declared.request.Progress.TheVariants as progress
 use Rattle.mux_conn.specs.declared.request.Request.{Request}
 use Rattle.mux_conn.specs.declared.request.Waiting.{Waiting}
 use Rattle.mux_conn.specs.declared.renewal.Renewal.{Renewal}
-use Rattle.mux_conn.specs.Connection.{Work, with_link, has_no_permit, admits_none_at, admits_none, has_room, has_room_at, in_front, is_due}
-use Rattle.mux_conn.specs.Requests.{if_there, is_waiting, is_waiting_at, name_at, permits_at, answered, waiting_of, asked}
-use Rattle.mux_conn.specs.Passes.{started, message_of, placed_at, told_at_place, seated, moved_up_all, put_behind, seated_or_behind, permits_taken, holding, let_in, admitted_at, admitted, still_waiting, still_admitted, admitted_each, admitted_all, passed}
+use Rattle.mux_conn.specs.Connection.{Work, with_link, has_no_permit, admits_none_at, admits_none, has_room, has_room_at, in_front, is_due, acted, is_ready}
+use Rattle.mux_conn.specs.Requests.{if_there, is_waiting, is_waiting_at, name_at, permits_at, answered, waiting_of, asked, is_unbegun, is_unbegun_at, progressed}
+use Rattle.mux_conn.specs.Passes.{started, message_of, placed_at, told_at_place, seated, moved_up_all, put_behind, seated_or_behind, permits_taken, holding, let_in, admitted_at, admitted, still_waiting, still_admitted, admitted_each, admitted_all, passed, moved_all, round_begun, rounds_of, rounds_begun}
 use Rattle.mux_conn.specs.Turn.{written_at, written, flushed}
 use Rattle.shared_session.specs.declared.core_state.Core.{Core}
 use Rattle.shared_session.specs.Turn.{Turning, pending, work_of, heard, refused_with, counted, moved_on, numbered, next_turn}
 use Rattle.shared_session.specs.Replay.{state_after}
+use Rattle.shared_session.proofs.Plain.{plain_turn}
 use Rattle.cancel_laws.specs.Cancels.{handed_in_at, IsFree, HasStarted}
 use Rattle.cancel_laws.proofs.Kept.{let_in_conn}
+use Rattle.cancel_laws.proofs.Requests.{other_test}
 use Rattle.cancel_laws.proofs.Rest.{IsThrough, IsStartedOn, IsIdle, conn_shown, renewed_stays, started_stays, none_moved_up, waits_conn}
 use Rattle.cancel_laws.proofs.Ready.{IsReady}
 use Rattle.cancel_laws.proofs.Cancels.{state_split, ready_after}
@@ -135,10 +139,10 @@ room_alone r l none room =
     let same : in_front r + length l.queue ≡ length l.queue = omega (arith, count) in
     ap (λ (k : ℕ). not (nat_le l.size k)) same ∙ ap not room
 
--- a request that waits is let in, and takes its place
-admitted_starts : (w : Work) (q : Waiting) (l : LinkState) (x : Request) → slice_get w.conn.requests q.number ≡ Some x → w.conn.life ≡ Ready l → l.queue ≡ [] → holds_back l ≡ false → is_full l ≡ false → is_due w.conn.renewal ≡ false → q.awaited ≡ true
-    → IsStarted q.number (admitted_at w q w.conn.life).conn
-admitted_starts w q l x known up none goes room alone awaited =
+-- a request that is let in takes its place
+let_in_starts : (w : Work) (q : Waiting) (l : LinkState) (x : Request) → slice_get w.conn.requests q.number ≡ Some x → w.conn.life ≡ Ready l → l.queue ≡ [] → holds_back l ≡ false → is_full l ≡ false → is_due w.conn.renewal ≡ false → q.awaited ≡ true
+    → IsStarted q.number (seated_or_behind (let_in w q) q).conn
+let_in_starts w q l x known up none goes room alone awaited =
     let p = q.number in
     let count = permits_taken w.conn.limit w.conn.free q.shape in
     let d = let_in w q in
@@ -147,8 +151,46 @@ admitted_starts w q l x known up none goes room alone awaited =
     let life : d.conn.life ≡ Ready l = ap (λ (c : MultiplexedConnection). c.life) same ∙ up in
     let there : slice_get d.conn.requests p ≡ Some y = ap (λ (c : MultiplexedConnection). slice_get c.requests p) same ∙ get_set_same w.conn.requests p y (get_within w.conn.requests p x known) in
     let fits : has_room d.conn ≡ true = ap has_room same ∙ ap (λ (life : Life). has_room_at life (in_front w.conn.renewal)) up ∙ room_alone w.conn.renewal l alone room in
-    let sits : IsStarted p (seated_or_behind d q).conn = if_true (λ (z : Work). IsStarted p z.conn) (has_room d.conn) (seated d q) (put_behind d q) fits (place_starts d q l y there life none goes awaited) in
-    subst (λ (life : Life). IsStarted p (admitted_at w q life).conn) (sym up) sits
+    if_true (λ (z : Work). IsStarted p z.conn) (has_room d.conn) (seated d q) (put_behind d q) fits (place_starts d q l y there life none goes awaited)
+
+-- and one that waits is let in, once its round has begun
+admitted_starts : (w : Work) (q : Waiting) (l : LinkState) (x : Request) → slice_get w.conn.requests q.number ≡ Some x → w.conn.life ≡ Ready l → l.queue ≡ [] → holds_back l ≡ false → is_full l ≡ false → is_due w.conn.renewal ≡ false → q.awaited ≡ true
+    → IsStarted q.number (admitted_at w q w.conn.life).conn
+admitted_starts w q l x known up none goes room alone awaited =
+    let p = q.number in
+    let r = w.conn.requests in
+    let y : Request = record { name = name_at r p; progress = progress.Begun; permits = permits_at r p } in
+    let v = acted (progressed w p progress.Begun) (act.Round (name_at r p)) in
+    let begins : IsStarted p (seated_or_behind (let_in (round_begun w p) q) q).conn =
+    chosen (λ (u : Work). IsStarted p (seated_or_behind (let_in u q) q).conn) (w.conn.rounds && is_unbegun_at r p) v w
+    (λ t. let_in_starts v q l y (get_set_same r p y (get_within r p x known)) up none goes room alone awaited)
+    (λ f. let_in_starts w q l x known up none goes room alone awaited) in
+    subst (λ (life : Life). IsStarted p (admitted_at w q life).conn) (sym up) begins
+
+-- a round that begins leaves a message that has started
+round_started : (p : ℕ) (w : Work) (m : ℕ) → IsStarted p w.conn → IsStarted p (round_begun w m).conn
+round_started p w m h =
+    let r = w.conn.requests in
+    let past : is_unbegun_at r p ≡ false = ap (if_there is_unbegun) h.known ∙ ap is_unbegun h.placed in
+    chosen (λ (x : Work). IsStarted p x.conn) (w.conn.rounds && is_unbegun_at r m) (acted (progressed w m progress.Begun) (act.Round (name_at r m))) w
+    (λ t. record {
+      request = h.request;
+      known = get_set_other r m p (record { name = name_at r m; progress = progress.Begun; permits = permits_at r m }) (other_test is_unbegun r m p (both_right w.conn.rounds (is_unbegun_at r m) t) past) ∙ h.known;
+      placed = h.placed;
+      link = h.link;
+      up = h.up;
+      gone = h.gone;
+    })
+    (λ f. h)
+
+-- so do more of them
+rounds_started : (p : ℕ) (w : Work) (ms : List ℕ) → IsStarted p w.conn → IsStarted p (rounds_of w ms).conn
+rounds_started p w [] h = h
+rounds_started p w (m ∷ ms) h = rounds_started p (round_begun w m) ms (round_started p w m h)
+
+-- and those of all that go on waiting
+all_rounds_started : (p : ℕ) (w : Work) → IsStarted p w.conn → IsStarted p (rounds_begun w).conn
+all_rounds_started p w h = chosen (λ (x : Work). IsStarted p x.conn) (w.conn.rounds && is_ready w.conn.life) (rounds_of w w.conn.fresh) w (λ t. rounds_started p w w.conn.fresh h) (λ f. h)
 
 -- so has one that comes where nobody waits
 asked_starts : (c : MultiplexedConnection) (name : ℕ) (packed : List ℕ) (shape : Shape) (timeout : Option ℕ) (l : LinkState) → IsIdle c → c.life ≡ Ready l → holds_back l ≡ false → is_full l ≡ false → has_no_permit c.limit c.free ≡ false
@@ -170,9 +212,10 @@ asked_starts c name packed shape timeout l idle up goes room permit =
     let last : IsStarted p (still_waiting (admitted v q) []).conn = record { request = alone.request; known = alone.known; placed = alone.placed; link = alone.link; up = alone.up; gone = alone.gone } in
     let one : IsStarted p (admitted_each v (q ∷ [])).conn = if_false (λ (z : Work). IsStarted p z.conn) (admits_none c) (still_waiting v (q ∷ [])) (still_waiting (admitted v q) []) moves last in
     let all : IsStarted p (admitted_all w).conn = subst (λ (qs : List Waiting). IsStarted p (admitted_each v (qs ++ q ∷ [])).conn) (sym (m.waiting moves)) one in
-    subst (λ (z : Work). IsStarted p z.conn)
+    all_rounds_started p (moved_all w)
+    (subst (λ (z : Work). IsStarted p z.conn)
     (sym (ap (λ (z : Work). admitted_all (moved_up_all (started z))) (renewed_stays w m.seated.through.renewed)
-    ∙ ap (λ (z : Work). admitted_all (moved_up_all z)) (started_stays w c.life refl m.seated.through.queue) ∙ ap admitted_all (none_moved_up (still_admitted w []) c.admitted m.seated.admitted))) all
+    ∙ ap (λ (z : Work). admitted_all (moved_up_all z)) (started_stays w c.life refl m.seated.through.queue) ∙ ap admitted_all (none_moved_up (still_admitted w []) c.admitted m.seated.admitted))) all)
   where
     queue_empty : (l : LinkState) → IsThrough l → holds_back l ≡ false → l.queue ≡ []
     queue_empty l (inl e) f = e
@@ -184,7 +227,6 @@ asked_starts c name packed shape timeout l idle up goes room permit =
 
 -- and its submission
 turn_starts : (c : Core) (s : Submission) → packed_bytes s ≢ [] → is_reply_awaited s ≡ true → IsReady c → IsFree c → lacks_resp3 c.single.connection.hears c.single.connection.info.protocol s ≡ false → HasStarted (length c.table) (next_turn c (event.Submit s)).core
-unfolding next_turn
 turn_starts c s some awaited ready free spoken =
     let n = length c.table in
     let conn = c.single.connection in
@@ -200,14 +242,15 @@ turn_starts c s some awaited ready free spoken =
     has_started n (numbered (moved_on (asks true))).core (pending p) (get_last c.table (Some (pending p))) few (all_flushed p (passed (work_of (asks true))) sits) in
     let own : HasStarted n (numbered (moved_on (asks (is_reply_awaited s)))).core = subst (λ (b : Bool). HasStarted n (numbered (moved_on (asks b))).core) (sym awaited) done in
     let packed = if length (packed_bytes s) == 0 then refused_with t error.EmptyCommand else asks (is_reply_awaited s) in
-    if_false (λ (x : Turning). HasStarted n (numbered (moved_on x)).core) (c.shut || false) _ (if lacks_resp3 conn.hears conn.info.protocol s then refused_with t error.Resp3Required else packed) (or-false c.shut ∙ free.unshut)
+    subst (λ (u : Turning). HasStarted n u.core) (sym (plain_turn c (event.Submit s) ready.plain))
+    (if_false (λ (x : Turning). HasStarted n (numbered (moved_on x)).core) (c.shut || false) _ (if lacks_resp3 conn.hears conn.info.protocol s then refused_with t error.Resp3Required else packed) (or-false c.shut ∙ free.unshut)
     (if_false (λ (x : Turning). HasStarted n (numbered (moved_on x)).core) (lacks_resp3 conn.hears conn.info.protocol s) _ packed spoken
-    (if_false (λ (x : Turning). HasStarted n (numbered (moved_on x)).core) (length (packed_bytes s) == 0) _ (asks (is_reply_awaited s)) (no_bytes (packed_bytes s) some) own))
+    (if_false (λ (x : Turning). HasStarted n (numbered (moved_on x)).core) (length (packed_bytes s) == 0) _ (asks (is_reply_awaited s)) (no_bytes (packed_bytes s) some) own)))
 
--- whatever came before
-pub free_started : (config : Config) (word draw : ℕ) (before : List Event) (s : Submission) → packed_bytes s ≢ [] → is_reply_awaited s ≡ true → IsFree (state_after config word before)
+-- whatever came before, in a session that doesn't come back
+pub free_started : (config : Config) (word draw : ℕ) (before : List Event) (s : Submission) → manager_of config ≡ None → packed_bytes s ≢ [] → is_reply_awaited s ≡ true → IsFree (state_after config word before)
     → (let c = (state_after config word before).single.connection in lacks_resp3 c.hears c.info.protocol s ≡ false)
     → HasStarted (length (state_after config word before).table) (state_after config word (before ++ handed_in_at draw s ∷ []))
-free_started config word draw before s some awaited free spoken =
+free_started config word draw before s plain some awaited free spoken =
     let c = state_after config word before in
-    subst (HasStarted (length c.table)) (sym (state_split config word before (handed_in_at draw s ∷ []))) (turn_starts c s some awaited (ready_after config word before) free spoken)
+    subst (HasStarted (length c.table)) (sym (state_split config word before (handed_in_at draw s ∷ []))) (turn_starts c s some awaited (ready_after config word before plain) free spoken)

@@ -13,10 +13,11 @@ use Rattle.mux_conn.specs.Effects.{cancelled_in}
 use Rattle.mux_conn.specs.Passes.{message_of}
 use Rattle.mux_conn.specs.Renewals.{renewal_id}
 use Rattle.cancel_laws.specs.ButFor.{hushed_life}
-use Rattle.cancel_laws.proofs.Requests.{names, names_stay, names_push, progress_count, past_set, test_other, test_push, other_test}
+use Rattle.cancel_laws.proofs.Requests.{names, names_stay, names_push, progress_count, past_set, test_other, test_push, other_test, unbegun_waits}
 use Rattle.cancel_laws.proofs.Names.{IsOwn, own_push}
 use Rattle.cancel_laws.proofs.Links.{NoneOf, NoneWanted, none_push, none_without, none_started, none_came, quiet_behind, quiet_starts, quiet_came, quiet_silenced, quiet_stays}
-use Rattle.cancel_laws.proofs.Kept.{IsKept, IsKeptThere, There, kept_there, CanAsk}
+use Rattle.cancel_laws.proofs.Kept.{IsKept, IsKeptThere, There, kept_there}
+use Rattle.cancel_laws.proofs.KeptTurns.{CanAsk}
 
 -- the link has been set up, and nobody awaits message p in its queue; or there is none
 abbrev pub NoneQueued : ℕ → Life → Type 0
@@ -88,6 +89,14 @@ gone_there n p = record {
   go_on = λ r l k greeting few h. absurd h.none;
   repeat = λ r l k q greeting next few h. absurd h.none;
   ready = λ r l k greeting few h. absurd h.none;
+  round = λ r life q t h. record {
+    there = within_kept r p q progress.Begun (permits_at r q) h.there;
+    own = own_kept n p r q progress.Begun (permits_at r q) h.own;
+    apart = h.apart;
+    past = test_other is_waiting r q p progress.Begun (permits_at r q) (other_test is_waiting r q p (unbegun_waits r q t) h.past) ∙ h.past;
+    seated = past_set is_admitted r q p progress.Begun (permits_at r q) refl h.seated;
+    none = h.none;
+  };
   admit = λ r life q count t h. record {
     there = within_kept r p q progress.Admitted count h.there;
     own = own_kept n p r q progress.Admitted count h.own;
@@ -160,6 +169,7 @@ away_kept n p = record {
   go_on = λ lim r l k greeting ms xs few h. absurd h.gone.none;
   repeat = λ lim r l k q greeting next ms xs few h. absurd h.gone.none;
   ready = λ lim r l k greeting ms xs few h. absurd h.gone.none;
+  round = λ lim r life ms xs q t h. record { gone = (gone_there n p).round r life q t h.gone; unmoved = h.unmoved };
   admit = λ lim r life ms xs q count t h. record { gone = (gone_there n p).admit r life q count t h.gone; unmoved = h.unmoved };
   note = λ lim r life ms xs q t h. record { gone = h.gone; unmoved = none_is_push p ms q (other_test is_admitted r q p t h.gone.seated) h.unmoved };
   place = λ lim r l ms xs q t h. record { gone = (gone_there n p).place r l q t h.gone; unmoved = h.unmoved };
@@ -209,6 +219,7 @@ hushed_there n p = record {
   go_on = λ r l k greeting few h. absurd h.gone.none;
   repeat = λ r l k q greeting next few h. absurd h.gone.none;
   ready = λ r l k greeting few h. absurd h.gone.none;
+  round = λ r life q t h. record { gone = (gone_there n p).round r life q t h.gone; quiet = h.quiet };
   admit = λ r life q count t h. record { gone = (gone_there n p).admit r life q count t h.gone; quiet = h.quiet };
   place = λ r l q t h. record { gone = (gone_there n p).place r l q t h.gone; quiet = h.quiet };
   start = λ r l h. record { gone = (gone_there n p).start r l h.gone; quiet = quiet_starts p (record { link = l; out = [] }) l.queue h.gone.none h.quiet };

@@ -1,6 +1,6 @@
 -- What each part of a turn keeps: a fact of the limit of permits, of the requests, of the link's life, of those that were moved, and of what the turn has shown.
-use Rattle.std.proofs.Common.{◌≡◌, ℕ, ◌+◌, ◌≤◌, ◌==◌, ◌&&◌, ◌||◌, true, false, Bool, List, [], ◌∷◌, ◌++◌, length, Option, Some, None, slice_get, if◌then◌else◌, refl, ap, ◌∙◌, arith, nat_le}
-use Rattle.containers.proofs.Choices.{chosen}
+use Rattle.std.proofs.Common.{ℕ, true, false, Bool, List, [], length, Option, Some, None, refl, ap, arith, nat_le, ◌≡◌, ◌+◌, ◌≤◌, ◌==◌, ◌&&◌, ◌||◌, ◌∷◌, ◌++◌, ◌∙◌, if◌then◌else◌}
+use Rattle.containers.proofs.Choices.{chosen, both_right}
 use Rattle.redis_error.specs.declared.redis_error.RedisError.TheVariants as error
 use Rattle.redis_error.specs.declared.fault_kind.FaultKind.TheVariants as kinds
 use Rattle.redis_error.specs.declared.fault_kind.FaultKind.{FaultKind}
@@ -9,20 +9,13 @@ use Rattle.resp_value.specs.declared.value.Value.TheVariants.{Nil}
 use Rattle.credentials.specs.Credentials.{Credentials}
 use Rattle.connection_setup.specs.declared.judgement.SetupResult.{SetupResult}
 use Rattle.connection_setup.specs.declared.judgement.SetupResult.TheVariants as result
-use Rattle.driver_model.specs.declared.action.Owner.TheVariants as owner
-use Rattle.driver_model.specs.declared.action.Purpose.{Purpose}
-use Rattle.driver_model.specs.declared.action.Purpose.TheVariants as purpose
 use Rattle.driver_model.specs.declared.action.WaitKind.{WaitKind}
-use Rattle.driver_model.specs.declared.event.EventKind.{EventKind}
-use Rattle.driver_model.specs.declared.event.EventKind.TheVariants as event
-use Rattle.driver_model.specs.declared.event.Submission.{Submission}
 use Rattle.driver_model.specs.declared.news.LinkFault.{LinkFault}
 use Rattle.driver_model.specs.declared.news.LinkFault.TheVariants as fault
 use Rattle.driver_model.specs.declared.outcome.Outcome.{Outcome}
 use Rattle.driver_model.specs.declared.outcome.Outcome.TheVariants as outcome
-use Rattle.driver_model.specs.News.{News, news_of, silence, connected, took, failed, shut, refused, overdue, authorized, denied, deserted, renewed, unrenewed, late, unrepeated, dropped}
+use Rattle.driver_model.specs.News.{News, silence, connected, took, failed, shut, refused, overdue, authorized, denied, deserted, renewed, unrenewed, late, unrepeated, dropped}
 use Rattle.driver_model.specs.News.{came}
-use Rattle.driver_model.specs.Request.{packed_bytes, lacks_resp3}
 use Rattle.driver_model.specs.Setup.{says_nothing}
 use Rattle.driver_model.specs.Shape.{outcome_of}
 use Rattle.link_core.specs.declared.message.Queued.{Queued}
@@ -36,22 +29,18 @@ use Rattle.mux_conn.specs.declared.connection.MultiplexedConnection.{Multiplexed
 use Rattle.mux_conn.specs.declared.life.Greeting.{Greeting}
 use Rattle.mux_conn.specs.declared.life.Life.{Life}
 use Rattle.mux_conn.specs.declared.life.Life.TheVariants.{Resting, Dialing, Wanting, SettingUp, Ready, Ended}
-use Rattle.mux_conn.specs.declared.request.Pending.{Pending}
 use Rattle.mux_conn.specs.declared.request.Progress.TheVariants as progress
 use Rattle.mux_conn.specs.declared.request.Request.{Request}
 use Rattle.mux_conn.specs.declared.request.Waiting.{Waiting}
 use Rattle.mux_conn.specs.Connection.{Work, acted, opened_on, at_life, with_link, with_setup, with_wanting, has_room, admits_none, is_ready, is_due}
-use Rattle.mux_conn.specs.Requests.{is_open_at, is_waiting_at, is_admitted_at, name_at, with_permits, at_progress, answered}
-use Rattle.mux_conn.specs.Effects.{afresh, creation_told, given_up, new_link, settled_one, settled_each, failed_each, nobody_waits, waiting_failed, ended, opening_failed, authorized_at, come_up, comes_to_want, connected_at, unauthorized_at, with_credentials, refused_at, overdue_at, taken_at, failed_at, broken_at, read_to, read_at, shut_at, all_fresh, made_ready, steps_of, greeting_queued, greeting_error, greeted, greeted_by, is_unreadable, dropped_at, dropped_by, sets_up, judged_by, set_up_by, answered_setup, applied, cancelled_in, left, timed_out, all_answered, behind_first, cut_short, heard_on, notice_act, noticed, noticed_each, parted, told_each}
+use Rattle.mux_conn.specs.Requests.{is_open_at, is_waiting_at, is_admitted_at, name_at, with_permits, at_progress, answered, is_unbegun_at, permits_at, progressed}
+use Rattle.mux_conn.specs.Effects.{afresh, creation_told, given_up, new_link, settled_one, settled_each, failed_each, nobody_waits, waiting_failed, ended, opening_failed, authorized_at, come_up, comes_to_want, connected_at, unauthorized_at, with_credentials, refused_at, overdue_at, taken_at, failed_at, broken_at, read_to, read_at, shut_at, all_fresh, made_ready, steps_of, greeting_queued, greeting_error, greeted, greeted_by, is_unreadable, dropped_at, dropped_by, sets_up, judged_by, set_up_by, answered_setup, applied, cancelled_in, all_answered, behind_first, cut_short, heard_on, notice_act, noticed, noticed_each, parted, told_each}
 use Rattle.mux_conn.specs.Renewals as renewals
 use Rattle.mux_conn.specs.Renewals.{renewing, expecting, takes_more, late_for, is_unanswered, renewal_id, renewal_queued, asked_next, renewal_act, renewal_timed, renewal_asked, renewal_told, renewal_moved}
-use Rattle.mux_conn.specs.Passes.{shown_each, greeting_act, greeted_each, started_at, started, message_of, placed_at, told_at_place, seated, still_admitted, moved_up, moved_up_each, moved_up_all, put_behind, seated_or_behind, permits_taken, holding, took_shown, took as holds, timer_asked, let_in, admitted_at, admitted, still_waiting, admitted_each, passed}
+use Rattle.mux_conn.specs.Passes.{shown_each, greeting_act, greeted_each, started_at, started, message_of, placed_at, told_at_place, seated, still_admitted, moved_up, moved_up_each, moved_up_all, put_behind, seated_or_behind, permits_taken, holding, took_shown, took as holds, timer_asked, let_in, admitted_at, admitted, still_waiting, admitted_each, passed, round_begun, rounds_of, rounds_begun, moved_all}
 use Rattle.mux_conn.specs.Turn.{written_at, written, moved_wait, fresh_wait, wait_shown, moved_each_shown, moved_shown, fresh_each_shown, flushed}
-use Rattle.shared_session.specs.declared.core_state.Core.{Core}
-use Rattle.shared_session.specs.Turn.{Turning, work_of, heard, counted, submitted, left_by, late_by, fired_by, requested, effect, next_turn}
 use Rattle.cancel_laws.proofs.Counts.{count_on, count_started, count_came}
-use Rattle.cancel_laws.proofs.Requests.{admitted_now}
-use Rattle.driver_model.specs.Kind.{has_timeouts}
+use Rattle.cancel_laws.proofs.Requests.{admitted_now, begun_waits}
 use Rattle.driver_model.specs.Hearing.{felt, hears_messages, hears_pushes, is_watching}
 use Rattle.driver_model.specs.declared.hearing.Hearing.{Hearing}
 use Rattle.driver_model.specs.declared.hearing.Hearing.TheVariants as hearing
@@ -64,6 +53,7 @@ use Rattle.resp_value.specs.declared.push_kind.PushKind.TheVariants.{Disconnecti
 -- what an act shows, if it is not the outcome of submission n
 abbrev pub other_act : ℕ → LinkAct → List LinkAct
 other_act n (act.Created e) = act.Created e ∷ []
+other_act n (act.Round m) = act.Round m ∷ []
 other_act n (act.Took m count) = act.Took m count ∷ []
 other_act n (act.Timer m ms) = act.Timer m ms ∷ []
 other_act n (act.RenewalTimer k ms) = act.RenewalTimer k ms ∷ []
@@ -97,6 +87,7 @@ pub record IsKept (P : Option ℕ → List Request → Life → List ℕ → Lis
   pub go_on : (lim : Option ℕ) (r : List Request) (l k : LinkState) (greeting : Greeting) (ms : List ℕ) (xs : List LinkAct) → count_on k ≤ count_on l → P lim r (SettingUp l greeting) ms xs → P lim r (SettingUp k greeting) ms xs
   pub repeat : (lim : Option ℕ) (r : List Request) (l k : LinkState) (q : Queued) (greeting next : Greeting) (ms : List ℕ) (xs : List LinkAct) → count_on k + 1 ≤ count_on l → P lim r (SettingUp l greeting) ms xs → P lim r (SettingUp (enqueued k q) next) ms xs
   pub ready : (lim : Option ℕ) (r : List Request) (l k : LinkState) (greeting : Greeting) (ms : List ℕ) (xs : List LinkAct) → count_on k + 1 ≤ count_on l → P lim r (SettingUp l greeting) ms xs → P lim r (Ready k) ms xs
+  pub round : (lim : Option ℕ) (r : List Request) (life : Life) (ms : List ℕ) (xs : List LinkAct) (q : ℕ) → is_unbegun_at r q ≡ true → P lim r life ms xs → P lim (at_progress r q progress.Begun) life ms xs
   pub admit : (lim : Option ℕ) (r : List Request) (life : Life) (ms : List ℕ) (xs : List LinkAct) (q count : ℕ) → is_waiting_at r q ≡ true → P lim r life ms xs → P lim (with_permits r q progress.Admitted count) life ms xs
   pub note : (lim : Option ℕ) (r : List Request) (life : Life) (ms : List ℕ) (xs : List LinkAct) (q : ℕ) → is_admitted_at r q ≡ true → P lim r life ms xs → P lim r life (ms ++ q ∷ []) xs
   pub place : (lim : Option ℕ) (r : List Request) (l : LinkState) (ms : List ℕ) (xs : List LinkAct) (q : Waiting) → is_admitted_at r q.number ≡ true → P lim r (Ready l) ms xs → P lim (at_progress r q.number progress.Placed) (Ready (enqueued l (message_of q))) ms xs
@@ -121,6 +112,7 @@ pub record IsKeptThere (P : List Request → Life → Type 0) : Type 0 where
   pub go_on : (r : List Request) (l k : LinkState) (greeting : Greeting) → count_on k ≤ count_on l → P r (SettingUp l greeting) → P r (SettingUp k greeting)
   pub repeat : (r : List Request) (l k : LinkState) (q : Queued) (greeting next : Greeting) → count_on k + 1 ≤ count_on l → P r (SettingUp l greeting) → P r (SettingUp (enqueued k q) next)
   pub ready : (r : List Request) (l k : LinkState) (greeting : Greeting) → count_on k + 1 ≤ count_on l → P r (SettingUp l greeting) → P r (Ready k)
+  pub round : (r : List Request) (life : Life) (q : ℕ) → is_unbegun_at r q ≡ true → P r life → P (at_progress r q progress.Begun) life
   pub admit : (r : List Request) (life : Life) (q count : ℕ) → is_waiting_at r q ≡ true → P r life → P (with_permits r q progress.Admitted count) life
   pub place : (r : List Request) (l : LinkState) (q : Waiting) → is_admitted_at r q.number ≡ true → P r (Ready l) → P (at_progress r q.number progress.Placed) (Ready (enqueued l (message_of q)))
   pub start : (r : List Request) (l : LinkState) → P r (Ready l) → P r (Ready (started_all (record { link = l; out = [] })).link)
@@ -148,6 +140,7 @@ kept_there k = record {
   go_on = λ lim r l m greeting ms xs few h. k.go_on r l m greeting few h;
   repeat = λ lim r l m q greeting next ms xs few h. k.repeat r l m q greeting next few h;
   ready = λ lim r l m greeting ms xs few h. k.ready r l m greeting few h;
+  round = λ lim r life ms xs q t h. k.round r life q t h;
   admit = λ lim r life ms xs q count t h. k.admit r life q count t h;
   note = λ lim r life ms xs q t h. h;
   place = λ lim r l ms xs q t h. k.place r l q t h;
@@ -179,6 +172,7 @@ unlimited_kept = record {
   go_on = λ lim r l k greeting ms xs few h. h;
   repeat = λ lim r l k q greeting next ms xs few h. h;
   ready = λ lim r l k greeting ms xs few h. h;
+  round = λ lim r life ms xs q t h. h;
   admit = λ lim r life ms xs q count t h. h;
   note = λ lim r life ms xs q t h. h;
   place = λ lim r l ms xs q t h. h;
@@ -461,7 +455,7 @@ late_for_kept : {P : Option ℕ → List Request → Life → List ℕ → List 
 late_for_kept {P = P} k w n h = chosen (λ (x : MultiplexedConnection). At P (record w { conn = x })) (is_unanswered w.conn.renewal n) _ w.conn (λ t. h) (λ f. h)
 
 -- all news
-applied_kept : {P : Option ℕ → List Request → Life → List ℕ → List LinkAct → Type 0} → IsKept P → (w : Work) (what : News) → At P w → At P (applied w what)
+pub applied_kept : {P : Option ℕ → List Request → Life → List ℕ → List LinkAct → Type 0} → IsKept P → (w : Work) (what : News) → At P w → At P (applied w what)
 applied_kept k w silence h = h
 applied_kept k w connected h = connected_kept k w w.conn.life h h
 applied_kept k w (refused f) h = refused_kept k w f w.conn.life h
@@ -592,6 +586,33 @@ seated_or_behind_kept : {P : Option ℕ → List Request → Life → List ℕ �
 seated_or_behind_kept {P = P} k w q t h =
     chosen (At P) (has_room w.conn) (seated w q) (put_behind w q) (λ u. seated_kept k w q t h) (λ f. k.note w.conn.limit w.conn.requests w.conn.life w.conn.moved w.acts q.number t h)
 
+-- rounds
+--
+-- one begins
+pub round_kept : {P : Option ℕ → List Request → Life → List ℕ → List LinkAct → Type 0} → IsKept P → (w : Work) (q : ℕ) → At P w → At P (round_begun w q)
+round_kept {P = P} k w q h =
+    let c = w.conn in
+    let d = progressed w q progress.Begun in
+    let a = act.Round (name_at c.requests q) in
+    chosen (At P) (c.rounds && is_unbegun_at c.requests q) (acted d a) w
+    (λ t. k.show c.limit d.conn.requests c.life c.moved w.acts a (λ n. refl) (k.round c.limit c.requests c.life c.moved w.acts q (both_right c.rounds (is_unbegun_at c.requests q) t) h))
+    (λ f. h)
+
+-- who waits waits on then
+pub round_waits : (w : Work) (q : ℕ) → is_waiting_at w.conn.requests q ≡ true → is_waiting_at (round_begun w q).conn.requests q ≡ true
+round_waits w q t =
+    chosen (λ (x : Work). is_waiting_at x.conn.requests q ≡ true) (w.conn.rounds && is_unbegun_at w.conn.requests q) (acted (progressed w q progress.Begun) (act.Round (name_at w.conn.requests q))) w
+    (λ u. begun_waits w.conn.requests q (permits_at w.conn.requests q) t) (λ f. t)
+
+-- more of them begin
+rounds_of_kept : {P : Option ℕ → List Request → Life → List ℕ → List LinkAct → Type 0} → IsKept P → (w : Work) (qs : List ℕ) → At P w → At P (rounds_of w qs)
+rounds_of_kept k w [] h = h
+rounds_of_kept k w (q ∷ qs) h = rounds_of_kept k (round_begun w q) qs (round_kept k w q h)
+
+-- and those of all that go on waiting
+rounds_kept : {P : Option ℕ → List Request → Life → List ℕ → List LinkAct → Type 0} → IsKept P → (w : Work) → At P w → At P (rounds_begun w)
+rounds_kept {P = P} k w h = chosen (At P) (w.conn.rounds && is_ready w.conn.life) (rounds_of w w.conn.fresh) w (λ t. rounds_of_kept k w w.conn.fresh h) (λ f. h)
+
 -- permits
 --
 -- what is shown of permits changes no connection
@@ -636,7 +657,9 @@ let_in_kept k w q t h =
 -- a request that waits for the connection, or for a permit, is moved
 admitted_at_kept : {P : Option ℕ → List Request → Life → List ℕ → List LinkAct → Type 0} → IsKept P → (w : Work) (q : Waiting) (life : Life) → is_waiting_at w.conn.requests q.number ≡ true → At P w → At P (admitted_at w q life)
 admitted_at_kept k w q (Ready l) t h =
-    seated_or_behind_kept k (let_in w q) q (let_in_admitted w q t) (let_in_kept k w q t h)
+    let v = round_begun w q.number in
+    let u = round_waits w q.number t in
+    seated_or_behind_kept k (let_in v q) q (let_in_admitted v q u) (let_in_kept k v q u (round_kept k w q.number h))
 admitted_at_kept k w q (Ended e) t h = answered_kept k w q.number (outcome.Fault e) h
 admitted_at_kept k w q Resting t h = h
 admitted_at_kept k w q Dialing t h = h
@@ -654,11 +677,15 @@ admitted_each_kept k w [] h = h
 admitted_each_kept {P = P} k w (q ∷ qs) h = chosen (At P) (admits_none w.conn) _ _ (λ t. h) (λ f. admitted_each_kept k (admitted w q) qs (admitted_kept k w q h))
 
 -- what a turn moves
-pub passed_kept : {P : Option ℕ → List Request → Life → List ℕ → List LinkAct → Type 0} → IsKept P → (w : Work) → At P w → At P (passed w)
-passed_kept k w h =
+pub moved_all_kept : {P : Option ℕ → List Request → Life → List ℕ → List LinkAct → Type 0} → IsKept P → (w : Work) → At P w → At P (moved_all w)
+moved_all_kept k w h =
     let v = renewals.renewed w in
     let d = moved_up_all (started v) in
     admitted_each_kept k (still_waiting d []) d.conn.waiting (moved_up_all_kept k (started v) (started_kept k v (renewed_kept k w h)))
+
+-- and the rounds that begin behind that
+pub passed_kept : {P : Option ℕ → List Request → Life → List ℕ → List LinkAct → Type 0} → IsKept P → (w : Work) → At P w → At P (passed w)
+passed_kept k w h = rounds_kept k (moved_all w) (moved_all_kept k w h)
 
 -- what a turn ends with
 --
@@ -705,93 +732,3 @@ pub flushed_kept : {P : Option ℕ → List Request → Life → List ℕ → Li
 flushed_kept k w h =
     let d = moved_shown (written w) in
     fresh_each_shown_kept k (record d { conn = record d.conn { fresh = [] } }) d.conn.fresh (moved_shown_kept k (written w) (written_kept k w h))
-
--- whole turns
---
--- a fact that the next submission, of that number, keeps too
-pub record CanAsk (P : Option ℕ → List Request → Life → List ℕ → List LinkAct → Type 0) (m : ℕ) : Type 0 where
-  pub ask : (lim : Option ℕ) (r : List Request) (life : Life) (ms : List ℕ) (xs : List LinkAct) → P lim r life ms xs → P lim (r ++ record { name = m; progress = progress.Waiting; permits = 0 } ∷ []) life ms xs
-  pub refuse : (lim : Option ℕ) (r : List Request) (life : Life) (ms : List ℕ) (xs : List LinkAct) (o : Outcome) → P lim r life ms xs → P lim r life ms (xs ++ act.Outcome m o ∷ [])
-
--- the connection hears its link's news
-pub heard_kept : {P : Option ℕ → List Request → Life → List ℕ → List LinkAct → Type 0} → IsKept P → (t : Turning) (kind : EventKind) → At P (work_of t) → At P (work_of (heard t kind))
-heard_kept k t kind h = applied_kept k (work_of t) (news_of t.core.timers t.core.sources t.core.single.link kind) h
-
--- a request is left
-left_kept : {P : Option ℕ → List Request → Life → List ℕ → List LinkAct → Type 0} → IsKept P → (c : MultiplexedConnection) (xs : List LinkAct) (q : ℕ) → P c.limit c.requests c.life c.moved xs → P (left c q).limit (left c q).requests (left c q).life (left c q).moved xs
-left_kept {P = P} k c xs q h = chosen (λ (x : MultiplexedConnection). P x.limit x.requests x.life x.moved xs) (is_open_at c.requests q) _ c (λ t. k.cancel c.limit c.requests c.life c.moved xs q t h) (λ f. h)
-
--- a submission is left
-pub left_by_kept : {P : Option ℕ → List Request → Life → List ℕ → List LinkAct → Type 0} → IsKept P → (t : Turning) (who : Option (Option Pending)) → At P (work_of t) → At P (work_of (left_by t who))
-left_by_kept k t None h = h
-left_by_kept k t (Some None) h = h
-left_by_kept k t (Some (Some p)) h = left_kept k t.core.single.connection t.acts p.number h
-
--- the time of a request is over
-timed_out_kept : {P : Option ℕ → List Request → Life → List ℕ → List LinkAct → Type 0} → IsKept P → (w : Work) (q : ℕ) → At P w → At P (timed_out w q)
-timed_out_kept {P = P} k w q h =
-    let d = at_life w (cancelled_in w.conn.life q) in
-    answered_kept k (if is_open_at w.conn.requests q then d else w) q (outcome.Fault (error.Io kinds.TimedOut))
-    (chosen (At P) (is_open_at w.conn.requests q) d w (λ t. k.hush w.conn.limit w.conn.requests w.conn.life w.conn.moved w.acts q h) (λ f. h))
-
--- and that of a submission
-late_kept : {P : Option ℕ → List Request → Life → List ℕ → List LinkAct → Type 0} → IsKept P → (t : Turning) (who : Option (Option Pending)) → At P (work_of t) → At P (work_of (late_by t who))
-late_kept k t None h = h
-late_kept k t (Some None) h = h
-late_kept k t (Some (Some p)) h = timed_out_kept k (work_of t) p.number h
-
--- a timer fires
-pub fired_kept : {P : Option ℕ → List Request → Life → List ℕ → List LinkAct → Type 0} → IsKept P → (t : Turning) (what : Option Purpose) → At P (work_of t) → At P (work_of (fired_by t what))
-fired_kept k t None h = h
-fired_kept k t (Some (purpose.Connect l)) h = h
-fired_kept k t (Some (purpose.Response owner.Setup)) h = h
-fired_kept k t (Some (purpose.Response owner.Auth)) h = h
-fired_kept k t (Some (purpose.Response owner.Resub)) h = h
-fired_kept k t (Some (purpose.Response owner.Monitor)) h = h
-fired_kept k t (Some (purpose.Renewal l number)) h = h
-fired_kept k t (Some (purpose.Backoff g)) h = h
-fired_kept k t (Some (purpose.Resubscription l)) h = h
-fired_kept k t (Some (purpose.Response (owner.Try n round))) h = late_kept k t (slice_get t.core.table n) h
-
--- a submission is handed in
-submitted_kept : {P : Option ℕ → List Request → Life → List ℕ → List LinkAct → Type 0} → (t : Turning) → CanAsk P (length t.core.table) → (s : Submission) → At P (work_of t) → At P (work_of (submitted t s))
-submitted_kept {P = P} t k s h =
-    let c = t.core.single.connection in
-    chosen (λ (x : Turning). At P (work_of x)) t.core.shut _ _ (λ u. k.refuse c.limit c.requests c.life c.moved t.acts (outcome.Fault error.Closed) h)
-    (λ f. chosen (λ (x : Turning). At P (work_of x)) (lacks_resp3 c.hears c.info.protocol s) _ _ (λ u. k.refuse c.limit c.requests c.life c.moved t.acts (outcome.Fault error.Resp3Required) h)
-    (λ d. chosen (λ (x : Turning). At P (work_of x)) (length (packed_bytes s) == 0) _ _ (λ u. k.refuse c.limit c.requests c.life c.moved t.acts (outcome.Fault error.EmptyCommand) h) (λ g. k.ask c.limit c.requests c.life c.moved t.acts h)))
-
--- what an event is to the submissions
-requested_kept : {P : Option ℕ → List Request → Life → List ℕ → List LinkAct → Type 0} → IsKept P → (t : Turning) → CanAsk P (length t.core.table) → (kind : EventKind) → At P (work_of t) → At P (work_of (requested t kind))
-requested_kept k t a (event.Submit s) h = submitted_kept t a s h
-requested_kept k t a (event.Cancel n) h = left_by_kept k t (slice_get t.core.table n) h
-requested_kept k t a (event.Connected l) h = h
-requested_kept k t a (event.Refused l f) h = h
-requested_kept k t a (event.Fired n) h = fired_kept k t (slice_get t.core.timers n) h
-requested_kept {P = P} k t a (event.Timeout ms) h =
-    chosen (λ (c : Core). P c.single.connection.limit c.single.connection.requests c.single.connection.life c.single.connection.moved t.acts) (has_timeouts t.core.kind) (record t.core { timeout = ms }) t.core (λ y. h) (λ y. h)
-requested_kept k t a (event.Creds c auth) h = h
-requested_kept k t a (event.CredsError c text) h = h
-requested_kept k t a (event.CredsEnd c) h = h
-requested_kept k t a (event.Wrote l count) h = h
-requested_kept k t a (event.Bytes l piece) h = h
-requested_kept k t a (event.Ended l) h = h
-requested_kept k t a (event.ReadFault l kind) h = h
-requested_kept k t a (event.WriteFault l kind) h = h
-requested_kept k t a event.Shutdown h = h
-requested_kept k t a event.DropStream h = h
-
--- the event's own effect
-pub effect_kept : {P : Option ℕ → List Request → Life → List ℕ → List LinkAct → Type 0} → IsKept P → (t : Turning) → CanAsk P (length t.core.table) → (kind : EventKind) → At P (work_of t) → At P (work_of (effect t kind))
-effect_kept k t a kind h = requested_kept k (heard t kind) a kind (heard_kept k t kind h)
-
--- the fact between turns
-abbrev pub AtCore : (Option ℕ → List Request → Life → List ℕ → List LinkAct → Type 0) → Core → Type 0
-AtCore P c = P c.single.connection.limit c.single.connection.requests c.single.connection.life c.single.connection.moved []
-
--- a whole turn
-pub turn_kept : {P : Option ℕ → List Request → Life → List ℕ → List LinkAct → Type 0} → IsKept P → (c : Core) → CanAsk P (length c.table) → (kind : EventKind) → AtCore P c → At P (work_of (next_turn c kind))
-unfolding next_turn
-turn_kept k c a kind h =
-    let w = work_of (effect (counted c) kind) in
-    flushed_kept k (passed w) (passed_kept k w (effect_kept k (counted c) a kind h))

@@ -1,5 +1,5 @@
 -- What is true of a session after each history.
-use Rattle.std.proofs.Common.{◌≡◌, ◌≢◌, ℕ, ◌==◌, List, [], ◌∷◌, ◌++◌, length, Option, Some, None, slice_get, refl, sym, ◌∙◌, subst, arith}
+use Rattle.std.proofs.Common.{◌≡◌, ◌≢◌, ℕ, ◌==◌, List, [], ◌∷◌, ◌++◌, length, Option, Some, None, slice_get, refl, sym, ◌∙◌, subst, arith, false, is_some}
 use Rattle.containers.proofs.Choices.{chosen}
 use Rattle.driver_model.specs.declared.action.Owner.TheVariants as owner
 use Rattle.driver_model.specs.declared.action.Purpose.{Purpose}
@@ -8,7 +8,7 @@ use Rattle.driver_model.specs.declared.config.Config.{Config}
 use Rattle.driver_model.specs.declared.event.Event.{Event}
 use Rattle.driver_model.specs.declared.event.EventKind.{EventKind}
 use Rattle.driver_model.specs.declared.event.EventKind.TheVariants as event
-use Rattle.driver_model.specs.Config.{permits}
+use Rattle.driver_model.specs.Config.{permits, manager_of}
 use Rattle.driver_model.specs.Kind.{has_timeouts}
 use Rattle.driver_model.specs.Request.{packed_bytes, lacks_resp3}
 use Rattle.mux_conn.specs.declared.life.Life.{Life}
@@ -20,10 +20,13 @@ use Rattle.mux_conn.specs.Passes.{passed}
 use Rattle.mux_conn.specs.Renewals.{renewal_id}
 use Rattle.shared_session.specs.declared.core_state.Core.{Core}
 use Rattle.shared_session.specs.Turn.{Turning, work_of, heard, left_by, late_by, fired_by, requested, effect, counted, moved_on, next_turn}
-use Rattle.shared_session.specs.Replay.{opening_core, run_on, state_after}
+use Rattle.shared_session.specs.Replay.{opening_core, run_on, state_after, single_core}
+use Rattle.shared_session.proofs.Plain.{plain_after, plain_opening, plain_turn}
+use Rattle.shared_session.proofs.Stays.{turn_plain}
 use Rattle.cancel_laws.proofs.Requests.{names, names_stay, names_push, names_count}
 use Rattle.cancel_laws.proofs.Names.{AreNamed, named_refused, named_asked}
-use Rattle.cancel_laws.proofs.Kept.{IsKept, IsKeptThere, There, kept_there, AtCore, Unlimited, heard_kept, left_by_kept, fired_kept, passed_kept, flushed_kept, turn_kept}
+use Rattle.cancel_laws.proofs.Kept.{IsKept, IsKeptThere, There, kept_there, Unlimited, passed_kept, flushed_kept}
+use Rattle.cancel_laws.proofs.KeptTurns.{AtCore, heard_kept, left_by_kept, fired_kept, turn_kept}
 use Rattle.cancel_laws.proofs.Once.{IsOnce, once_kept, once_asks}
 use Rattle.cancel_laws.proofs.Rest.{IsIdle, moves_idle}
 use Rattle.cancel_laws.proofs.Turns.{turn_unlimited}
@@ -46,6 +49,7 @@ names_there ns = record {
   go_on = λ r l k greeting few h. h;
   repeat = λ r l k q greeting next few h. h;
   ready = λ r l k greeting few h. h;
+  round = λ r life q t h. names_stay r q progress.Begun (permits_at r q) ∙ h;
   admit = λ r life q count t h. names_stay r q progress.Admitted count ∙ h;
   place = λ r l q t h. names_stay r q.number progress.Placed (permits_at r q.number) ∙ h;
   start = λ r l h. h;
@@ -139,21 +143,23 @@ named_moved_on t h =
 
 -- where a history leads
 --
--- nothing is left to do, and requests have one message at most and names of their own
+-- nothing is left to do, requests have one message at most and names of their own, and the session doesn't come back
 pub record IsReady (c : Core) : Type 0 where
   pub idle : IsIdle c.single.connection
   pub once : (p : ℕ) → renewal_id ≢ p → IsOnce p c.single.connection.requests c.single.connection.life
   pub named : AreNamed c.table (names c.single.connection.requests)
+  pub plain : is_some c.manager ≡ false
 
 -- a turn
 ready_turn : (c : Core) (kind : EventKind) → IsReady c → IsReady (next_turn c kind).core
-unfolding next_turn
 ready_turn c kind h =
     let t = effect (counted c) kind in
+    let made = sym (plain_turn c kind h.plain) in
     record {
-      idle = moves_idle (work_of t);
-      once = λ p apart. turn_kept (once_kept p apart) c (once_asks p (length c.table)) kind (h.once p apart);
-      named = named_moved_on t (named_requested (heard (counted c) kind) kind (named_heard (counted c) kind h.named));
+      idle = subst (λ (u : Turning). IsIdle u.core.single.connection) made (moves_idle (work_of t));
+      once = λ p apart. turn_kept (once_kept p apart) c h.plain (once_asks p (length c.table)) kind (h.once p apart);
+      named = subst NamedIn made (named_moved_on t (named_requested (heard (counted c) kind) kind (named_heard (counted c) kind h.named)));
+      plain = turn_plain c kind ∙ h.plain;
     }
 
 -- and more of them
@@ -162,8 +168,8 @@ ready_on c [] h = h
 ready_on c (e ∷ es) h = ready_on (next_turn c e.kind).core es (ready_turn c e.kind h)
 
 -- the opening
-pub opening_ready : (config : Config) (word : ℕ) → IsReady (opening_core config word)
-opening_ready config word = record {
+single_ready : (config : Config) → IsReady (single_core config)
+single_ready config = record {
   idle = record {
     written = record { moved = record { seated = record { through = record { queue = tt; renewed = λ t. cc }; admitted = λ t. refl }; waiting = λ f. refl }; offered = tt };
     calm = refl;
@@ -171,16 +177,20 @@ opening_ready config word = record {
   };
   once = λ p apart. record { within = omega arith; alone = tt };
   named = record { to = λ n p e. cc; back = λ q n e. cc; fewer = omega arith };
+  plain = refl;
 }
+
+pub opening_ready : (config : Config) (word : ℕ) → manager_of config ≡ None → IsReady (opening_core config word)
+opening_ready config word none = subst IsReady (sym (plain_opening config word none)) (single_ready config)
 
 -- where permits aren't counted
 --
 -- they never are
-unlimited_on : (c : Core) (es : List Event) → AtCore Unlimited c → AtCore Unlimited (run_on c es)
-unlimited_on c [] none = none
-unlimited_on c (e ∷ es) none = unlimited_on (next_turn c e.kind).core es (turn_unlimited c e.kind none)
+unlimited_on : (c : Core) (es : List Event) → is_some c.manager ≡ false → AtCore Unlimited c → AtCore Unlimited (run_on c es)
+unlimited_on c [] plain none = none
+unlimited_on c (e ∷ es) plain none = unlimited_on (next_turn c e.kind).core es (turn_plain c e.kind ∙ plain) (turn_unlimited c e.kind plain none)
 
 -- after any history of such a configuration
-pub unlimited_after : (config : Config) (word : ℕ) (es : List Event) → permits config ≡ None → AtCore Unlimited (state_after config word es)
+pub unlimited_after : (config : Config) (word : ℕ) (es : List Event) → manager_of config ≡ None → permits config ≡ None → AtCore Unlimited (state_after config word es)
 unfolding state_after
-unlimited_after config word es none = unlimited_on (opening_core config word) es none
+unlimited_after config word es stays none = unlimited_on (opening_core config word) es (plain_after config word [] stays) (subst (AtCore Unlimited) (sym (plain_opening config word stays)) none)

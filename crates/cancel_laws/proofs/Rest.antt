@@ -14,14 +14,15 @@ use Rattle.mux_conn.specs.declared.connection.MultiplexedConnection.{Multiplexed
 use Rattle.mux_conn.specs.declared.life.Greeting.{Greeting}
 use Rattle.mux_conn.specs.declared.life.Life.{Life}
 use Rattle.mux_conn.specs.declared.life.Life.TheVariants.{Resting, Dialing, Wanting, SettingUp, Ready, Ended}
+use Rattle.mux_conn.specs.declared.request.Progress.TheVariants as progress
 use Rattle.mux_conn.specs.declared.request.Waiting.{Waiting}
 use Rattle.mux_conn.specs.declared.renewal.Renewal.{Renewal}
 use Rattle.mux_conn.specs.Connection.{Work, acted, at_life, with_link, with_setup, has_no_permit, admits_none_at, admits_none, has_room, has_room_at, in_front, is_due, is_held_back, is_ready, are_some}
 use Rattle.mux_conn.specs.Renewals as renewals
 use Rattle.mux_conn.specs.Renewals.{renewing, asked_next, renewal_timed, renewal_asked, renewal_told, renewal_moved}
-use Rattle.mux_conn.specs.Requests.{is_open_at, is_waiting_at, is_admitted_at, name_at, closed, answered}
+use Rattle.mux_conn.specs.Requests.{is_open_at, is_waiting_at, is_admitted_at, name_at, closed, answered, is_unbegun_at, progressed}
 use Rattle.mux_conn.specs.Effects.{cancelled_in, left}
-use Rattle.mux_conn.specs.Passes.{shown_each, starts_with, greeting_act, greeted_each, greets_with, started_at, started, placed_at, told_at_place, seated, still_admitted, moved_up, moved_up_each, moved_up_all, put_behind, seated_or_behind, let_in, admitted_at, admitted, still_waiting, admitted_each, admitted_all, passed}
+use Rattle.mux_conn.specs.Passes.{shown_each, starts_with, greeting_act, greeted_each, greets_with, started_at, started, placed_at, told_at_place, seated, still_admitted, moved_up, moved_up_each, moved_up_all, put_behind, seated_or_behind, let_in, admitted_at, admitted, still_waiting, admitted_each, admitted_all, passed, moved_all, round_begun, rounds_of, rounds_begun}
 use Rattle.mux_conn.specs.Turn.{written_at, written, moved_wait, fresh_wait, wait_shown, moved_each_shown, moved_shown, fresh_each_shown, fresh_shown, waits_shown, flushed}
 use Rattle.cancel_laws.proofs.Links.{none_leaves}
 use Rattle.cancel_laws.proofs.Kept.{let_in_conn}
@@ -248,9 +249,18 @@ one_or_behind w q h =
     (λ t. record { through = one_seated w q h.through.renewed; admitted = λ u. admitted_seated w q ∙ h.admitted t })
     (λ f. record { through = h.through; admitted = λ t. absurd (not_both (has_room w.conn) f t) })
 
+-- a round that begins leaves that
+round_seated : (w : Work) (q : ℕ) → IsSeated w.conn → IsSeated (round_begun w q).conn
+round_seated w q h =
+    chosen (λ (x : Work). IsSeated x.conn) (w.conn.rounds && is_unbegun_at w.conn.requests q) (acted (progressed w q progress.Begun) (act.Round (name_at w.conn.requests q))) w
+    (λ t. record { through = h.through; admitted = h.admitted }) (λ f. h)
+
 -- where it may take one
 one_admitted_at : (w : Work) (q : Waiting) (life : Life) → IsSeated w.conn → IsSeated (admitted_at w q life).conn
-one_admitted_at w q (Ready l) h = one_or_behind (let_in w q) q (subst IsSeated (sym (let_in_conn w q)) (record { through = h.through; admitted = h.admitted }))
+one_admitted_at w q (Ready l) h =
+    let v = round_begun w q.number in
+    let g = round_seated w q.number h in
+    one_or_behind (let_in v q) q (subst IsSeated (sym (let_in_conn v q)) (record { through = g.through; admitted = g.admitted }))
 one_admitted_at w q (Ended e) h =
     chosen (λ (x : Work). IsSeated x.conn) (is_open_at w.conn.requests q.number) _ w (λ t. record { through = h.through; admitted = h.admitted }) (λ f. h)
 one_admitted_at w q (Wanting l) h = h
@@ -270,14 +280,28 @@ each_admitted w (q ∷ qs) h =
     (λ t. record { seated = record { through = h.through; admitted = h.admitted }; waiting = λ f. absurd (not_both (admits_none w.conn) f t) })
     (λ f. each_admitted (admitted w q) qs (one_admitted w q h))
 
+-- rounds that begin leave that
+rounds_moved : (w : Work) (qs : List ℕ) → IsMoved w.conn → IsMoved (rounds_of w qs).conn
+rounds_moved w [] h = h
+rounds_moved w (q ∷ qs) h =
+    rounds_moved (round_begun w q) qs
+    (chosen (λ (x : Work). IsMoved x.conn) (w.conn.rounds && is_unbegun_at w.conn.requests q) (acted (progressed w q progress.Begun) (act.Round (name_at w.conn.requests q))) w
+    (λ t. record { seated = record { through = h.seated.through; admitted = h.seated.admitted }; waiting = h.waiting }) (λ f. h))
+
 -- what a turn moves
-all_moved : (w : Work) → IsMoved (passed w).conn
-all_moved w =
+moved_before : (w : Work) → IsMoved (moved_all w).conn
+moved_before w =
     let v = renewals.renewed w in
     let d = started v in
     let e = moved_up_all d in
     let s = each_moved_up (still_admitted d []) d.conn.admitted (all_started v (all_renewed w)) in
     each_admitted (still_waiting e []) e.conn.waiting (record { through = s.through; admitted = s.admitted })
+
+-- and the rounds that begin behind that
+all_moved : (w : Work) → IsMoved (passed w).conn
+all_moved w =
+    let v = moved_all w in
+    chosen (λ (x : Work). IsMoved x.conn) (v.conn.rounds && is_ready v.conn.life) (rounds_of v v.conn.fresh) v (λ t. rounds_moved v v.conn.fresh (moved_before w)) (λ f. moved_before w)
 
 -- where all is offered, there is nothing more to offer
 offered_none : (b : Bool) → (not b && b) ≡ false
@@ -420,12 +444,18 @@ renewed_stays w h =
     (λ t. let k = h t in ap (λ (x : Work). renewal_moved x w.conn.life r.waiting) (taken_if r.pending w _ k.0) ∙ moved_stays_held w w.conn.life r.waiting k.1)
     (λ f. refl)
 
+-- no round begins where no wait is to be shown
+none_begin : (w : Work) → w.conn.fresh ≡ [] → rounds_begun w ≡ w
+none_begin w e = chosen (λ (x : Work). x ≡ w) (w.conn.rounds && is_ready w.conn.life) (rounds_of w w.conn.fresh) w (λ t. ap (rounds_of w) e) (λ f. refl)
+
 -- so nothing is moved
-passed_stays : (w : Work) → IsMoved w.conn → passed w ≡ w
-passed_stays w h =
+passed_stays : (w : Work) → IsMoved w.conn → w.conn.fresh ≡ [] → passed w ≡ w
+passed_stays w h none =
+    let moves : moved_all w ≡ w =
     ap (λ (x : Work). admitted_all (moved_up_all (started x))) (renewed_stays w h.seated.through.renewed)
     ∙ ap (λ (x : Work). admitted_all (moved_up_all x)) (started_stays w w.conn.life refl h.seated.through.queue)
-    ∙ ap admitted_all (none_moved_up (still_admitted w []) w.conn.admitted h.seated.admitted) ∙ none_admitted (still_waiting w []) w.conn.waiting h.waiting
+    ∙ ap admitted_all (none_moved_up (still_admitted w []) w.conn.admitted h.seated.admitted) ∙ none_admitted (still_waiting w []) w.conn.waiting h.waiting in
+    ap rounds_begun moves ∙ none_begin w none
 
 -- no bytes are offered
 written_stays : (w : Work) (life : Life) → HasOffered life → written_at w life ≡ w
@@ -449,7 +479,7 @@ fresh_stays w e =
 -- nothing happens
 pub nothing_moves : (w : Work) → IsIdle w.conn → flushed (passed w) ≡ w
 nothing_moves w h =
-    ap flushed (passed_stays w h.written.moved) ∙ ap waits_shown (written_stays w w.conn.life h.written.offered) ∙ ap fresh_shown (moved_stays w h.calm) ∙ fresh_stays w h.fresh
+    ap flushed (passed_stays w h.written.moved h.fresh) ∙ ap waits_shown (written_stays w w.conn.life h.written.offered) ∙ ap fresh_shown (moved_stays w h.calm) ∙ fresh_stays w h.fresh
 
 -- a cancel of a message that isn't in the queue leaves nothing to do, where permits aren't counted
 pub left_idle : (c : MultiplexedConnection) (p : ℕ) → c.limit ≡ None → NoneQueued p c.life → IsIdle c → IsIdle (left c p)

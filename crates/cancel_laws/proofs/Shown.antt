@@ -1,5 +1,5 @@
 -- What turns show, but for one submission's outcomes.
-use Rattle.std.proofs.Common.{◌≡◌, ℕ, ◌+◌, ◌<◌, ◌==◌, Bool, true, false, List, [], ◌∷◌, ◌++◌, length, if◌then◌else◌, refl, sym, ap, ◌∙◌, append_assoc, arith}
+use Rattle.std.proofs.Common.{◌≡◌, ℕ, ◌+◌, ◌<◌, ◌==◌, Bool, true, false, List, [], ◌∷◌, ◌++◌, length, if◌then◌else◌, refl, sym, ap, ◌∙◌, append_assoc, arith, is_some}
 use Rattle.driver_model.specs.declared.action.Action.{Action}
 use Rattle.driver_model.specs.declared.action.Action.TheVariants as action
 use Rattle.driver_model.specs.declared.action.Cause.TheVariants as cause
@@ -10,11 +10,14 @@ use Rattle.mux_conn.specs.declared.act.LinkAct.{LinkAct}
 use Rattle.mux_conn.specs.declared.act.LinkAct.TheVariants as act
 use Rattle.shared_session.specs.declared.core_state.Core.{Core}
 use Rattle.shared_session.specs.Turn.{Turning, work_of, source_of, timer_of, shown, shown_each, actions_of, next_turn}
+use Rattle.shared_session.proofs.Plain.{plain_effects}
+use Rattle.shared_session.proofs.Stays.{turn_plain}
 use Rattle.shared_session.specs.Replay.{run_on, turns_on}
 use Rattle.cancel_laws.specs.ButFor.{unnumbered, all_unnumbered, shown_of, but_for}
-use Rattle.cancel_laws.proofs.Kept.{At, AtCore, turn_kept}
+use Rattle.cancel_laws.proofs.Kept.{At}
+use Rattle.cancel_laws.proofs.KeptTurns.{AtCore, turn_kept}
 use Rattle.cancel_laws.proofs.Bare.{other_acts}
-use Rattle.cancel_laws.proofs.Turns.{above, more_after, AreAlike, turns_same, alike_turn}
+use Rattle.cancel_laws.proofs.Turns.{above, more_after, AreAlike, turns_same, alike_turn, plain_too}
 use Rattle.cancel_laws.proofs.Silent.{IsSilent, silent_kept, silent_asks}
 
 -- lists
@@ -44,6 +47,7 @@ outcome_shown n l count c m o xs false h = ap (λ (ys : List Action). action.Out
 but_for_shown : (n l count c : ℕ) (xs : List LinkAct) → but_for n (shown_each l count c xs) ≡ shown_each l count c (other_acts n xs)
 but_for_shown n l count c [] = refl
 but_for_shown n l count c (act.Created e ∷ xs) = ap (λ (ys : List Action). action.Created e ∷ ys) (but_for_shown n l (count + 0) (c + 0) xs)
+but_for_shown n l count c (act.Round m ∷ xs) = ap (λ (ys : List Action). shown l count c (act.Round m) ∷ ys) (but_for_shown n l (count + 0) (c + 0) xs)
 but_for_shown n l count c (act.Took m permits ∷ xs) = ap (λ (ys : List Action). shown l count c (act.Took m permits) ∷ ys) (but_for_shown n l (count + 0) (c + 0) xs)
 but_for_shown n l count c (act.Timer m ms ∷ xs) = ap (λ (ys : List Action). shown l count c (act.Timer m ms) ∷ ys) (but_for_shown n l (count + 1) (c + 0) xs)
 but_for_shown n l count c (act.RenewalTimer k ms ∷ xs) = ap (λ (ys : List Action). shown l count c (act.RenewalTimer k ms) ∷ ys) (but_for_shown n l (count + 1) (c + 0) xs)
@@ -71,6 +75,7 @@ numberless l count c (a ∷ xs) =
   where
     one_numberless : (a : LinkAct) → unnumbered (shown l count c a) ≡ shown l count c a
     one_numberless (act.Created e) = refl
+    one_numberless (act.Round m) = refl
     one_numberless (act.Took m permits) = refl
     one_numberless (act.Timer m ms) = refl
     one_numberless (act.Push info) = refl
@@ -98,7 +103,8 @@ acts_alike n p c d e h =
     let k = ap (λ (x : Core). length x.timers) h.same in
     let u = ap (λ (x : Core). length x.sources) h.same in
     ap (λ (ys : List Action). action.Turn 0 (cause.Event e) ∷ ys)
-    (but_for_shown n c.single.link (length c.timers) (length c.sources) (next_turn c e.kind).acts ∙ (λ i. shown_each (l i) (k i) (u i) (xs i)) ∙ sym (but_for_shown n d.single.link (length d.timers) (length d.sources) (next_turn d e.kind).acts))
+    (ap (but_for n) (plain_effects c e h.plain) ∙ but_for_shown n c.single.link (length c.timers) (length c.sources) (next_turn c e.kind).acts ∙ (λ i. shown_each (l i) (k i) (u i) (xs i))
+    ∙ sym (ap (but_for n) (plain_effects d e (plain_too n p c d h)) ∙ but_for_shown n d.single.link (length d.timers) (length d.sources) (next_turn d e.kind).acts))
 
 -- and more of them
 pub shown_alike : (n p : ℕ) (c d : Core) (es : List Event) → AreAlike n p c d → but_for n (turns_on c es) ≡ but_for n (turns_on d es)
@@ -116,33 +122,34 @@ alike_on n p c d [] h = h
 alike_on n p c d (e ∷ es) h = alike_on n p (next_turn c e.kind).core (next_turn d e.kind).core es (alike_turn n p c d e.kind h)
 
 -- a turn without an outcome of submission n shows none
-pub unshown_acts : (n : ℕ) (c : Core) (e : Event) → other_acts n (next_turn c e.kind).acts ≡ (next_turn c e.kind).acts → but_for n (actions_of c e) ≡ all_unnumbered (actions_of c e)
-unshown_acts n c e none =
+pub unshown_acts : (n : ℕ) (c : Core) (e : Event) → is_some c.manager ≡ false → other_acts n (next_turn c e.kind).acts ≡ (next_turn c e.kind).acts → but_for n (actions_of c e) ≡ all_unnumbered (actions_of c e)
+unshown_acts n c e plain none =
     let xs = (next_turn c e.kind).acts in
     let l = c.single.link in
     let k = length c.timers in
     let u = length c.sources in
-    ap (λ (ys : List Action). action.Turn 0 (cause.Event e) ∷ ys) (but_for_shown n l k u xs ∙ ap (shown_each l k u) none ∙ sym (numberless l k u xs))
+    let is = plain_effects c e plain in
+    ap (λ (ys : List Action). action.Turn 0 (cause.Event e) ∷ ys) (ap (but_for n) is ∙ but_for_shown n l k u xs ∙ ap (shown_each l k u) none ∙ sym (ap all_unnumbered is ∙ numberless l k u xs))
 
 -- and one in which the request is cancelled shows no outcome of its submission
 --
 -- it is silent after one more turn
-silent_turn : (n p : ℕ) (c : Core) (kind : EventKind) → n < length c.table → AtCore (IsSilent n p) c → At (IsSilent n p) (work_of (next_turn c kind))
-silent_turn n p c kind l h = turn_kept (silent_kept n p) c (silent_asks n p (length c.table) (above n c.table l)) kind h
+silent_turn : (n p : ℕ) (c : Core) (kind : EventKind) → is_some c.manager ≡ false → n < length c.table → AtCore (IsSilent n p) c → At (IsSilent n p) (work_of (next_turn c kind))
+silent_turn n p c kind plain l h = turn_kept (silent_kept n p) c plain (silent_asks n p (length c.table) (above n c.table l)) kind h
 
 -- which shows no outcome of its own
-silent_acts : (n p : ℕ) (c : Core) (e : Event) → n < length c.table → AtCore (IsSilent n p) c → but_for n (actions_of c e) ≡ all_unnumbered (actions_of c e)
-silent_acts n p c e l h = unshown_acts n c e (silent_turn n p c e.kind l h).unshown
+silent_acts : (n p : ℕ) (c : Core) (e : Event) → is_some c.manager ≡ false → n < length c.table → AtCore (IsSilent n p) c → but_for n (actions_of c e) ≡ all_unnumbered (actions_of c e)
+silent_acts n p c e plain l h = unshown_acts n c e plain (silent_turn n p c e.kind plain l h).unshown
 
 -- so it is silent when the next one begins
-silent_then : (n p : ℕ) (c : Core) (kind : EventKind) → n < length c.table → AtCore (IsSilent n p) c → AtCore (IsSilent n p) (next_turn c kind).core
-silent_then n p c kind l h = let s = silent_turn n p c kind l h in record { there = s.there; own = s.own; closed = s.closed; unshown = refl }
+silent_then : (n p : ℕ) (c : Core) (kind : EventKind) → is_some c.manager ≡ false → n < length c.table → AtCore (IsSilent n p) c → AtCore (IsSilent n p) (next_turn c kind).core
+silent_then n p c kind plain l h = let s = silent_turn n p c kind plain l h in record { there = s.there; own = s.own; closed = s.closed; unshown = refl }
 
 -- and more turns show none
-pub silent_shown : (n p : ℕ) (c : Core) (es : List Event) → n < length c.table → AtCore (IsSilent n p) c → but_for n (turns_on c es) ≡ all_unnumbered (turns_on c es)
-silent_shown n p c [] l h = refl
-silent_shown n p c (e ∷ es) l h =
+pub silent_shown : (n p : ℕ) (c : Core) (es : List Event) → is_some c.manager ≡ false → n < length c.table → AtCore (IsSilent n p) c → but_for n (turns_on c es) ≡ all_unnumbered (turns_on c es)
+silent_shown n p c [] plain l h = refl
+silent_shown n p c (e ∷ es) plain l h =
     let more = turns_on (next_turn c e.kind).core es in
-    but_for-append n (actions_of c e) more ∙ ap (λ (xs : List Action). xs ++ but_for n more) (silent_acts n p c e l h)
-    ∙ ap (λ (xs : List Action). all_unnumbered (actions_of c e) ++ xs) (silent_shown n p (next_turn c e.kind).core es (more_after n c e.kind l) (silent_then n p c e.kind l h))
+    but_for-append n (actions_of c e) more ∙ ap (λ (xs : List Action). xs ++ but_for n more) (silent_acts n p c e plain l h)
+    ∙ ap (λ (xs : List Action). all_unnumbered (actions_of c e) ++ xs) (silent_shown n p (next_turn c e.kind).core es (turn_plain c e.kind ∙ plain) (more_after n c e.kind plain l) (silent_then n p c e.kind plain l h))
     ∙ sym (unnumbered-append (actions_of c e) more)

@@ -1,5 +1,5 @@
 -- A turn does the same where one submission's outcome is looked away from, once its message has left the queue.
-use Rattle.std.proofs.Common.{◌≡◌, ◌≢◌, ℕ, ◌<◌, ◌==◌, List, [], ◌∷◌, ◌++◌, length, Option, Some, None, slice_get, refl, sym, ap, ◌∙◌, arith, length-append}
+use Rattle.std.proofs.Common.{◌≡◌, ◌≢◌, ℕ, ◌<◌, ◌==◌, List, [], ◌∷◌, ◌++◌, length, Option, Some, None, slice_get, refl, sym, ap, ◌∙◌, arith, length-append, false, subst, is_some}
 use Rattle.containers.proofs.Choices.{chosen, either}
 use Rattle.redis_error.specs.declared.redis_error.RedisError.{RedisError}
 use Rattle.redis_error.specs.declared.redis_error.RedisError.TheVariants as error
@@ -22,9 +22,12 @@ use Rattle.mux_conn.specs.Passes.{passed}
 use Rattle.mux_conn.specs.Turn.{flushed}
 use Rattle.shared_session.specs.declared.core_state.Core.{Core}
 use Rattle.shared_session.specs.Turn.{Turning, work_of, with_work, shut_by, heard, refused_with, pending, asked_for, submitted, left_by, late_by, fired_by, requested, effect, counted, moved_on, whole_effect, timer_of, timers_of, source_of, sources_of, numbered, next_turn}
+use Rattle.shared_session.proofs.Plain.{plain_turn}
+use Rattle.shared_session.proofs.Stays.{turn_plain}
 use Rattle.mux_conn.specs.declared.request.Progress.TheVariants as progress
 use Rattle.cancel_laws.proofs.Requests.{progress_count}
-use Rattle.cancel_laws.proofs.Kept.{other_act, At, AtCore, Unlimited, unlimited_kept, heard_kept, effect_kept, passed_kept, turn_kept}
+use Rattle.cancel_laws.proofs.Kept.{other_act, At, Unlimited, unlimited_kept, passed_kept}
+use Rattle.cancel_laws.proofs.KeptTurns.{AtCore, heard_kept, effect_kept, turn_kept}
 use Rattle.cancel_laws.proofs.Gone.{IsAway, away_kept, away_asks}
 use Rattle.cancel_laws.proofs.Bare.{bare_conn, other_acts, acts_other, bare_applied}
 use Rattle.cancel_laws.proofs.Moved.{bare_asked, bare_left, bare_late, bare_passed, bare_flushed}
@@ -133,6 +136,7 @@ bare_moved_on n p t none h =
 -- an outcome asks for no timer
 no_timer : (n l : ℕ) (a : LinkAct) (more : List LinkAct) → timers_of l (other_act n a ++ more) ≡ timer_of l a ++ timers_of l more
 no_timer n l (act.Created e) more = refl
+no_timer n l (act.Round m) more = refl
 no_timer n l (act.Took m count) more = refl
 no_timer n l (act.Timer m ms) more = refl
 no_timer n l (act.Push info) more = refl
@@ -158,6 +162,7 @@ timers_same n l (a ∷ xs) = ap (λ (ps : List Purpose). timer_of l a ++ ps) (ti
 -- nor for a source of credentials
 no_source : (n l : ℕ) (a : LinkAct) (more : List LinkAct) → sources_of l (other_act n a ++ more) ≡ source_of l a ++ sources_of l more
 no_source n l (act.Created e) more = refl
+no_source n l (act.Round m) more = refl
 no_source n l (act.Took m count) more = refl
 no_source n l (act.Timer m ms) more = refl
 no_source n l (act.Push info) more = refl
@@ -193,11 +198,10 @@ unlimited_effect t kind none =
     effect_kept unlimited_kept t (record { ask = λ lim r life ms xs h. h; refuse = λ lim r life ms xs o h. h }) kind none
 
 -- a whole turn
-bare_turn : (n p : ℕ) (c : Core) (kind : EventKind) → n < length c.table → AtCore Unlimited c → AtCore (IsAway n p) c → bare_turning n p (next_turn c kind) ≡ numbered (whole_effect (record { core = bare_core p c; acts = [] }) kind)
-unfolding next_turn
-bare_turn n p c kind l none h =
+bare_turn : (n p : ℕ) (c : Core) (kind : EventKind) → is_some c.manager ≡ false → n < length c.table → AtCore Unlimited c → AtCore (IsAway n p) c → bare_turning n p (next_turn c kind) ≡ numbered (whole_effect (record { core = bare_core p c; acts = [] }) kind)
+bare_turn n p c kind plain l none h =
     let t = counted c in
-    bare_numbered n p (whole_effect t kind)
+    ap (bare_turning n p) (plain_turn c kind plain) ∙ bare_numbered n p (whole_effect t kind)
     ∙ ap numbered
     (bare_moved_on n p (effect t kind) (unlimited_effect t kind none) (effect_kept (away_kept n p) t (away_asks n p (length c.table) (above n c.table l)) kind h)
     ∙ ap moved_on (bare_effect n p t kind l h))
@@ -250,12 +254,12 @@ more_requested n t event.Shutdown l = l
 more_requested n t event.DropStream l = l
 
 -- nor does a turn
-pub more_after : (n : ℕ) (c : Core) (kind : EventKind) → n < length c.table → n < length (next_turn c kind).core.table
-unfolding next_turn
-more_after n c kind l = more_requested n (heard (counted c) kind) kind l
+pub more_after : (n : ℕ) (c : Core) (kind : EventKind) → is_some c.manager ≡ false → n < length c.table → n < length (next_turn c kind).core.table
+more_after n c kind plain l = subst (λ (u : Turning). n < length u.core.table) (sym (plain_turn c kind plain)) (more_requested n (heard (counted c) kind) kind l)
 
--- two sessions that count no permits, and that are alike but for submission n, whose message has left the queue of both
+-- two sessions that don't come back, count no permits, and are alike but for submission n, whose message has left the queue of both
 pub record AreAlike (n p : ℕ) (c d : Core) : Type 0 where
+  pub plain : is_some c.manager ≡ false
   pub same : bare_core p c ≡ bare_core p d
   pub unlimited : AtCore Unlimited c
   pub unlimited_too : AtCore Unlimited d
@@ -264,30 +268,38 @@ pub record AreAlike (n p : ℕ) (c d : Core) : Type 0 where
   pub gone : AtCore (IsAway n p) c
   pub gone_too : AtCore (IsAway n p) d
 
+-- neither does
+pub plain_too : (n p : ℕ) (c d : Core) → AreAlike n p c d → is_some d.manager ≡ false
+plain_too n p c d h = sym (ap (λ (x : Core). is_some x.manager) h.same) ∙ h.plain
+
 -- a turn of each does the same
 pub turns_same : (n p : ℕ) (c d : Core) (kind : EventKind) → AreAlike n p c d → bare_turning n p (next_turn c kind) ≡ bare_turning n p (next_turn d kind)
 turns_same n p c d kind h =
-    bare_turn n p c kind h.within h.unlimited h.gone ∙ ap (λ (x : Core). numbered (whole_effect (record { core = x; acts = [] }) kind)) h.same
-    ∙ sym (bare_turn n p d kind h.within_too h.unlimited_too h.gone_too)
+    bare_turn n p c kind h.plain h.within h.unlimited h.gone ∙ ap (λ (x : Core). numbered (whole_effect (record { core = x; acts = [] }) kind)) h.same
+    ∙ sym (bare_turn n p d kind (plain_too n p c d h) h.within_too h.unlimited_too h.gone_too)
 
 -- the message stays gone
-pub turn_gone : (n p : ℕ) (c : Core) (kind : EventKind) → n < length c.table → AtCore (IsAway n p) c → AtCore (IsAway n p) (next_turn c kind).core
-turn_gone n p c kind l h =
-    let k = turn_kept (away_kept n p) c (away_asks n p (length c.table) (above n c.table l)) kind h in
+pub turn_gone : (n p : ℕ) (c : Core) (kind : EventKind) → is_some c.manager ≡ false → n < length c.table → AtCore (IsAway n p) c → AtCore (IsAway n p) (next_turn c kind).core
+turn_gone n p c kind plain l h =
+    let k = turn_kept (away_kept n p) c plain (away_asks n p (length c.table) (above n c.table l)) kind h in
     record { gone = k.gone; unmoved = k.unmoved }
 
 -- and permits aren't counted
-pub turn_unlimited : (c : Core) (kind : EventKind) → AtCore Unlimited c → AtCore Unlimited (next_turn c kind).core
-turn_unlimited c kind none = turn_kept unlimited_kept c (record { ask = λ lim r life ms xs h. h; refuse = λ lim r life ms xs o h. h }) kind none
+pub turn_unlimited : (c : Core) (kind : EventKind) → is_some c.manager ≡ false → AtCore Unlimited c → AtCore Unlimited (next_turn c kind).core
+turn_unlimited c kind plain none = turn_kept unlimited_kept c plain (record { ask = λ lim r life ms xs h. h; refuse = λ lim r life ms xs o h. h }) kind none
 
 -- so they stay alike
 pub alike_turn : (n p : ℕ) (c d : Core) (kind : EventKind) → AreAlike n p c d → AreAlike n p (next_turn c kind).core (next_turn d kind).core
-alike_turn n p c d kind h = record {
-  same = ap (λ (t : Turning). t.core) (turns_same n p c d kind h);
-  unlimited = turn_unlimited c kind h.unlimited;
-  unlimited_too = turn_unlimited d kind h.unlimited_too;
-  within = more_after n c kind h.within;
-  within_too = more_after n d kind h.within_too;
-  gone = turn_gone n p c kind h.within h.gone;
-  gone_too = turn_gone n p d kind h.within_too h.gone_too;
-}
+alike_turn n p c d kind h =
+    let plain = h.plain in
+    let also = plain_too n p c d h in
+    record {
+      plain = turn_plain c kind ∙ plain;
+      same = ap (λ (t : Turning). t.core) (turns_same n p c d kind h);
+      unlimited = turn_unlimited c kind plain h.unlimited;
+      unlimited_too = turn_unlimited d kind also h.unlimited_too;
+      within = more_after n c kind plain h.within;
+      within_too = more_after n d kind also h.within_too;
+      gone = turn_gone n p c kind plain h.within h.gone;
+      gone_too = turn_gone n p d kind also h.within_too h.gone_too;
+    }

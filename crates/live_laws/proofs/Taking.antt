@@ -11,9 +11,10 @@ use Rattle.shared_session.specs.declared.core_state.Core.{Core}
 use Rattle.shared_session.specs.Turn.{actions_of, effects_of, next_turn}
 use Rattle.shared_session.proofs.Effects.{EachIs, each_begun}
 use Rattle.shared_session.specs.Replay.{begun_as, connect_asked, opening_actions, opening_core, trace_of, turns_on}
-use Rattle.legal_trace.specs.Ledger.{Ledger, tells, times}
-use Rattle.legal_trace.specs.Book.{Book, push_line, is_renewal_of, blank_book, book, entered, entered_each}
+use Rattle.legal_trace.specs.Ledger.{Ledger, tells}
+use Rattle.legal_trace.specs.Book.{Book, push_line, blank_book, book, entered, entered_each}
 use Rattle.legal_trace.proofs.Books.{entered_append}
+use Rattle.legal_trace.proofs.Clocks.{timer_tells}
 use Rattle.legal_trace.proofs.Ledgers.{mine_keeps}
 use Rattle.driver_model.specs.News.{news_of}
 use Rattle.live_run.proofs.Heard.{effects_begin_none, none_begins}
@@ -31,7 +32,7 @@ turn_stays b number word n kind quiet = hears_stays (b.link n) number (news_of b
 pub action_taken : (b : Book) (x : Action) (n : ℕ) → IsNoTurn x → taken_of (entered b x) n ≡ taken_of b n
 action_taken b (action.Turn number c) n quiet = absurd quiet
 action_taken b (action.Connect l host port) n quiet = mine_keeps (λ (g : Ledger). g.taken ≡ (b.link n).taken) (l == n) (b.link n) _ (λ t. refl) refl
-action_taken b (action.Timer t ms what) n quiet = mine_keeps (λ (g : Ledger). g.taken ≡ (b.link n).taken) (is_renewal_of n what) (b.link n) times (λ t. refl) refl
+action_taken b (action.Timer t ms what) n quiet = timer_tells (λ (g : Ledger). g.taken ≡ (b.link n).taken) (b.link n) n what (λ l k is own. refl) (λ l is own. refl) refl
 action_taken b (action.Took who l count) n quiet = refl
 action_taken b (action.Push l info) n quiet =
     mine_keeps (λ (g : Ledger). g.taken ≡ (b.link n).taken) (l == n) (b.link n) (push_line info.kind) (λ t. push_noted (λ (g : Ledger). g.taken ≡ (b.link n).taken) (b.link n) info.kind refl refl) refl

@@ -679,6 +679,15 @@ dialing_step b t p h dialing on =
     let s = b.story (name_at t.requests p) in
     taken_if (dials (b.link s.link)) (waits wait.Connect) _ (ap (λ l. dials (b.link l)) on ∙ dialing_dials (b.link t.link) b.created t.life dialing h.life)
 
+-- without a link it waits for one
+pub resting_step : (b : Book) (t : Inner) (p : ℕ) → Tied b t → t.life ≡ Resting → (b.story (name_at t.requests p)).link ≡ t.link → next_step b (name_at t.requests p) ≡ waits wait.Backoff
+resting_step b t p h rests on =
+    let l = b.link (b.story (name_at t.requests p)).link in
+    let life = subst (λ m. TiedLife (b.link m) b.created Resting) (sym on) (subst (TiedLife (b.link t.link) b.created) rests h.life) in
+    left_if (dials l) (waits wait.Connect) (if l.up then (if is_set_up l then step_ready b (name_at t.requests p) (b.story (name_at t.requests p)) else waits (unready_wait l)) else step_down l.asked) (λ i. (life.0 i && not (life.1 i)) && not (is_some (life.2 i)))
+    ∙ left_if l.up (if is_set_up l then step_ready b (name_at t.requests p) (b.story (name_at t.requests p)) else waits (unready_wait l)) (step_down l.asked) life.1
+    ∙ ap step_down life.0
+
 -- and the setup, while the link isn't set up
 pub setup_step : (b : Book) (t : Inner) (p : ℕ) (link : LinkState) (greeting : Greeting) → Tied b t → t.life ≡ SettingUp link greeting → (b.story (name_at t.requests p)).link ≡ t.link → next_step b (name_at t.requests p) ≡ waits wait.Setup
 setup_step b t p link greeting h setting on =

@@ -215,6 +215,27 @@ live_comes b t h there up = by_manager t.manager h.numbers.comes_back (has_begun
         and_first : (x y : Bool) → (x && (not (current_link b).asked && y)) ≡ false
         and_first x y = ap (λ a. x && (not a && y)) asked ∙ and_last x
 
+-- what doesn't come back has a link
+pub plain_there : (b : Book) (t : Inner) → Tied b t → is_some t.manager ≡ false → is_resting t.life ≡ false
+plain_there b t h plain = by_life t.life h.course
+  where
+    by_life : (life : Life) → HasCourse (b.link t.link).last (b.link t.link).end t.links t.link t.shut t.manager t.last t.opened t.info t.address life → is_resting life ≡ false
+    by_life Resting k = absurd (not_both (is_some t.manager) plain k.1)
+    by_life Dialing k = refl
+    by_life (Wanting link) k = refl
+    by_life (SettingUp link greeting) k = refl
+    by_life (Ready link) k = refl
+    by_life (Ended e) k = refl
+
+-- and stays as it is
+pub plain_put : (b : Book) (t : Inner) → Tied b t → is_some t.manager ≡ false → NoneComes b
+plain_put b t h plain = plain_comes b (plain_has t.manager plain h.numbers.comes_back)
+    (λ none. let links = h.numbers.links in let one = has_links t.life (b.link t.link).last (b.link t.link).end t (plain_there b t h plain) h.course in omega arith)
+  where
+    plain_has : (m : Option Generations) → is_some m ≡ false → TiedManager b.config b.generation b.attempt m → has_generations b ≡ false
+    plain_has None none k = ap is_some k.0
+    plain_has (Some g) none k = cc
+
 -- a wait that is shown changes nothing of that
 pub wait_comes : (b : Book) (n : ℕ) (kind : WaitKind) → NoneComes b → NoneComes (entered b (action.Wait (owner.Try n 0) kind))
 wait_comes b n kind h = (ap (λ o. has_generations b && (not b.failed && (not b.shut && (if b.generation == 0 then not (is_lazy b.config) || o else is_caused b)))) opens ∙ h.0, h.1)

@@ -31,7 +31,7 @@ use Rattle.shared_session.specs.declared.generations.Generations.{Generations}
 use Rattle.shared_session.specs.Generations.{comeback_shown_in, connect_timed, generation_shown}
 use Rattle.shared_session.specs.Turn.{Turning, actions_of, comeback_by, effects_of, last_acts, shown_behind, asked_for, counted, effect, fired_by, heard, is_bad, late_by, left_by, moved_on, refused_with, shown_each, submitted, next_turn, numbered, source_of, timer_of, spends}
 use Rattle.shared_session.proofs.Plain.{plain_after, plain_effects, plain_turn}
-use Rattle.shared_session.proofs.Spent.{room_left}
+use Rattle.shared_session.proofs.Spent.{room_left, passed_same}
 use Rattle.shared_session.proofs.Stays.{turn_plain}
 use Rattle.shared_session.specs.declared.core_state.Core.{Core}
 use Rattle.legal_trace.specs.Book.{book}
@@ -116,7 +116,7 @@ turn_between before c e plain h good room =
     let t = effect (counted c) e.kind in
     let still = effect_still c e.kind in
     let acts = (moved_on t).acts in
-    let done = moved_on_between (before ++ a ∷ []) t h.started applied in
+    let done = moved_on_between (before ++ a ∷ []) t h.started (ap is_some (passed_same (counted c) e.kind).manager ∙ plain) applied in
     let next : next_turn c e.kind ≡ numbered (moved_on t) = plain_turn c e.kind plain in
     let shown : effects_of c e ≡ shown_each c.single.link (length c.timers) (length c.sources) acts =
     plain_effects c e plain ∙ ap (λ (u : Turning). shown_each c.single.link (length c.timers) (length c.sources) u.acts) next in

@@ -231,6 +231,7 @@ waits_let f g requests life fresh moved p count w still h =
     let long = sym (length_with requests p progress.Begun count) in
     record {
       early = λ m v. one_of (shown_wait g ss m) (shown_wait f requests m) (same m) (h.early m (waits m v));
+      backoff = λ m v d. elim (h.backoff m (waits m v) d) [ inl e ↦ inl e | inr e ↦ inr (same m ∙ e) ];
       connect = λ m v d. elim (h.connect m (waits m v) d) [ inl e ↦ inl e | inr e ↦ inr (same m ∙ e) ];
       creds = λ m link v d. elim (h.creds m link (waits m v) d) [ inl e ↦ inl e | inr e ↦ inr (same m ∙ e) ];
       setup = λ m link u v d. elim (h.setup m link u (waits m v) d) [ inl e ↦ inl e | inr e ↦ inr (same m ∙ e) ];
@@ -239,6 +240,7 @@ waits_let f g requests life fresh moved p count w still h =
       room = λ m i. elim (h.room m i) [ inl j ↦ inl j | inr e ↦ inr (same m ∙ e) ];
       newer = subst (Rising 0 fresh) long h.newer;
       rising = subst (Rising 0 moved) long h.rising;
+      no_backoff = λ m i v d. same m ∙ h.no_backoff m i (waits m v) d;
       no_connect = λ m i v d e. h.no_connect m i (waits m v) d (sym (same m) ∙ e);
       no_creds = λ m link i v d e. h.no_creds m link i (waits m v) d (sym (same m) ∙ e);
       no_setup = λ m link u i v d e. h.no_setup m link u i (waits m v) d (sym (same m) ∙ e);

@@ -141,12 +141,13 @@ opening_numbers config word info timeout none sound some is = record {
   settings = record { size_is = refl; bound_is = refl; limit_is = refl; some = some.some; limited = some.limited };
   kind_is = refl;
   quiet = λ w. record { none = refl; unwanted = unwanted_where_watched config w; unrenewed = refl };
-  plain = ap is_some (no_settings config none);
-  eager = never_lazy config none;
+  comes_back = (no_settings config none, never_lazy config none);
+  lazy = λ is. absurd (not_both (is_lazy (Some config)) (never_lazy config none) is);
   current_is = refl;
   speaks = refl;
-  one = refl;
-  few_links = omega arith;
+  address_is = refl;
+  wants = refl;
+  alone = λ plain. refl;
 }
 
 -- its lines
@@ -157,6 +158,7 @@ opening_lines = record { line = omega arith; queued = tt; entries = tt; packs = 
 opening_waits : TiedWaits (λ n. blank_story) [] Dialing [] []
 opening_waits = record {
   early = λ p w. cc;
+  backoff = λ p w e. cc;
   connect = λ p w e. cc;
   creds = λ p link w e. cc;
   setup = λ p link u w e. cc;
@@ -165,6 +167,7 @@ opening_waits = record {
   room = λ p i. absurd i;
   newer = omega arith;
   rising = omega arith;
+  no_backoff = λ p i. absurd i;
   no_connect = λ p i. absurd i;
   no_creds = λ p link i. absurd i;
   no_setup = λ p link u i. absurd i;
@@ -209,7 +212,9 @@ opening_tied config word info timeout plain sound some is = record {
   numbers = opening_numbers config word info timeout plain sound some is;
   others = λ m other. subst (λ (x : Ledger). IsAside (first_link + 1) m x (hearing_of config) (response_timeout config) 0) (sym (opened_link config word info (connect_timers timeout) m other)) (blank_aside m (hearing_of config) (response_timeout config) other);
   notices = record { heard_is = refl; hearing_is = refl; within = λ y. omega arith; untold_is = λ y. refl; parts = λ y d z. cc; alive = λ z. refl; due = λ z. cc; tame = λ z r. refl };
-  life = (refl, refl, refl, last_first config plain);
+  life = (refl, refl, refl);
+  course = (refl, refl, refl, last_first config plain, refl);
+  calm = λ up awake. refl;
   creds = record { wanted_is = refl; sought = (refl, refl, refl) };
   creation = record { before = λ e. refl; after = λ e. cc };
   uses = λ k what e. cc;
@@ -332,7 +337,7 @@ opened_between config word info timeout none sound at some is =
     let tied = opening_tied config word info timeout none sound some is in
     let fit : IsFitIn conn = record { wanting = λ link e. cc; setup = λ link u e. cc; link = λ link e. cc; none = λ no. refl } in
     let still : IsStill conn = record { setup = λ link u e. cc; held = λ link e. cc; full = λ link e. cc; waiting = λ link e. cc; begun = λ shows up. cc; none_waits = λ e. refl; renewed = λ link e. cc } in
-    let moved = is_moved b t tied refl (refl, refl) refl (opening_ends config word info timers) fit.link fit.none still.held still.full still.waiting still.none_waits fit.setup still.setup (λ p i. absurd i) still.renewed still.begun in
+    let moved = is_moved b t tied refl (refl, refl) refl (opening_ends config word info timers) fit.link fit.none still.held still.full still.waiting still.none_waits (λ over. cc) (λ x. cc) fit.setup still.setup (λ p i. absurd i) still.renewed still.begun in
     let written = is_written b t tied moved refl in
     let quiet : IsQuiet t = record { seats = λ p i. absurd i; settled = refl; alone = refl; fit = fit.link; none = fit.none; held = still.held; full = still.full; waiting = still.waiting; begun = still.begun; gone = still.none_waits; setup_fit = fit.setup; setup_held = still.setup } in
     let book_is = sym (opening_book config word info timeout) in
@@ -346,6 +351,8 @@ opened_between config word info timeout none sound at some is =
         moved = refl;
         fit = fit;
         still = still;
+        hushed = λ over. cc;
+        heeded = tt;
       };
     }
 

@@ -1,5 +1,5 @@
 -- The configurations of scripts are configurations that their type holds.
-use Rattle.std.proofs.Common.{◌≡◌, ℕ, ◌^◌, ◌<◌, ◌≤◌, ◌==◌, ◌&&◌, List, [], ◌∷◌, ◌++◌, All, Option, Some, None, IfSome, bytes_eq, option_map, option_and_then, codes, if◌then◌else◌, refl, ap, ◌∙◌, subst, arith}
+use Rattle.std.proofs.Common.{ℕ, ◌^◌, ◌<◌, ◌≤◌, ◌==◌, List, [], ◌∷◌, All, Option, Some, None, IfSome, bytes_eq, option_map, option_and_then, codes, if◌then◌else◌, arith}
 use Rattle.std.specs.Option.{option_to_list}
 use Rattle.std.proofs.lemmas.List.Elements.{All-nil, All-cons, All-head, All-tail, All-append}
 use Rattle.containers.proofs.Choices.{chosen}
