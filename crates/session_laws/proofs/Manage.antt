@@ -3,7 +3,7 @@ use Rattle.std.proofs.Common.{◌≡◌, ◌≢◌, ◌⊎◌, inl, inr, ℕ, �
 use Rattle.std.specs.Prelude.{option_map, unwrap_or}
 use Rattle.std.proofs.lemmas.List.{append-nil}
 use Rattle.std.proofs.lemmas.Bool.{not-true}
-use Rattle.containers.proofs.Choices.{both_left, both_right, by_test, chosen, eq_from, eq_test, left_if, ne_from, ne_test, not_both, not_le_from, or_left, or_right, taken_if}
+use Rattle.containers.proofs.Choices.{both_left, both_right, by_test, chosen, eq_from, eq_test, left_if, lt_from, ne_from, ne_test, not_both, not_le_from, or_left, or_right, taken_if}
 use Rattle.connection_info.specs.Protocol.{is_resp3}
 use Rattle.redis_error.specs.declared.redis_error.RedisError.{RedisError}
 use Rattle.driver_model.specs.declared.action.Action.{Action}
@@ -23,6 +23,7 @@ use Rattle.mux_conn.specs.Requests.{is_open_at}
 use Rattle.mux_conn.specs.declared.act.LinkAct.{LinkAct}
 use Rattle.mux_conn.specs.declared.life.Life.{Life}
 use Rattle.mux_conn.specs.declared.life.Life.TheVariants.{Resting, Dialing, Wanting, SettingUp, Ready, Ended}
+use Rattle.mux_conn.specs.declared.request.Waiting.{Waiting}
 use Rattle.shared_session.specs.declared.core_state.Core.{Core}
 use Rattle.shared_session.specs.declared.generations.Comeback.{Comeback}
 use Rattle.shared_session.specs.declared.generations.Comeback.TheVariants as comeback
@@ -32,23 +33,24 @@ use Rattle.shared_session.specs.Generations.{came_back, comeback_of, comeback_sh
 use Rattle.shared_session.specs.Turn.{is_bad}
 use Rattle.legal_trace.specs.Book.{Book, book, entered, has_generations, rest_after, shuts}
 use Rattle.legal_trace.specs.Story.{is_open}
+use Rattle.legal_trace.proofs.Moves.{lt_test}
 use Rattle.legal_trace.specs.Ledger.{End}
 use Rattle.legal_trace.specs.Legal.{NoneEnds, begins_first, current_link, generation_due, is_caused, link_due}
 use Rattle.session_laws.proofs.Ahead.{HasSeats}
 use Rattle.session_laws.proofs.Causes.{acts_hear}
 use Rattle.session_laws.proofs.Comes.{NoneComes, has_begun, has_links, live_comes}
-use Rattle.session_laws.proofs.Generate.{begun_in, over_begins}
-use Rattle.session_laws.proofs.Going.{shown_over}
+use Rattle.session_laws.proofs.Generate.{begun_in, first_begins, over_begins}
+use Rattle.session_laws.proofs.Going.{shown_over, shown_resting}
 use Rattle.session_laws.proofs.InLine.{kept_ids}
 use Rattle.session_laws.proofs.Judge.{HasActed, IsActed, acted_adds, judged, runs_on, turn_book}
 use Rattle.session_laws.proofs.Numbers.{IsIn}
-use Rattle.session_laws.proofs.Owes.{is_asked}
-use Rattle.session_laws.proofs.Past.{is_past, rest_timed}
+use Rattle.session_laws.proofs.Owes.{is_asked, open_request}
+use Rattle.session_laws.proofs.Past.{is_past, rest_timed, unended_over}
 use Rattle.session_laws.proofs.Regenerate.{IsHarmless, IsResting, manager_is, rests_generated}
 use Rattle.session_laws.proofs.Reopen.{at_rest, rest_tied}
 use Rattle.session_laws.proofs.Return.{HasReturned, at_next, begins_returned, dials_returned}
 use Rattle.session_laws.proofs.States.{Between, IsFitIn, IsHushed, IsStill}
-use Rattle.session_laws.proofs.Tied.{ComesBack, HasCourse, HasHeeded, Inner, IsAim, HasSaid, IsHeeded, IsUse, Sound, Tied, TiedLines, has_ended, inner, is_begun, link_in, waiting_ids}
+use Rattle.session_laws.proofs.Tied.{ComesBack, HasCourse, HasHeeded, Inner, IsAim, HasSaid, IsHeeded, IsUse, Sound, Tied, TiedLife, TiedLines, has_ended, inner, is_begun, link_in, waiting_ids}
 
 -- what a link hears that isn't asked for yet
 --
@@ -109,6 +111,15 @@ resting_is (Wanting link) rests = cc
 resting_is (SettingUp link greeting) rests = cc
 resting_is (Ready link) rests = cc
 resting_is (Ended e) rests = cc
+
+-- a life that has ended has an error
+ended_is : (life : Life) → machine.has_ended life ≡ true → (e : RedisError) × (life ≡ Ended e)
+ended_is Resting over = cc
+ended_is Dialing over = cc
+ended_is (Wanting link) over = cc
+ended_is (SettingUp link greeting) over = cc
+ended_is (Ready link) over = cc
+ended_is (Ended e) over = (e, refl)
 
 -- what is heeded of an event
 --
@@ -219,6 +230,7 @@ pub record HasCome (b : Book) (k : Core) (kind : EventKind) : Type 0 where
   pub what : Submission
   pub submits : kind ≡ event.Submit what
   pub free : k.single.connection.free ≡ unwrap_or k.single.connection.limit 0
+  pub moved : k.single.connection.moved ≡ []
   pub fresh : k.single.connection.fresh ≡ waiting_ids k.single.connection.waiting
   pub some : (length k.single.connection.waiting == 0) ≡ false
   pub opens : is_open (b.story (b.submissions - 1)) ≡ true
@@ -389,3 +401,138 @@ module _ (before : List Action) (c : Core) (started : List ℕ) (g : Generations
           (subst (λ (ts : List Purpose). IsHarmless (news_of ts b0.sources k.links kind)) (sym was.numbers.timers)
           (subst (λ (ss : List SourceUse). IsHarmless (news_of c.timers ss k.links kind)) (sym was.numbers.sources)
           (next_harmless c k.links kind _ _ h.good (omega (arith, same)) (omega (arith, near, one)) (runs_on before c word kind b acts h.acted runs) was.numbers.aims was.uses)))
+
+  -- the first begins with the first submission
+  first_returned : (come : HasCome b k kind) → k.shut ≡ false → g.number ≡ 0 → q.halted ≡ false
+      → HasReturned (trace ++ comeback_shown q word (comeback.Dials k.links (Some (q.number + 1)) (length k.timers))) (came_back k (comeback.Dials k.links (Some (q.number + 1)) (length k.timers)))
+  first_returned come runs none well =
+      let number = q.number + 1 in
+      let life : k.single.connection.life ≡ Resting = by_test (is_resting k.single.connection.life) _ (λ r. resting_is k.single.connection.life r) (λ there. absurd (begun_there there none)) in
+      let admitted = h.fit.none (λ link e. (let no : Resting ≡ Ready link = sym life ∙ e in cc)) in
+      let down : TiedLife (b.link k.single.link) b.created Resting = subst (TiedLife (b.link k.single.link) b.created) life tied.life in
+      let begins : begins_first b ≡ true = ap (λ x. not x || is_open (b.story (b.submissions - 1))) (back.first none) ∙ come.opens in
+      let is_due : generation_due b ≡ true = due b has (failed_is ∙ well) (shut_is ∙ runs) (taken_if (b.generation == 0) (begins_first b) (is_caused b) (eq_test b.generation 0 (generation_is ∙ none)) ∙ begins) in
+      let shown = shown_resting b t tied (λ over rests. absurd (not_both k.shut runs over)) refl (refl, refl) life admitted h.ended in
+      let all = begins_returned trace k h.now q number h.sound shown h.heeds refl is_due
+      (first_begins b t number tied life refl refl come.moved admitted refl refl come.free come.fresh (unended_over trace k.single.link down.1 down.2) (λ no. absurd (omega (arith, no))))
+      failed_is runs (inl (heard_is k.links ∙ ap (news_of b0.timers b0.sources k.links) come.submits)) in
+      subst (λ (x : List Action). HasReturned x (came_back k (comeback.Dials k.links (Some number) (length k.timers)))) (append_assoc trace (action.Generation number ∷ []) _) all
+
+  -- where it does nothing
+  stays_returned : NoneComes b → HasReturned (trace ++ comeback_shown q word comeback.Stays) k
+  stays_returned comes = subst (λ (x : List Action). HasReturned x k) (sym (append-nil trace)) (record {
+    started = h.now;
+    sound = h.sound;
+    ended = h.ended;
+    fit = h.fit;
+    still = h.still;
+    seats = h.seats;
+    hushed = h.hushed;
+    comes = comes;
+    heeded = subst (IsHeeded b.rest b.failed k.single.connection.life) (sym h.heeds) (record {
+      rest_is = rest_is;
+      failed_is = failed_is;
+      rests = λ waits.
+          let waited : g.rest ≢ None = λ none. waits (by_test (wakes g kind) _ (λ w. taken_if (wakes g kind) None g.rest w) (λ w. left_if (wakes g kind) None g.rest w ∙ none)) in
+          (rests_on_wait waited, (heed.rests waited).1);
+    });
+  })
+
+  -- its wait goes on
+  waits_still : wakes g kind ≡ false → k.shut ≡ false → is_resting k.single.connection.life ≡ true → g.number ≢ 0 → is_none b.rest ≡ false
+  waits_still asleep runs rests some =
+      let back0 = manager_is b0 (inner c started) g h.managed was in
+      let life0 = resting_is c.single.connection.life (rested_before rests) in
+      let down : TiedLife (b0.link c.single.link) b0.created Resting = subst (TiedLife (b0.link c.single.link) b0.created) life0 was.life in
+      let runs0 : b0.shut ≡ false = or_left b0.shut (shuts kind) (sym (acted_adds before c word kind b acts h.acted).shut ∙ shut_is ∙ runs) in
+      let none = awaits b0 (ap is_some back0.settings_are) (ap (nat_lt 0) back0.number_is ∙ lt_test 0 g.number (above g.number some)) (ap (λ l. (b0.link l).asked) was.numbers.current_is ∙ down.0) runs0 h.between.settled.written.moved.begun.applied.linked in
+      ap (λ (o : Option ℕ). is_none o) (rest_is ∙ left_if (wakes g kind) None g.rest asleep ∙ sym heed.rest_is) ∙ none
+    where
+      above : (n : ℕ) → n ≢ 0 → 0 < n
+      above n other = omega (arith, other)
+
+  -- nothing comes where it neither wakes nor has a cause
+  none_comes : k.shut ≡ false → wakes g kind ≡ false → is_due q (machine.has_ended c.single.connection.life) k.single.connection acts ≡ false → NoneComes b
+  none_comes runs asleep idle = (undue b generation_why, by_test (is_resting k.single.connection.life) _
+      (λ rests. by_test (g.number == 0) _
+      (λ none. unasked b has (inl (ap (nat_lt 0) (generation_is ∙ eq_from g.number 0 none))))
+      (λ some. unasked b has (inr (inr (inl (waits_still asleep runs rests (ne_from g.number 0 some)))))))
+      (λ there. unasked b has (inr (inl (asked_there there)))))
+    where
+      over : Bool
+      over = machine.has_ended c.single.connection.life
+
+      first : Bool
+      first = if g.number == 0 then not (length k.single.connection.waiting == 0) else machine.is_caused over k.single.connection acts
+
+      generation_why : (b.failed ≡ true) ⊎ ((b.shut ≡ true) ⊎ ((if b.generation == 0 then begins_first b else is_caused b) ≡ false))
+      generation_why = by_halted q.halted refl idle
+        where
+          opens_not : NoneCame k → is_open (b.story (b.submissions - 1)) ≡ false
+          opens_not none = by_test (is_open (b.story (b.submissions - 1))) _
+              (λ o.
+              let r = open_request b t (b.submissions - 1) tied o in
+              absurd (let no : is_open_at [] r.number ≡ true = ap (λ rs. is_open_at rs r.number) (sym none.requests) ∙ r.open_at in cc no))
+              (λ f. f)
+
+          by_first : (x : Bool) → (g.number == 0) ≡ x → (if x then not (length k.single.connection.waiting == 0) else machine.is_caused over k.single.connection acts) ≡ false → (if b.generation == 0 then begins_first b else is_caused b) ≡ false
+          by_first true none e =
+              let zero = eq_from g.number 0 none in
+              taken_if (b.generation == 0) (begins_first b) (is_caused b) (eq_test b.generation 0 (generation_is ∙ zero))
+              ∙ ap (λ x. not x || is_open (b.story (b.submissions - 1))) (back.first zero)
+              ∙ elim (h.first zero runs) [
+                | inl nobody ↦ opens_not nobody
+                | inr come ↦ absurd (let no : not false ≡ false = ap not (sym come.some) ∙ e in cc no)
+              ]
+          by_first false some e =
+              left_if (b.generation == 0) (begins_first b) (is_caused b) (ap (λ n. n == 0) generation_is ∙ some)
+              ∙ judged before c started word kind b acts t (acted runs) ∙ e
+
+          by_halted : (x : Bool) → q.halted ≡ x → (not x && first) ≡ false → (b.failed ≡ true) ⊎ ((b.shut ≡ true) ⊎ ((if b.generation == 0 then begins_first b else is_caused b) ≡ false))
+          by_halted true is e = inl (failed_is ∙ is)
+          by_halted false is e = inr (inr (by_first (g.number == 0) refl e))
+
+  -- a generation begins that is due
+  due_returned : k.shut ≡ false → is_due q (machine.has_ended c.single.connection.life) k.single.connection acts ≡ true
+      → HasReturned (trace ++ comeback_shown q word (comeback.Dials k.links (Some (q.number + 1)) (length k.timers))) (came_back k (comeback.Dials k.links (Some (q.number + 1)) (length k.timers)))
+  due_returned runs now = by_first (g.number == 0) refl (both_right (not q.halted) (if g.number == 0 then not (length k.single.connection.waiting == 0) else machine.is_caused over k.single.connection acts) now)
+    where
+      over : Bool
+      over = machine.has_ended c.single.connection.life
+
+      well : q.halted ≡ false
+      well = not-true q.halted (both_left (not q.halted) (if g.number == 0 then not (length k.single.connection.waiting == 0) else machine.is_caused over k.single.connection acts) now)
+
+      by_first : (x : Bool) → (g.number == 0) ≡ x → (if x then not (length k.single.connection.waiting == 0) else machine.is_caused over k.single.connection acts) ≡ true
+          → HasReturned (trace ++ comeback_shown q word (comeback.Dials k.links (Some (q.number + 1)) (length k.timers))) (came_back k (comeback.Dials k.links (Some (q.number + 1)) (length k.timers)))
+      by_first true none e = elim (h.first (eq_from g.number 0 none) runs) [
+        | inl nobody ↦ absurd (let no : not true ≡ true = ap (λ (ws : List Waiting). not (length ws == 0)) (sym nobody.waiting) ∙ e in cc no)
+        | inr come ↦ first_returned come runs (eq_from g.number 0 none) well
+      ]
+      by_first false some e =
+          let life = ended_is k.single.connection.life (both_left (machine.has_ended k.single.connection.life) _ e) in
+          caused_returned life.0 life.1 runs (ne_from g.number 0 some) well (judged before c started word kind b acts t (acted runs) ∙ e)
+
+  -- so whatever it does of its own
+  pub returned : let what = comeback_of q (wakes g kind) (machine.has_ended c.single.connection.life) k acts in HasReturned (trace ++ comeback_shown q word what) (came_back k what)
+  returned =
+      let over = machine.has_ended c.single.connection.life in
+      let so = λ (what : Comeback). HasReturned (trace ++ comeback_shown q word what) (came_back k what) in
+      let dials = comeback.Dials k.links (Some (q.number + 1)) (length k.timers) in
+      let again = if is_due q over k.single.connection acts then dials else comeback.Stays in
+      let awake = if wakes g kind then comeback.Dials k.links None (length k.timers) else again in
+      let open_still = if k.shut then comeback.Stays else awake in
+      chosen so (is_used_up k.single.connection) comeback.Stays (if rests k then comeback.Rests q.number q.attempt (length k.timers) else open_still)
+      (λ used. absurd (not_both (is_used_up k.single.connection) h.unspent used))
+      (λ unused. chosen so (rests k) (comeback.Rests q.number q.attempt (length k.timers)) open_still
+      (λ waits. absurd (
+      let none = rests_links k.single.connection.life (b.link k.single.link).last (b.link k.single.link).end t (both_left (is_resting k.single.connection.life) (nat_lt k.single.link k.links) waits) tied.course in
+      let less = lt_from k.single.link k.links (both_right (is_resting k.single.connection.life) (nat_lt k.single.link k.links) waits) in
+      omega (arith, none, less)))
+      (λ there. chosen so k.shut comeback.Stays awake
+      (λ over_now. stays_returned (shut_comes over_now))
+      (λ runs. chosen so (wakes g kind) (comeback.Dials k.links None (length k.timers)) again
+      (λ w. wakes_returned w runs)
+      (λ asleep. chosen so (is_due q over k.single.connection acts) dials comeback.Stays
+      (λ now. due_returned runs now)
+      (λ idle. stays_returned (none_comes runs asleep idle))))))
