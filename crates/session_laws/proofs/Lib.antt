@@ -72,6 +72,7 @@ pub mod Regenerate
 pub mod Judge
 pub mod Return
 pub mod Manage
+pub mod Whole
 pub mod Write
 pub mod Waits
 pub mod Settled
