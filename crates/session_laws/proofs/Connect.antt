@@ -285,10 +285,14 @@ refused_fails before c started word kind f h good k is e last =
       hearing_kept = heard_hearing l0 c.turns (refused f);
       spoken = refl;
       lived = subst (λ (x : Ledger). TiedLife x created life) (sym over) (lived.1, ap (λ y. owed_by (lasting y (by_opening (error.Io f)))) lasts, λ x fails. some, lived.0);
-      course = (live.links, live.begun, record {
-        failed = λ new awake none. (let no : ◌≡◌ {A = Option RedisError} None (Some (error.Io f)) = sym none ∙ failure in cc);
-        unfailed = λ was. absurd (not_both conn.opened (tied_unopened b (inner c started) h0 (ap is_ready e) (ap has_ended e)) was);
-      });
+      course = (
+        live.links,
+        live.begun,
+        record {
+          failed = λ new awake none. (let no : ◌≡◌ {A = Option RedisError} None (Some (error.Io f)) = sym none ∙ failure in cc);
+          unfailed = λ was. absurd (not_both conn.opened (tied_unopened b (inner c started) h0 (ap is_ready e) (ap has_ended e)) was);
+        },
+      );
       creds = record { wanted_is = ap (λ (x : Ledger). x.creds.wanted) over ∙ on_link conn.life (l0.creds.wanted ≡ conn.renewal.wanted) (ap is_resting e) h0.creds.wanted_is; sought = tt };
       renewal_is = renewal_ended l0 l conn.renewal conn.life (timed_hear l0 c.turns (refused f)) (heard_starts l0 c.turns (refused f)) h0.renewal;
       said = record { info_is = on_link conn.life (l.info ≡ conn.info) (ap is_resting e) said.info_is; sent = said.sent; said = tt };

@@ -218,10 +218,14 @@ setup_fails before c started word kind n x h good k is u fails lasts =
       starts = heard_starts l0 c.turns n;
       hearing_kept = heard_hearing l0 c.turns n;
       spoken = refl;
-      course = (live.links, live.begun, record {
-        failed = λ new awake none. (let no : ◌≡◌ {A = Option RedisError} None (Some x) = sym none ∙ ap failure_of why in cc);
-        unfailed = λ was. absurd (not_both conn.opened (tied_unopened b (inner c started) h0 u.unready u.alive) was);
-      });
+      course = (
+        live.links,
+        live.begun,
+        record {
+          failed = λ new awake none. (let no : ◌≡◌ {A = Option RedisError} None (Some x) = sym none ∙ ap failure_of why in cc);
+          unfailed = λ was. absurd (not_both conn.opened (tied_unopened b (inner c started) h0 u.unready u.alive) was);
+        },
+      );
       lived = (refl, ap owed_by why, λ y shown. some, asked);
       creds = record { wanted_is = fails.wanted_is; sought = tt };
       renewal_is = renewal_ended l0 (noted l line) conn.renewal conn.life (timed_hear l0 c.turns n) (heard_starts l0 c.turns n) h0.renewal;

@@ -86,7 +86,7 @@ pub rests_comes : (b : Book) (t : Inner) (timer : ℕ) → Tied b t → t.life �
 rests_comes b t timer h rests has some waits = (
   rests_generated b t h rests some,
   taken_if (has_generations b) (nat_lt 0 b.generation && (not (current_link b).asked && (is_none b.rest && not b.shut))) (b.links == 0) has
-  ∙ ap (λ (o : Option ℕ). nat_lt 0 b.generation && (not (current_link b).asked && (is_none o && not b.shut))) waits ∙ third_false (nat_lt 0 b.generation) (not (current_link b).asked),
+      ∙ ap (λ (o : Option ℕ). nat_lt 0 b.generation && (not (current_link b).asked && (is_none o && not b.shut))) waits ∙ third_false (nat_lt 0 b.generation) (not (current_link b).asked),
 )
   where
     third_false : (x y : Bool) → (x && (y && false)) ≡ false
@@ -325,7 +325,7 @@ dials_on trace t g timer h is some awake runs next harmless = by_bound g.setting
         let stands : AllStand blank_book (trace ++ a ∷ []) = all_stand-append trace (a ∷ []) h.sound.stands (may, tt) in
         subst (λ (x : List Action). Sound x (dialled_in t last ts) × NoneEnds (book x)) whole (
           sound_more (trace ++ a ∷ []) c (dialled_in t last ts) stands (subst (λ (x : Book). MayStand x c) (sym first) (inl (inl timed)))
-          (subst (λ (x : Book). Tied (entered x c) (dialled_in t last ts)) (sym first) (subst (λ (x : Book). Tied x (dialled_in t last ts)) same now)),
+              (subst (λ (x : Book). Tied (entered x c) (dialled_in t last ts)) (sym first) (subst (λ (x : Book). Tied x (dialled_in t last ts)) same now)),
           subst NoneEnds (sym (book_more (trace ++ a ∷ []) c)) (subst (λ (x : Book). NoneEnds (entered x c)) (sym first) ends),
         )
       where

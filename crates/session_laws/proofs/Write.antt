@@ -187,30 +187,30 @@ write_shown before f w link life can r =
     let tied = subst (λ (x : Life). Tied b (record t { life = x })) life h.holds.tied in
     record {
       returned = record {
-      moved = record {
-        started = h.started;
-        holds = holds_more before f w a (with_link w (offered_of link)).conn [] [] h.started h.holds (write_may b t (owner_of w.conn.requests) link (λ m other. (tied.others m other).down) tied.life.1 (tied.link refl) (moved_book before f w r) can) (write_tied b t link tied);
-        ended = subst NoneEnds (sym (book_of_more before f w.acts a)) (none_ends_kept b f.single.link (offers link.outbox.unwritten) (λ l e. e) h.ended);
-        fit = record {
-          wanting = λ other e. cc;
-          setup = λ other u e. cc;
-          link = λ other e. subst (IsFit w.conn.size w.conn.boundary) (same_link after other e) (record { sound = fit.sound; size_is = fit.size_is; bound_is = fit.bound_is; within = fit.within });
-          none = λ none. absurd (none after refl);
+        moved = record {
+          started = h.started;
+          holds = holds_more before f w a (with_link w (offered_of link)).conn [] [] h.started h.holds (write_may b t (owner_of w.conn.requests) link (λ m other. (tied.others m other).down) tied.life.1 (tied.link refl) (moved_book before f w r) can) (write_tied b t link tied);
+          ended = subst NoneEnds (sym (book_of_more before f w.acts a)) (none_ends_kept b f.single.link (offers link.outbox.unwritten) (λ l e. e) h.ended);
+          fit = record {
+            wanting = λ other e. cc;
+            setup = λ other u e. cc;
+            link = λ other e. subst (IsFit w.conn.size w.conn.boundary) (same_link after other e) (record { sound = fit.sound; size_is = fit.size_is; bound_is = fit.bound_is; within = fit.within });
+            none = λ none. absurd (none after refl);
+          };
+          still = record {
+            setup = λ other u e. cc;
+            held = λ other e. subst (λ (x : LinkState). (x.queue ≡ []) ⊎ (holds_back x ≡ true)) (same_link after other e) (h.still.held link life);
+            full = λ other e. subst (λ (x : LinkState). (w.conn.admitted ≡ []) ⊎ (is_full_beside x (in_front w.conn.renewal) ≡ true)) (same_link after other e) (h.still.full link life);
+            renewed = λ other e due. let k = h.still.renewed link life due in (k.0, subst (λ (x : LinkState). holds_back x ≡ true) (same_link after other e) k.1);
+            waiting = λ other e. h.still.waiting link life;
+            begun = λ shows up. h.still.begun shows (ap is_ready life);
+            none_waits = λ e. cc;
+          };
+          hushed = λ over. subst (λ (x : Life). IsStopped x w.conn.waiting) life (h.hushed over);
+          seats = subst (λ (x : Life). HasSeats w.conn.moved (in_front w.conn.renewal) (link_in x) w.conn.size) life h.seats;
         };
-        still = record {
-          setup = λ other u e. cc;
-          held = λ other e. subst (λ (x : LinkState). (x.queue ≡ []) ⊎ (holds_back x ≡ true)) (same_link after other e) (h.still.held link life);
-          full = λ other e. subst (λ (x : LinkState). (w.conn.admitted ≡ []) ⊎ (is_full_beside x (in_front w.conn.renewal) ≡ true)) (same_link after other e) (h.still.full link life);
-          renewed = λ other e due. let k = h.still.renewed link life due in (k.0, subst (λ (x : LinkState). holds_back x ≡ true) (same_link after other e) k.1);
-          waiting = λ other e. h.still.waiting link life;
-          begun = λ shows up. h.still.begun shows (ap is_ready life);
-          none_waits = λ e. cc;
-        };
-        hushed = λ over. subst (λ (x : Life). IsStopped x w.conn.waiting) life (h.hushed over);
-        seats = subst (λ (x : Life). HasSeats w.conn.moved (in_front w.conn.renewal) (link_in x) w.conn.size) life h.seats;
-      };
-      put = λ x. cc;
-      heeded = subst (λ (x : Book). IsHeeded x.rest x.failed (Ready after) f.manager) (sym (book_of_more before f w.acts a)) (heeded_alike b.rest b.failed w.conn.life (Ready after) f.manager (ap is_resting life) r.heeded);
+        put = λ x. cc;
+        heeded = subst (λ (x : Book). IsHeeded x.rest x.failed (Ready after) f.manager) (sym (book_of_more before f w.acts a)) (heeded_alike b.rest b.failed w.conn.life (Ready after) f.manager (ap is_resting life) r.heeded);
       };
       offered = all_offered_can link.outbox;
     }
@@ -232,30 +232,30 @@ write_set_shown before f w link greeting life can r =
     let tied = subst (λ (x : Life). Tied b (record t { life = x })) life h.holds.tied in
     record {
       returned = record {
-      moved = record {
-        started = h.started;
-        holds = holds_more before f w a (with_setup w (offered_of link) greeting).conn [] [] h.started h.holds (write_may b t (λ (p : ℕ). greeter greeting) link (λ m other. (tied.others m other).down) tied.life.1 (tied.link refl) (moved_book before f w r) can) (write_set_tied b t link greeting tied);
-        ended = subst NoneEnds (sym (book_of_more before f w.acts a)) (none_ends_kept b f.single.link (offers link.outbox.unwritten) (λ l e. e) h.ended);
-        fit = record {
-          wanting = λ other e. cc;
-          setup = λ other u e. subst (IsFit w.conn.size w.conn.boundary) (same_set after other greeting u e) (record { sound = fit.sound; size_is = fit.size_is; bound_is = fit.bound_is; within = fit.within });
-          link = λ other e. cc;
-          none = λ none. h.fit.none (λ other e. absurd (setting_not_ready w.conn.life link other greeting life e));
+        moved = record {
+          started = h.started;
+          holds = holds_more before f w a (with_setup w (offered_of link) greeting).conn [] [] h.started h.holds (write_may b t (λ (p : ℕ). greeter greeting) link (λ m other. (tied.others m other).down) tied.life.1 (tied.link refl) (moved_book before f w r) can) (write_set_tied b t link greeting tied);
+          ended = subst NoneEnds (sym (book_of_more before f w.acts a)) (none_ends_kept b f.single.link (offers link.outbox.unwritten) (λ l e. e) h.ended);
+          fit = record {
+            wanting = λ other e. cc;
+            setup = λ other u e. subst (IsFit w.conn.size w.conn.boundary) (same_set after other greeting u e) (record { sound = fit.sound; size_is = fit.size_is; bound_is = fit.bound_is; within = fit.within });
+            link = λ other e. cc;
+            none = λ none. h.fit.none (λ other e. absurd (setting_not_ready w.conn.life link other greeting life e));
+          };
+          still = record {
+            setup = λ other u e. subst (λ (x : LinkState). (x.queue ≡ []) ⊎ (holds_back x ≡ true)) (same_set after other greeting u e) (h.still.setup link greeting life);
+            held = λ other e. cc;
+            full = λ other e. cc;
+            renewed = λ other e. cc;
+            waiting = λ other e. cc;
+            begun = λ shows up. cc;
+            none_waits = λ e. cc;
+          };
+          hushed = λ over. subst (λ (x : Life). IsStopped x w.conn.waiting) life (h.hushed over);
+          seats = λ p i k. absurd k;
         };
-        still = record {
-          setup = λ other u e. subst (λ (x : LinkState). (x.queue ≡ []) ⊎ (holds_back x ≡ true)) (same_set after other greeting u e) (h.still.setup link greeting life);
-          held = λ other e. cc;
-          full = λ other e. cc;
-          renewed = λ other e. cc;
-          waiting = λ other e. cc;
-          begun = λ shows up. cc;
-          none_waits = λ e. cc;
-        };
-        hushed = λ over. subst (λ (x : Life). IsStopped x w.conn.waiting) life (h.hushed over);
-        seats = λ p i k. absurd k;
-      };
-      put = λ x. cc;
-      heeded = subst (λ (x : Book). IsHeeded x.rest x.failed (SettingUp after greeting) f.manager) (sym (book_of_more before f w.acts a)) (heeded_alike b.rest b.failed w.conn.life (SettingUp after greeting) f.manager (ap is_resting life) r.heeded);
+        put = λ x. cc;
+        heeded = subst (λ (x : Book). IsHeeded x.rest x.failed (SettingUp after greeting) f.manager) (sym (book_of_more before f w.acts a)) (heeded_alike b.rest b.failed w.conn.life (SettingUp after greeting) f.manager (ap is_resting life) r.heeded);
       };
       offered = all_offered_can link.outbox;
     }
