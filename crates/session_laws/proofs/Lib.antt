@@ -64,6 +64,9 @@ pub mod Renews
 pub mod Rounds
 pub mod Passes
 pub mod Moved
+pub mod Write
+pub mod Waits
+pub mod Settled
 pub mod Reopen
 pub mod Generate
 pub mod Dial
@@ -73,9 +76,7 @@ pub mod Judge
 pub mod Return
 pub mod Manage
 pub mod Whole
-pub mod Write
-pub mod Waits
-pub mod Settled
+pub mod Turns
 pub mod Grown
 pub mod Legality
 pub mod Opening
