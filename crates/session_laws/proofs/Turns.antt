@@ -136,10 +136,10 @@ module _ (before : List Action) (c : Core) (g : Generations) (e : Event) (is : c
       let acted = has_acted before c e.word e.kind u.acts stands in
       let back : ComesBack (book trace).config (book trace).generation (book trace).attempt q = subst (TiedManager (book trace).config (book trace).generation (book trace).attempt) heeds heard.numbers.comes_back in
       let some : q.number ≢ 0 = λ none.
-          let links = (is_founded trace stands).first (ap is_some back.settings_are) (back.number_is ∙ none) in
-          let tied = heard.numbers.links in
-          let placed = heard.placed in
-          omega (arith, links, tied, placed) in
+      let links = (is_founded trace stands).first (ap is_some back.settings_are) (back.number_is ∙ none) in
+      let tied = heard.numbers.links in
+      let placed = heard.placed in
+      omega (arith, links, tied, placed) in
       let all = return.rests_returned trace k q (backoff q.settings q.attempt e.word) stands heard shown heeds some (failed_is (book trace) acted) (ap (backoff q.settings q.attempt) (sym (ap word_of (acted_adds before c e.word e.kind (book trace) u.acts acted).running))) in
       managed_between before c g e is h.between.began made (λ none. r.began (ap (λ (x : Turning). x.core.turns) (sym same) ∙ none)) (λ none. r.began (ap (λ (x : Turning). x.core.turns) (sym same) ∙ sym (came_kept k (what_of c g e.kind u)).turns ∙ none))
       (subst (λ (what : Comeback). return.HasReturned (trace ++ comeback_shown q e.word what) (came_back k what)) (sym (retired_rests retiring)) all)
