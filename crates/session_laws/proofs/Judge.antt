@@ -55,7 +55,7 @@ timer_shut m (Some (purpose.Resubscription l)) = else_shut (l == m) _ (λ e. cc)
 source_shut : (m : ℕ) (x : Option SourceUse) (first later : News) → first ≢ down → later ≢ down → of_source m x first later ≢ down
 source_shut m x first later one other = chosen (λ (y : News). y ≢ down) (is_source_of m x) first (for_link (renews m x) later) (λ t. one) (λ f. else_shut (renews m x) later other)
 
-news_not_shut : (timers : List Purpose) (sources : List SourceUse) (m : ℕ) (kind : EventKind) → shuts kind ≡ false → news_of timers sources m kind ≢ down
+pub news_not_shut : (timers : List Purpose) (sources : List SourceUse) (m : ℕ) (kind : EventKind) → shuts kind ≡ false → news_of timers sources m kind ≢ down
 news_not_shut timers sources m (event.Submit what) other = λ e. cc
 news_not_shut timers sources m (event.Cancel n) other = λ e. cc
 news_not_shut timers sources m (event.Connected l) other = else_shut (l == m) _ (λ e. cc)

@@ -76,6 +76,7 @@ pub mod Judge
 pub mod Return
 pub mod Manage
 pub mod Whole
+pub mod First
 pub mod Turns
 pub mod Grown
 pub mod Legality
