@@ -83,3 +83,4 @@ pub mod Legality
 pub mod Opening
 pub mod Outcomes
 pub mod RunOut
+pub mod Begins

@@ -453,11 +453,14 @@ module _ (before : List Action) (c : Core) (started : List ℕ) (g : Generations
 
   -- nothing comes where it neither wakes nor has a cause
   none_comes : k.shut ≡ false → wakes g kind ≡ false → is_due q (machine.has_ended c.single.connection.life) k.single.connection acts ≡ false → NoneComes b
-  none_comes runs asleep idle = (undue b generation_why, by_test (is_resting k.single.connection.life) _
-      (λ rests. by_test (g.number == 0) _
-      (λ none. unasked b has (inl (ap (nat_lt 0) (generation_is ∙ eq_from g.number 0 none))))
-      (λ some. unasked b has (inr (inr (inl (waits_still asleep runs rests (ne_from g.number 0 some)))))))
-      (λ there. unasked b has (inr (inl (asked_there there)))))
+  none_comes runs asleep idle = (
+    undue b generation_why,
+    by_test (is_resting k.single.connection.life) _
+        (λ rests. by_test (g.number == 0) _
+        (λ none. unasked b has (inl (ap (nat_lt 0) (generation_is ∙ eq_from g.number 0 none))))
+        (λ some. unasked b has (inr (inr (inl (waits_still asleep runs rests (ne_from g.number 0 some)))))))
+        (λ there. unasked b has (inr (inl (asked_there there)))),
+  )
     where
       over : Bool
       over = machine.has_ended c.single.connection.life
