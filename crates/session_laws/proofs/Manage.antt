@@ -96,7 +96,7 @@ next_harmless c m event.DropStream asked renewed good far less runs aims uses = 
 next_harmless c m event.Shutdown asked renewed good far less runs aims uses = cc
 
 -- a connection without a link has that for its next
-rests_links : (life : Life) (is_last : Bool) (end : Option End) (t : Inner) → is_resting life ≡ true → HasCourse is_last end t.links t.link t.shut t.manager t.last t.opened t.info t.address life → t.links ≡ t.link
+pub rests_links : (life : Life) (is_last : Bool) (end : Option End) (t : Inner) → is_resting life ≡ true → HasCourse is_last end t.links t.link t.shut t.manager t.last t.opened t.info t.address life → t.links ≡ t.link
 rests_links Resting is_last end t rests h = h.0
 rests_links Dialing is_last end t rests h = cc
 rests_links (Wanting link) is_last end t rests h = cc
@@ -166,7 +166,7 @@ rest_heeded g kind = by_rest g.rest kind
     by_rest (Some t) event.Shutdown = refl
 
 -- what wakes it is its timer
-woken_by : (g : Generations) (kind : EventKind) → wakes g kind ≡ true → (t : ℕ) × (kind ≡ event.Fired t) × (g.rest ≡ Some t)
+pub woken_by : (g : Generations) (kind : EventKind) → wakes g kind ≡ true → (t : ℕ) × (kind ≡ event.Fired t) × (g.rest ≡ Some t)
 woken_by g kind e = by_rest g.rest refl kind e
   where
     by_rest : (rest : Option ℕ) → g.rest ≡ rest → (k : EventKind) → wakes (record g { rest = rest }) k ≡ true → (t : ℕ) × (k ≡ event.Fired t) × (g.rest ≡ Some t)

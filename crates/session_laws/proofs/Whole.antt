@@ -199,7 +199,7 @@ shown_alike k q word (comeback.Dials l (Some n) timer) is = ap (λ (m : Option G
 abbrev pub what_of : Core → Generations → EventKind → Turning → Comeback
 what_of c g kind u = comeback_of (heeded g kind u.acts) (wakes g kind) (machine.has_ended c.single.connection.life) (heeding u.core kind u.acts) u.acts
 
-own_is : (c : Core) (g : Generations) (kind : EventKind) (u : Turning) → u.core.manager ≡ Some g → own_part u (machine.has_ended c.single.connection.life) kind ≡ what_of c g kind u
+pub own_is : (c : Core) (g : Generations) (kind : EventKind) (u : Turning) → u.core.manager ≡ Some g → own_part u (machine.has_ended c.single.connection.life) kind ≡ what_of c g kind u
 own_is c g kind u is = λ i. comeback_in (option_map (λ x. heeded x kind u.acts) (is i)) (wakes_in (is i) kind) (machine.has_ended c.single.connection.life) (heeding u.core kind u.acts) u.acts
 
 -- from there it leads from between two turns to between the next two
