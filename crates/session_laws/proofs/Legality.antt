@@ -2,7 +2,7 @@
 use Rattle.std.proofs.Common.{Bool, List, None, Option, Some, [], is_some, true, ap, append_assoc, false, length, refl, slice_get, subst, sym, ℕ, ◌+◌, ◌++◌, ◌∙◌, ◌∷◌, ◌≡◌, ◌<◌, nat_le, arith}
 use Rattle.std.proofs.lemmas.List.{append-nil}
 use Rattle.std.specs.Prelude.{if◌then◌else◌, ◌==◌, ◌^◌}
-use Rattle.containers.proofs.Choices.{chosen, or_right}
+use Rattle.containers.proofs.Choices.{by_test, chosen, not_both, or_right}
 use Rattle.connection_info.specs.declared.address.ConnectionInfo.{ConnectionInfo}
 use Rattle.redis_error.specs.declared.redis_error.RedisError.TheVariants as error
 use Rattle.driver_model.specs.Request.{packed_bytes, lacks_resp3}
@@ -29,9 +29,9 @@ use Rattle.shared_session.specs.declared.generations.Comeback.{Comeback}
 use Rattle.shared_session.specs.declared.generations.Comeback.TheVariants as comeback
 use Rattle.shared_session.specs.declared.generations.Generations.{Generations}
 use Rattle.shared_session.specs.Generations.{comeback_shown_in, connect_timed, generation_shown, generations_at}
-use Rattle.shared_session.specs.Turn.{Turning, actions_of, comeback_by, effects_of, last_acts, shown_behind, asked_for, counted, effect, fired_by, heard, is_bad, late_by, left_by, moved_on, refused_with, shown_each, submitted, next_turn, numbered, source_of, timer_of, spends, has_run_out}
+use Rattle.shared_session.specs.Turn.{Turning, actions_of, comeback_by, effects_of, last_acts, shown_behind, asked_for, counted, effect, fired_by, heard, is_bad, late_by, left_by, moved_on, refused_with, shown_each, submitted, next_turn, numbered, source_of, timer_of, spends, has_run_out, passed_by}
 use Rattle.shared_session.proofs.Plain.{plain_effects, plain_turn}
-use Rattle.shared_session.proofs.Spent.{room_left, passed_same}
+use Rattle.shared_session.proofs.Spent.{room_left, spent_next}
 use Rattle.shared_session.proofs.Stays.{turn_plain}
 use Rattle.shared_session.specs.declared.core_state.Core.{Core}
 use Rattle.legal_trace.specs.Book.{book}
@@ -40,6 +40,7 @@ use Rattle.legal_trace.specs.Legal.{Legal, causes, event_causes}
 use Rattle.session_laws.proofs.Announce.{same_badness}
 use Rattle.session_laws.proofs.Effects.{effect_holds}
 use Rattle.legal_trace.proofs.Plain.{same_some}
+use Rattle.mux_conn.specs.Connection.{is_used_up}
 use Rattle.session_laws.proofs.Begins.{opened_between}
 use Rattle.session_laws.proofs.Opening.{opening_unasked}
 use Rattle.session_laws.proofs.Turns.{IsUnused, manager_turn, unused_next}
@@ -155,6 +156,11 @@ abbrev IsReady : Core → Option Generations → Type 0
 IsReady c None = Unit {0}
 IsReady c (Some g) = IsUnused c g
 
+-- where no number has run out behind a turn, none has behind its passes
+unused_passes : (c : Core) (e : Event) → has_run_out (next_turn c e.kind).core ≡ false → is_used_up (passed_by (counted c) e.kind).core.single.connection ≡ false
+unused_passes c e unspent =
+    by_test (is_used_up (passed_by (counted c) e.kind).core.single.connection) _ (λ used. absurd (not_both (has_run_out (next_turn c e.kind).core) unspent (spent_next c e.kind used))) (λ f. f)
+
 -- one turn of any session that isn't spent leads on
 any_turn : (before : List Action) (c : Core) (e : Event) (m : Option Generations) → c.manager ≡ m → IsBetween before c → is_bad c e.kind ≡ false → has_run_out (next_turn c e.kind).core ≡ false → length c.table < 2 ^ 32 → IsReady c m
     → IsBetween (before ++ actions_of c e) (next_turn c e.kind).core × ((n : Option Generations) → (next_turn c e.kind).core.manager ≡ n → IsReady (next_turn c e.kind).core n)
@@ -166,11 +172,11 @@ any_turn before c e None is h good unspent room ready =
     still None f = tt
     still (Some g) f = cc
 any_turn before c e (Some g) is h good unspent room ready =
-    (manager_turn before c g e is h good unspent ready room, λ n next. later n next)
+    (manager_turn before c g e is h good (unused_passes c e unspent) ready room, λ n next. later n next)
   where
     later : (n : Option Generations) → (next_turn c e.kind).core.manager ≡ n → IsReady (next_turn c e.kind).core n
     later None next = tt
-    later (Some q) next = unused_next before c g e is h good unspent ready room q next
+    later (Some q) next = unused_next before c g e is h good (unused_passes c e unspent) ready room q next
 
 -- each turn leads on
 turns_between : (before : List Action) (c : Core) (es : List Event) → IsBetween before c → AreGoodOn c es → AreUnspentOn c es → length c.table < 2 ^ 32 → ((m : Option Generations) → c.manager ≡ m → IsReady c m)
