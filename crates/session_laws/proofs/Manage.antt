@@ -256,8 +256,6 @@ pub record HasHeard (before : List Action) (c : Core) (started : List ℕ) (g : 
   pub heeds : k.manager ≡ Some (heeded g kind acts)
   pub link : k.single.link ≡ c.single.link
   pub links : k.links ≡ c.links
-  pub unspent : is_used_up k.single.connection ≡ false
-  pub first : g.number ≡ 0 → k.shut ≡ false → NoneCame k ⊎ HasCome (book trace) k kind
 
 module _ (before : List Action) (c : Core) (started : List ℕ) (g : Generations) (word : ℕ) (kind : EventKind) (trace : List Action) (k : Core) (acts : List LinkAct) (h : HasHeard before c started g word kind trace k acts) where
   abbrev b0 : Book
@@ -376,15 +374,15 @@ module _ (before : List Action) (c : Core) (started : List ℕ) (g : Generations
       ]
 
   -- another generation begins behind a link that has ended
-  caused_returned : (e : RedisError) → k.single.connection.life ≡ Ended e → k.shut ≡ false → g.number ≢ 0 → q.halted ≡ false → is_caused b ≡ true
+  caused_returned : is_used_up k.single.connection ≡ false → (e : RedisError) → k.single.connection.life ≡ Ended e → k.shut ≡ false → g.number ≢ 0 → q.halted ≡ false → is_caused b ≡ true
       → HasReturned (trace ++ comeback_shown q word (comeback.Dials k.links (Some (q.number + 1)) (length k.timers))) (came_back k (comeback.Dials k.links (Some (q.number + 1)) (length k.timers)))
-  caused_returned e over runs some well caused =
+  caused_returned unspent e over runs some well caused =
       let there : is_resting k.single.connection.life ≡ false = ap is_resting over in
       let one : k.links ≡ k.single.link + 1 = has_links k.single.connection.life (b.link k.single.link).last (b.link k.single.link).end t there tied.course in
       let number = q.number + 1 in
       let admitted = h.fit.none (λ link r. (let no : Ended e ≡ Ready link = sym over ∙ r in cc)) in
       let waiting = h.still.none_waits (ap has_ended over) in
-      let few : k.single.connection.renewal.asked < 2 ^ 32 = not_le_from (2 ^ 32) k.single.connection.renewal.asked (or_right (is_spent_in k.single.connection.life) _ h.unspent) in
+      let few : k.single.connection.renewal.asked < 2 ^ 32 = not_le_from (2 ^ 32) k.single.connection.renewal.asked (or_right (is_spent_in k.single.connection.life) _ unspent) in
       let is_due : generation_due b ≡ true = due b has (failed_is ∙ well) (shut_is ∙ runs) (left_if (b.generation == 0) (begins_first b) (is_caused b) (ne_test b.generation 0 (λ none. some (sym generation_is ∙ none))) ∙ caused) in
       let shown = shown_over b t (Ended e) refl tied refl (refl, refl) over (λ i. kept_ids (admitted i) (waiting i)) h.ended in
       let near = h.link in
@@ -420,7 +418,7 @@ module _ (before : List Action) (c : Core) (started : List ℕ) (g : Generations
       subst (λ (x : List Action). HasReturned x (came_back k (comeback.Dials k.links (Some number) (length k.timers)))) (append_assoc trace (action.Generation number ∷ []) _) all
 
   -- where it does nothing
-  stays_returned : NoneComes b → HasReturned (trace ++ comeback_shown q word comeback.Stays) k
+  pub stays_returned : NoneComes b → HasReturned (trace ++ comeback_shown q word comeback.Stays) k
   stays_returned comes = subst (λ (x : List Action). HasReturned x k) (sym (append-nil trace)) (record {
     started = h.now;
     sound = h.sound;
@@ -452,9 +450,13 @@ module _ (before : List Action) (c : Core) (started : List ℕ) (g : Generations
       above : (n : ℕ) → n ≢ 0 → 0 < n
       above n other = omega (arith, other)
 
+  -- before its first generation no submission has come, or the first has in this turn
+  abbrev IsFirst : Type 0
+  IsFirst = g.number ≡ 0 → k.shut ≡ false → NoneCame k ⊎ HasCome (book trace) k kind
+
   -- nothing comes where it neither wakes nor has a cause
-  none_comes : k.shut ≡ false → wakes g kind ≡ false → is_due q (machine.has_ended c.single.connection.life) k.single.connection acts ≡ false → NoneComes b
-  none_comes runs asleep idle = (
+  none_comes : IsFirst → k.shut ≡ false → wakes g kind ≡ false → is_due q (machine.has_ended c.single.connection.life) k.single.connection acts ≡ false → NoneComes b
+  none_comes first_of runs asleep idle = (
     undue b generation_why,
     by_test (is_resting k.single.connection.life) _
         (λ rests. by_test (g.number == 0) _
@@ -484,7 +486,7 @@ module _ (before : List Action) (c : Core) (started : List ℕ) (g : Generations
               let zero = eq_from g.number 0 none in
               taken_if (b.generation == 0) (begins_first b) (is_caused b) (eq_test b.generation 0 (generation_is ∙ zero))
               ∙ ap (λ x. not x || is_open (b.story (b.submissions - 1))) (back.first zero)
-              ∙ elim (h.first zero runs) [
+              ∙ elim (first_of zero runs) [
                 | inl nobody ↦ opens_not nobody
                 | inr come ↦ absurd (let no : not false ≡ false = ap not (sym come.some) ∙ e in cc no)
               ]
@@ -497,9 +499,9 @@ module _ (before : List Action) (c : Core) (started : List ℕ) (g : Generations
           by_halted false is e = inr (inr (by_first (g.number == 0) refl e))
 
   -- a generation begins that is due
-  due_returned : k.shut ≡ false → is_due q (machine.has_ended c.single.connection.life) k.single.connection acts ≡ true
+  due_returned : is_used_up k.single.connection ≡ false → IsFirst → k.shut ≡ false → is_due q (machine.has_ended c.single.connection.life) k.single.connection acts ≡ true
       → HasReturned (trace ++ comeback_shown q word (comeback.Dials k.links (Some (q.number + 1)) (length k.timers))) (came_back k (comeback.Dials k.links (Some (q.number + 1)) (length k.timers)))
-  due_returned runs now = by_first (g.number == 0) refl (both_right (not q.halted) (if g.number == 0 then not (length k.single.connection.waiting == 0) else machine.is_caused over k.single.connection acts) now)
+  due_returned unspent first_of runs now = by_first (g.number == 0) refl (both_right (not q.halted) (if g.number == 0 then not (length k.single.connection.waiting == 0) else machine.is_caused over k.single.connection acts) now)
     where
       over : Bool
       over = machine.has_ended c.single.connection.life
@@ -509,17 +511,17 @@ module _ (before : List Action) (c : Core) (started : List ℕ) (g : Generations
 
       by_first : (x : Bool) → (g.number == 0) ≡ x → (if x then not (length k.single.connection.waiting == 0) else machine.is_caused over k.single.connection acts) ≡ true
           → HasReturned (trace ++ comeback_shown q word (comeback.Dials k.links (Some (q.number + 1)) (length k.timers))) (came_back k (comeback.Dials k.links (Some (q.number + 1)) (length k.timers)))
-      by_first true none e = elim (h.first (eq_from g.number 0 none) runs) [
+      by_first true none e = elim (first_of (eq_from g.number 0 none) runs) [
         | inl nobody ↦ absurd (let no : not true ≡ true = ap (λ (ws : List Waiting). not (length ws == 0)) (sym nobody.waiting) ∙ e in cc no)
         | inr come ↦ first_returned come runs (eq_from g.number 0 none) well
       ]
       by_first false some e =
           let life = ended_is k.single.connection.life (both_left (machine.has_ended k.single.connection.life) _ e) in
-          caused_returned life.0 life.1 runs (ne_from g.number 0 some) well (judged before c started word kind b acts t (acted runs) ∙ e)
+          caused_returned unspent life.0 life.1 runs (ne_from g.number 0 some) well (judged before c started word kind b acts t (acted runs) ∙ e)
 
   -- so whatever it does of its own
-  pub returned : let what = comeback_of q (wakes g kind) (machine.has_ended c.single.connection.life) k acts in HasReturned (trace ++ comeback_shown q word what) (came_back k what)
-  returned =
+  pub returned : is_used_up k.single.connection ≡ false → IsFirst → let what = comeback_of q (wakes g kind) (machine.has_ended c.single.connection.life) k acts in HasReturned (trace ++ comeback_shown q word what) (came_back k what)
+  returned unspent first_of =
       let over = machine.has_ended c.single.connection.life in
       let so = λ (what : Comeback). HasReturned (trace ++ comeback_shown q word what) (came_back k what) in
       let dials = comeback.Dials k.links (Some (q.number + 1)) (length k.timers) in
@@ -527,7 +529,7 @@ module _ (before : List Action) (c : Core) (started : List ℕ) (g : Generations
       let awake = if wakes g kind then comeback.Dials k.links None (length k.timers) else again in
       let open_still = if k.shut then comeback.Stays else awake in
       chosen so (is_used_up k.single.connection) comeback.Stays (if rests k then comeback.Rests q.number q.attempt (length k.timers) else open_still)
-      (λ used. absurd (not_both (is_used_up k.single.connection) h.unspent used))
+      (λ used. absurd (not_both (is_used_up k.single.connection) unspent used))
       (λ unused. chosen so (rests k) (comeback.Rests q.number q.attempt (length k.timers)) open_still
       (λ waits. absurd (
       let none = rests_links k.single.connection.life (b.link k.single.link).last (b.link k.single.link).end t (both_left (is_resting k.single.connection.life) (nat_lt k.single.link k.links) waits) tied.course in
@@ -538,5 +540,5 @@ module _ (before : List Action) (c : Core) (started : List ℕ) (g : Generations
       (λ runs. chosen so (wakes g kind) (comeback.Dials k.links None (length k.timers)) again
       (λ w. wakes_returned w runs)
       (λ asleep. chosen so (is_due q over k.single.connection acts) dials comeback.Stays
-      (λ now. due_returned runs now)
-      (λ idle. stays_returned (none_comes runs asleep idle))))))
+      (λ now. due_returned unspent first_of runs now)
+      (λ idle. stays_returned (none_comes first_of runs asleep idle))))))

@@ -22,9 +22,9 @@ use Rattle.shared_session.specs.declared.generations.Comeback.TheVariants as com
 use Rattle.shared_session.specs.declared.generations.Generations.{Generations}
 use Rattle.shared_session.specs.Generations as machine
 use Rattle.shared_session.specs.Generations.{begun_with, came_back, comeback_of, comeback_shown, creation_fails, failed_behind, heeded, heeding, is_due, rests, wakes}
-use Rattle.shared_session.specs.Turn.{Turning, actions_of, come_back_behind, counted, effect, ended_apart, flushed_apart, has_run_out, is_bad, is_shutdown, next_turn, numbered, passed_by, shown_each, with_work, work_of}
+use Rattle.shared_session.specs.Turn.{Turning, actions_of, come_back_behind, counted, effect, ended_apart, flushed_apart, is_bad, is_shutdown, next_turn, numbered, passed_by, shown_each, with_work, work_of}
 use Rattle.shared_session.proofs.Comebacks.{Suits, came_kept, suits_in}
-use Rattle.shared_session.proofs.Spent.{passed_same, spent_next}
+use Rattle.shared_session.proofs.Spent.{passed_same}
 use Rattle.legal_trace.specs.Book.{Book, blank_book, book, shuts}
 use Rattle.legal_trace.specs.Legal.{AllStand, IsShown, NoneEnds, word_of}
 use Rattle.legal_trace.proofs.Moves.{lt_test}
@@ -104,7 +104,7 @@ flushed_idle conn h =
     ∙ ap (λ ns. fresh_each_shown z ns) h.fresh in
     subst (λ (x : Work). IsIdle x.conn) (sym same) (record { life = h.life; requests = h.requests; waiting = h.waiting; admitted = h.admitted; fresh = refl; moved = refl; free = h.free })
 
-module _ (before : List Action) (c : Core) (g : Generations) (e : Event) (is : c.manager ≡ Some g) (h : IsBetween before c) (good : is_bad c e.kind ≡ false) (unspent : has_run_out (next_turn c e.kind).core ≡ false) (idle : IsUnused c g) where
+module _ (before : List Action) (c : Core) (g : Generations) (e : Event) (is : c.manager ≡ Some g) (h : IsBetween before c) (good : is_bad c e.kind ≡ false) (unused : is_used_up (passed_by (counted c) e.kind).core.single.connection ≡ false) (idle : IsUnused c g) where
   abbrev t : Turning
   t = effect (counted c) e.kind
 
@@ -137,10 +137,6 @@ module _ (before : List Action) (c : Core) (g : Generations) (e : Event) (is : c
 
   heeds : k.manager ≡ Some q
   heeds = ap (option_map (λ x. heeded x e.kind u.acts)) made
-
-  -- no number has run out
-  unused : is_used_up p.core.single.connection ≡ false
-  unused = by_test (is_used_up p.core.single.connection) _ (λ used. absurd (not_both (has_run_out (next_turn c e.kind).core) unspent (spent_next c e.kind used))) (λ f. f)
 
   -- the creation failed for both
   failed_is : (b : Book) → HasActed before c e.word e.kind b u.acts → b.failed ≡ q.halted
@@ -180,31 +176,34 @@ module _ (before : List Action) (c : Core) (g : Generations) (e : Event) (is : c
         })
   ]
 
+  -- the session behind the passes
+  sound_so : (m : HasMoved front t.core (passed (work_of t))) → Sound trace (inner u.core m.started)
+  sound_so m = subst (λ (x : List Action). Sound x (inner u.core m.started)) trace_is m.holds
+
+  heard_so : (m : HasMoved front t.core (passed (work_of t))) → HasHeard before c h.started g e.word e.kind trace k u.acts
+  heard_so m = record {
+    managed = is;
+    between = h.between;
+    good = good;
+    acted = has_acted before c e.word e.kind u.acts (sound_so m).stands;
+    now = m.started;
+    sound = record { stands = (sound_so m).stands; tied = heeds_tied (book trace) u.core e.kind u.acts m.started (sound_so m).tied };
+    ended = subst (λ (x : List Action). NoneEnds (book x)) trace_is m.ended;
+    fit = m.fit;
+    still = m.still;
+    seats = m.seats;
+    hushed = m.hushed;
+    heeds = heeds;
+    link = (passed_same (counted c) e.kind).link;
+    links = (passed_same (counted c) e.kind).links;
+  }
+
   -- behind the passes
   moved_between : HasApplied front t h.started → IsBetween (before ++ actions_of c e) (next_turn c e.kind).core
   moved_between applied =
       let m = applied_moved front t h.started applied in
-      let sound : Sound trace (inner u.core m.started) = subst (λ (x : List Action). Sound x (inner u.core m.started)) trace_is m.holds in
-      let s = passed_same (counted c) e.kind in
       managed_between before c g e is h.between.began made applied.began (λ none. applied.began (sym (came_kept k (what_of c g e.kind u)).turns ∙ none))
-      (returned before c h.started g e.word e.kind trace k u.acts (record {
-        managed = is;
-        between = h.between;
-        good = good;
-        acted = has_acted before c e.word e.kind u.acts sound.stands;
-        now = m.started;
-        sound = record { stands = sound.stands; tied = heeds_tied (book trace) u.core e.kind u.acts m.started sound.tied };
-        ended = subst (λ (x : List Action). NoneEnds (book x)) trace_is m.ended;
-        fit = m.fit;
-        still = m.still;
-        seats = m.seats;
-        hushed = m.hushed;
-        heeds = heeds;
-        link = s.link;
-        links = s.links;
-        unspent = unused;
-        first = first_comes m.started sound.tied (has_acted before c e.word e.kind u.acts sound.stands);
-      }))
+      (returned before c h.started g e.word e.kind trace k u.acts (heard_so m) unused (first_comes m.started (sound_so m).tied (has_acted before c e.word e.kind u.acts (sound_so m).stands)))
 
   -- behind an attempt that failed the passes leave it
   retired_same : HasRetired front t → p ≡ t
