@@ -31,7 +31,7 @@ use Rattle.shared_session.specs.declared.generations.Generations.{Generations}
 use Rattle.shared_session.specs.Generations.{comeback_shown_in, connect_timed, generation_shown, generations_at}
 use Rattle.shared_session.specs.Turn.{Turning, actions_of, comeback_by, effects_of, last_acts, shown_behind, asked_for, counted, effect, fired_by, heard, is_bad, late_by, left_by, moved_on, refused_with, shown_each, submitted, next_turn, numbered, source_of, timer_of, spends, has_run_out, passed_by}
 use Rattle.shared_session.proofs.Plain.{plain_effects, plain_turn}
-use Rattle.shared_session.proofs.Spent.{room_left, spent_next}
+use Rattle.shared_session.proofs.Spent.{passed_same, room_left, spent_next}
 use Rattle.shared_session.proofs.Stays.{turn_plain}
 use Rattle.shared_session.specs.declared.core_state.Core.{Core}
 use Rattle.legal_trace.specs.Book.{book}

@@ -104,38 +104,38 @@ flushed_idle conn h =
     ∙ ap (λ ns. fresh_each_shown z ns) h.fresh in
     subst (λ (x : Work). IsIdle x.conn) (sym same) (record { life = h.life; requests = h.requests; waiting = h.waiting; admitted = h.admitted; fresh = refl; moved = refl; free = h.free })
 
-module _ (before : List Action) (c : Core) (g : Generations) (e : Event) (is : c.manager ≡ Some g) (h : IsBetween before c) (good : is_bad c e.kind ≡ false) (unused : is_used_up (passed_by (counted c) e.kind).core.single.connection ≡ false) (idle : IsUnused c g) where
-  abbrev t : Turning
+module _ (before : List Action) (c : Core) (g : Generations) (e : Event) (is : c.manager ≡ Some g) (h : IsBetween before c) (good : is_bad c e.kind ≡ false) where
+  abbrev pub t : Turning
   t = effect (counted c) e.kind
 
-  abbrev p : Turning
+  abbrev pub p : Turning
   p = passed_by (counted c) e.kind
 
-  abbrev u : Turning
+  abbrev pub u : Turning
   u = numbered p
 
-  abbrev k : Core
+  abbrev pub k : Core
   k = heeding u.core e.kind u.acts
 
-  abbrev q : Generations
+  abbrev pub q : Generations
   q = heeded g e.kind u.acts
 
-  abbrev front : List Action
+  abbrev pub front : List Action
   front = before ++ turn_of c e.word e.kind ∷ []
 
-  abbrev trace : List Action
+  abbrev pub trace : List Action
   trace = front ++ shown_each c.single.link (length c.timers) (length c.sources) u.acts
 
   -- the trace by the numbers of the turn
-  trace_is : trace_of_acts front t.core u.acts ≡ trace
+  pub trace_is : trace_of_acts front t.core u.acts ≡ trace
   trace_is =
       let s = passed_same (counted c) e.kind in
       λ i. front ++ shown_each (s.link i) (length (s.timers i)) (length (s.sources i)) u.acts
 
-  made : u.core.manager ≡ Some g
+  pub made : u.core.manager ≡ Some g
   made = (passed_same (counted c) e.kind).manager ∙ is
 
-  heeds : k.manager ≡ Some q
+  pub heeds : k.manager ≡ Some q
   heeds = ap (option_map (λ x. heeded x e.kind u.acts)) made
 
   -- the creation failed for both
@@ -145,8 +145,8 @@ module _ (before : List Action) (c : Core) (g : Generations) (e : Event) (is : c
       (acted_adds before c e.word e.kind b u.acts acted).failed ∙ ap (λ (x : Bool). x || creation_fails u.acts) heed.failed_is
 
   -- so far it has come where everything wasn't shut down before its first generation
-  come_so : g.number ≡ 0 → (b : Book) (acted : HasActed before c e.word e.kind b u.acts) → b.shut ≡ false → StaysIdle t ⊎ HasFirst e.kind t
-  come_so none b acted runs =
+  come_so : IsUnused c g → g.number ≡ 0 → (b : Book) (acted : HasActed before c e.word e.kind b u.acts) → b.shut ≡ false → StaysIdle t ⊎ HasFirst e.kind t
+  come_so idle none b acted runs =
       let added = acted_adds before c e.word e.kind b u.acts acted in
       let was = h.between.sound.tied.numbers.shut in
       let awake : c.shut ≡ false = sym was ∙ or_left (book before).shut (shuts e.kind) (sym added.shut ∙ runs) in
@@ -160,8 +160,8 @@ module _ (before : List Action) (c : Core) (g : Generations) (e : Event) (is : c
   first_same f = resting_passed (work_of t) f.life f.admitted
 
   -- whether the first submission has come
-  first_comes : (started : List ℕ) → Tied (book trace) (inner u.core started) → (acted : HasActed before c e.word e.kind (book trace) u.acts) → g.number ≡ 0 → k.shut ≡ false → NoneCame k ⊎ HasCome (book trace) k e.kind
-  first_comes started tied acted none runs = elim (come_so none (book trace) acted (tied.numbers.shut ∙ runs)) [
+  first_comes : IsUnused c g → (started : List ℕ) → Tied (book trace) (inner u.core started) → (acted : HasActed before c e.word e.kind (book trace) u.acts) → g.number ≡ 0 → k.shut ≡ false → NoneCame k ⊎ HasCome (book trace) k e.kind
+  first_comes idle started tied acted none runs = elim (come_so idle none (book trace) acted (tied.numbers.shut ∙ runs)) [
     | inl s ↦ inl (record { requests = ap (λ (w : Work). w.conn.requests) (idle_same s) ∙ s.idle.requests; waiting = ap (λ (w : Work). w.conn.waiting) (idle_same s) ∙ s.idle.waiting })
     | inr f ↦
         let same = first_same f in
@@ -177,10 +177,10 @@ module _ (before : List Action) (c : Core) (g : Generations) (e : Event) (is : c
   ]
 
   -- the session behind the passes
-  sound_so : (m : HasMoved front t.core (passed (work_of t))) → Sound trace (inner u.core m.started)
+  pub sound_so : (m : HasMoved front t.core (passed (work_of t))) → Sound trace (inner u.core m.started)
   sound_so m = subst (λ (x : List Action). Sound x (inner u.core m.started)) trace_is m.holds
 
-  heard_so : (m : HasMoved front t.core (passed (work_of t))) → HasHeard before c h.started g e.word e.kind trace k u.acts
+  pub heard_so : (m : HasMoved front t.core (passed (work_of t))) → HasHeard before c h.started g e.word e.kind trace k u.acts
   heard_so m = record {
     managed = is;
     between = h.between;
@@ -199,19 +199,19 @@ module _ (before : List Action) (c : Core) (g : Generations) (e : Event) (is : c
   }
 
   -- behind the passes
-  moved_between : HasApplied front t h.started → IsBetween (before ++ actions_of c e) (next_turn c e.kind).core
-  moved_between applied =
+  moved_between : is_used_up p.core.single.connection ≡ false → IsUnused c g → HasApplied front t h.started → IsBetween (before ++ actions_of c e) (next_turn c e.kind).core
+  moved_between unused idle applied =
       let m = applied_moved front t h.started applied in
       managed_between before c g e is h.between.began made applied.began (λ none. applied.began (sym (came_kept k (what_of c g e.kind u)).turns ∙ none))
-      (returned before c h.started g e.word e.kind trace k u.acts (heard_so m) unused (first_comes m.started (sound_so m).tied (has_acted before c e.word e.kind u.acts (sound_so m).stands)))
+      (returned before c h.started g e.word e.kind trace k u.acts (heard_so m) unused (first_comes idle m.started (sound_so m).tied (has_acted before c e.word e.kind u.acts (sound_so m).stands)))
 
   -- behind an attempt that failed the passes leave it
-  retired_same : HasRetired front t → p ≡ t
+  pub retired_same : HasRetired front t → p ≡ t
   retired_same r = ap (with_work t) (resting_passed (work_of t) r.retiring.rests r.retiring.admitted)
 
   -- and so it rests
-  retired_rests : (r : IsRetiring (book trace) (inner u.core [])) → what_of c g e.kind u ≡ comeback.Rests q.number q.attempt (length k.timers)
-  retired_rests r =
+  retired_rests : is_used_up p.core.single.connection ≡ false → (r : IsRetiring (book trace) (inner u.core [])) → what_of c g e.kind u ≡ comeback.Rests q.number q.attempt (length k.timers)
+  retired_rests unused r =
       let placed = r.placed in
       left_if (is_used_up k.single.connection) comeback.Stays _ unused
       ∙ taken_if (rests k) (comeback.Rests q.number q.attempt (length k.timers)) _ ((λ i. is_resting (r.rests i) && lt_test k.single.link k.links (omega (arith, placed)) i))
@@ -230,8 +230,8 @@ module _ (before : List Action) (c : Core) (g : Generations) (e : Event) (is : c
       let placed = retiring.placed in
       omega (arith, links, tied, placed)
 
-  retired_between : HasRetired front t → IsBetween (before ++ actions_of c e) (next_turn c e.kind).core
-  retired_between r =
+  retired_between : is_used_up p.core.single.connection ≡ false → HasRetired front t → IsBetween (before ++ actions_of c e) (next_turn c e.kind).core
+  retired_between unused r =
       let same = retired_same r in
       let stands : AllStand blank_book trace = subst (AllStand blank_book) trace_is (subst (λ (x : Turning). AllStand blank_book (trace_of_acts front t.core x.acts)) (sym same) r.stands) in
       let shown : IsShown (book trace) = subst (λ (x : List Action). IsShown (book x)) trace_is (subst (λ (x : Turning). IsShown (book (trace_of_acts front t.core x.acts))) (sym same) r.shown) in
@@ -244,11 +244,11 @@ module _ (before : List Action) (c : Core) (g : Generations) (e : Event) (is : c
       let some = retired_some r in
       let all = return.rests_returned trace k q (backoff q.settings q.attempt e.word) stands heard shown heeds some (failed_is (book trace) acted) (ap (backoff q.settings q.attempt) (sym (ap word_of (acted_adds before c e.word e.kind (book trace) u.acts acted).running))) in
       managed_between before c g e is h.between.began made (λ none. r.began (ap (λ (x : Turning). x.core.turns) (sym same) ∙ none)) (λ none. r.began (ap (λ (x : Turning). x.core.turns) (sym same) ∙ sym (came_kept k (what_of c g e.kind u)).turns ∙ none))
-      (subst (λ (what : Comeback). return.HasReturned (trace ++ comeback_shown q e.word what) (came_back k what)) (sym (retired_rests retiring)) all)
+      (subst (λ (what : Comeback). return.HasReturned (trace ++ comeback_shown q e.word what) (came_back k what)) (sym (retired_rests unused retiring)) all)
 
   -- so whatever the event does
-  pub manager_turn : length c.table < 2 ^ 32 → IsBetween (before ++ actions_of c e) (next_turn c e.kind).core
-  manager_turn room = elim (effect_holds before c h.started e.word e.kind h.between good room) [ inl applied ↦ moved_between applied | inr retired ↦ retired_between retired ]
+  pub manager_turn : is_used_up p.core.single.connection ≡ false → IsUnused c g → length c.table < 2 ^ 32 → IsBetween (before ++ actions_of c e) (next_turn c e.kind).core
+  manager_turn unused idle room = elim (effect_holds before c h.started e.word e.kind h.between good room) [ inl applied ↦ moved_between unused idle applied | inr retired ↦ retired_between unused retired ]
 
   -- what it does of its own, by the cases
   abbrev over : Bool
@@ -258,8 +258,8 @@ module _ (before : List Action) (c : Core) (g : Generations) (e : Event) (is : c
   dials = comeback.Dials k.links (Some (q.number + 1)) (length k.timers)
 
   -- before its first generation it neither rests nor wakes
-  unnumbered : g.number ≡ 0 → c.shut ≡ false → k.shut ≡ false → what_of c g e.kind u ≡ (if is_due q over k.single.connection u.acts then dials else comeback.Stays)
-  unnumbered none awake runs =
+  unnumbered : is_used_up p.core.single.connection ≡ false → IsUnused c g → g.number ≡ 0 → c.shut ≡ false → k.shut ≡ false → what_of c g e.kind u ≡ (if is_due q over k.single.connection u.acts then dials else comeback.Stays)
+  unnumbered unused idle none awake runs =
       let again = if is_due q over k.single.connection u.acts then dials else comeback.Stays in
       let woken = if wakes g e.kind then comeback.Dials k.links None (length k.timers) else again in
       let going = if k.shut then comeback.Stays else woken in
@@ -295,9 +295,9 @@ module _ (before : List Action) (c : Core) (g : Generations) (e : Event) (is : c
   first_due none = ap (λ (x : Bool). not q.halted && x) (taken_if (g.number == 0) (not (length k.single.connection.waiting == 0)) _ (eq_test g.number 0 none))
 
   -- it is unused behind the turn, where it hasn't begun
-  pub unused_next : length c.table < 2 ^ 32 → (later : Generations) → (next_turn c e.kind).core.manager ≡ Some later → IsUnused (next_turn c e.kind).core later
+  pub unused_next : is_used_up p.core.single.connection ≡ false → IsUnused c g → length c.table < 2 ^ 32 → (later : Generations) → (next_turn c e.kind).core.manager ≡ Some later → IsUnused (next_turn c e.kind).core later
   unfolding next_turn
-  unused_next room later behind none runs =
+  unused_next unused idle room later behind none runs =
       let what = what_of c g e.kind u in
       let next : next_turn c e.kind ≡ ended_apart u over e.kind = taken_if (is_some c.manager) (ended_apart u over e.kind) _ (ap is_some is) in
       let came : come_back_behind u over e.kind ≡ came_back k what = ap (came_back k) (own_is c g e.kind u made) in
@@ -313,11 +313,11 @@ module _ (before : List Action) (c : Core) (g : Generations) (e : Event) (is : c
             let open_still : (book trace).shut ≡ false = sound.tied.numbers.shut ∙ awake in
             let was : c.shut ≡ false = sym h.between.sound.tied.numbers.shut ∙ or_left (book before).shut (shuts e.kind) (sym (acted_adds before c e.word e.kind (book trace) u.acts acted).shut ∙ open_still) in
             let well : g.halted ≡ false = (idle all.0 was).1 in
-            elim (come_so all.0 (book trace) acted open_still) [
+            elim (come_so idle all.0 (book trace) acted open_still) [
               | inl s ↦
                   let same = idle_same s in
                   let no_due : is_due q over k.single.connection u.acts ≡ false = first_due all.0 ∙ ap (λ (w : Work). not q.halted && not (length w.conn.waiting == 0)) same ∙ ap (λ (ws : List Waiting). not q.halted && not (length ws == 0)) s.idle.waiting ∙ none_of (not q.halted) in
-                  let stays : what ≡ comeback.Stays = unnumbered all.0 was awake ∙ left_if (is_due q over k.single.connection u.acts) dials comeback.Stays no_due in
+                  let stays : what ≡ comeback.Stays = unnumbered unused idle all.0 was awake ∙ left_if (is_due q over k.single.connection u.acts) dials comeback.Stays no_due in
                   let there : (next_turn c e.kind).core ≡ record k { single = record k.single { connection = (flushed_apart k).conn } } =
                   ap (λ (x : Turning). x.core) next ∙ ap (λ (x : Core). record x { single = record x.single { connection = (flushed_apart x).conn } }) (came ∙ ap (came_back k) stays) in
                   let kept : q ≡ later = same_some q later (sym heeds ∙ sym (ap (λ (w : Comeback). (came_back k w).manager) stays) ∙ managed) in
@@ -331,7 +331,7 @@ module _ (before : List Action) (c : Core) (g : Generations) (e : Event) (is : c
                   let is_now : is_due q over k.single.connection u.acts ≡ true =
                   first_due all.0 ∙ ap (λ (w : Work). not q.halted && not (length w.conn.waiting == 0)) same ∙ ap (λ (ws : List Waiting). not q.halted && not (length ws == 0)) f.waits
                   ∙ (λ i. not (well i || calm i) && not (ne_test 1 0 (λ no. absurd (omega (arith, no))) i)) in
-                  absurd (subst BeginsNone (unnumbered all.0 was awake ∙ taken_if (is_due q over k.single.connection u.acts) dials comeback.Stays is_now) all.1)
+                  absurd (subst BeginsNone (unnumbered unused idle all.0 was awake ∙ taken_if (is_due q over k.single.connection u.acts) dials comeback.Stays is_now) all.1)
             ]
       ]
     where
