@@ -1,7 +1,7 @@
 -- What a session does of its own: while its link goes on, no generation begins, and no link is asked for.
-use Rattle.std.proofs.Common.{◌≡◌, ◌≢◌, ℕ, ◌+◌, ◌-◌, ◌==◌, nat_lt, if◌then◌else◌, Bool, true, false, not, ◌&&◌, ◌||◌, List, [], ◌∷◌, Option, Some, None, is_none, is_some, refl, sym, ap, ◌∙◌, subst, arith}
+use Rattle.std.proofs.Common.{◌≡◌, ◌≢◌, ℕ, ◌+◌, ◌-◌, ◌==◌, nat_lt, if◌then◌else◌, Bool, true, false, not, ◌&&◌, ◌||◌, Option, Some, None, is_none, is_some, refl, sym, ap, ◌∙◌, subst, arith}
 use Rattle.std.specs.List.{list_any}
-use Rattle.containers.proofs.Choices.{by_test, chosen, eq_from, left_if, ne_from, ne_test, not_both, taken_if}
+use Rattle.containers.proofs.Choices.{by_test, chosen, left_if, ne_test, not_both, taken_if}
 use Rattle.redis_error.specs.declared.redis_error.RedisError.{RedisError}
 use Rattle.connection_info.specs.declared.address.RedisConnectionInfo.{RedisConnectionInfo}
 use Rattle.connection_info.specs.Protocol.{is_resp3}
@@ -16,7 +16,7 @@ use Rattle.shared_session.specs.declared.generations.Generations.{Generations}
 use Rattle.legal_trace.specs.Book.{Book, entered, has_generations, info_in}
 use Rattle.legal_trace.specs.Ledger.{End, Ending, Ledger, ending, is_over, by_shutdown, by_fault, by_opening, by_attempt}
 use Rattle.legal_trace.specs.Legal.{begins_first, current_link, generation_due, is_attempt, is_by_attempt, is_cause, is_caused, is_lost, is_lost_in, link_due, rest_due}
-use Rattle.legal_trace.specs.Managers.{is_lazy, settings_in}
+use Rattle.legal_trace.specs.Managers.{is_lazy}
 use Rattle.legal_trace.specs.Owed.{owed_by, owed_unstarted}
 use Rattle.legal_trace.specs.Story.{Story, is_open, waits}
 use Rattle.session_laws.proofs.Aside.{not_up_ends}
