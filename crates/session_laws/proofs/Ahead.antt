@@ -37,7 +37,8 @@ use Rattle.session_laws.proofs.Rounded.{admitted_begun, has_begun, placed_begun,
 use Rattle.legal_trace.proofs.Again.{unwanted_is_served}
 use Rattle.session_laws.proofs.SetUp.{not_set_up, lacking_unset}
 use Rattle.session_laws.proofs.States.{IsFit}
-use Rattle.session_laws.proofs.Tied.{AreSought, HasSaid, Inner, IsQueued, Tied, TiedLife, TiedNames, TiedNumbers, carried, has_ended, link_in, owner_of, queue_ids, shown_wait, waiting_ids, whole_link}
+use Rattle.session_laws.proofs.Server.{AreSought, HasSaid}
+use Rattle.session_laws.proofs.Tied.{Inner, IsQueued, Tied, TiedLife, TiedNames, TiedNumbers, carried, has_ended, link_in, owner_of, queue_ids, shown_wait, waiting_ids, whole_link}
 
 -- counts
 --

@@ -39,7 +39,8 @@ use Rattle.session_laws.proofs.Rounded.{rounds_closed, early_closed}
 use Rattle.session_laws.proofs.Aside.{aside_silent}
 use Rattle.session_laws.proofs.Renewals.{renewal_alike}
 use Rattle.session_laws.proofs.Numbers.{IsIn, in_left, in_right, in_either, Rising, rising_from, rising_in, rising_right, rising_tail, requests_in, request_in, request_of, request_other, requests_first}
-use Rattle.session_laws.proofs.Tied.{carried, inner, no_link, link_in, owner_of, queue_ids, whole_link, IsQueued, IsEntry, AreQueued, TiedCreds, TiedLife, TiedStory, TiedNames, TiedNumbers, TiedPermits, TiedLines, TiedSetup, IsAside, Tied, has_ended, TiedRenewal, greeter, TiedRounds, HasCourse, TiedNotices, hearing_at, AreEarly}
+use Rattle.session_laws.proofs.Server.{TiedCreds, TiedSetup, TiedRenewal, hearing_at}
+use Rattle.session_laws.proofs.Tied.{carried, inner, no_link, link_in, owner_of, queue_ids, whole_link, IsQueued, IsEntry, AreQueued, TiedLife, TiedStory, TiedNames, TiedNumbers, TiedPermits, TiedLines, IsAside, Tied, has_ended, greeter, TiedRounds, HasCourse, TiedNotices, AreEarly}
 use Rattle.session_laws.proofs.States.{IsFit, IsFitIn, Between, HasApplied, IsStopped}
 use Rattle.session_laws.proofs.Names.{name_within, open_within, name_of_some, owners_with, length_with, names_with, with_other, with_then, request_not}
 use Rattle.session_laws.proofs.InLine.{row_ids, kept_ids, chosen_in, awaited_in, wanted_in}

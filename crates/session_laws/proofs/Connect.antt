@@ -30,7 +30,8 @@ use Rattle.legal_trace.specs.Book.{Book, blank_book, book, entered, if_mine, use
 use Rattle.legal_trace.specs.Legal.{AllStand, MayNeed, is_attempt, is_by_attempt}
 use Rattle.session_laws.proofs.Rounded.{rounds_down}
 use Rattle.session_laws.proofs.Aside.{unfailed, not_up_ends}
-use Rattle.session_laws.proofs.Tied.{shown_creation, AreQueued, AreSought, HasSaid, inner, no_link, link_in, carried, whole_link, owner_of, Tied, TiedLife, TiedLines, has_ended, AreUses, on_link, hearing_there, IsOver}
+use Rattle.session_laws.proofs.Server.{AreSought, HasSaid, on_link, hearing_there}
+use Rattle.session_laws.proofs.Tied.{shown_creation, AreQueued, inner, no_link, link_in, carried, whole_link, owner_of, Tied, TiedLife, TiedLines, has_ended, AreUses, IsOver}
 use Rattle.session_laws.proofs.Unrepeated.{unrepeated_lined}
 use Rattle.session_laws.proofs.Creds.{down_sourced}
 use Rattle.session_laws.proofs.Said.{ending_wanting, ready_heard, setting_heard, setup_hears, dropped_end, PushesOf, pushes_there, renoticed}

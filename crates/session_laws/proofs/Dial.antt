@@ -25,7 +25,8 @@ use Rattle.session_laws.proofs.Ahead.{waiting_open}
 use Rattle.session_laws.proofs.Kept.{TiedBy, mine_noted, tied_by}
 use Rattle.session_laws.proofs.Numbers.{IsIn, Rising, requests_in, rising_right}
 use Rattle.session_laws.proofs.Rounded.{rounds_down}
-use Rattle.session_laws.proofs.Tied.{AreAimed, AreAside, AreQueued, AreSought, HasCourse, HasSaid, IsAside, IsUse, Inner, NoneRenewed, Tied, TiedLife, TiedLines, TiedRenewal, TiedRounds, carried, has_ended, is_begun, link_in, no_link, owner_of, owners_each, owners_of, setup_owners, waiting_ids, whole_link}
+use Rattle.session_laws.proofs.Server.{AreSought, HasSaid, NoneRenewed, TiedRenewal, owners_of, setup_owners}
+use Rattle.session_laws.proofs.Tied.{AreAimed, AreAside, AreQueued, HasCourse, IsAside, IsUse, Inner, Tied, TiedLife, TiedLines, TiedRounds, carried, has_ended, is_begun, link_in, no_link, owner_of, owners_each, waiting_ids, whole_link}
 use Rattle.session_laws.proofs.Unrepeated.{sound_repeats_not}
 
 -- the line that its connect is

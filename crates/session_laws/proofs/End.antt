@@ -31,7 +31,8 @@ use Rattle.shared_session.specs.Turn.{with_work, is_bad, is_shutdown}
 use Rattle.legal_trace.specs.Ledger.{Ledger, by_fault, by_opening, by_shutdown, ends, hears, noted, ending, ending_alive, ending_unready, ending_up, is_over, is_set_up, lacks_credentials, fault_error, opening_error, monitor_among, reach, Start, setup_count, is_full}
 use Rattle.legal_trace.specs.Book.{Book, book, hearing_in}
 use Rattle.session_laws.proofs.Numbers.{IsIn}
-use Rattle.session_laws.proofs.Tied.{AreSought, HasCredentials, Inner, inner, link_in, no_link, carried, whole_link, owner_of, queue_ids, HasSaid, Tied, TiedLife, has_ended, IsGreeting, IsWatchSent, greeter, on_link, hearing_on, hearing_there, TiedNotices, is_reading}
+use Rattle.session_laws.proofs.Server.{AreSought, HasCredentials, HasSaid, IsGreeting, IsWatchSent, on_link, hearing_on, hearing_there}
+use Rattle.session_laws.proofs.Tied.{Inner, inner, link_in, no_link, carried, whole_link, owner_of, queue_ids, Tied, TiedLife, has_ended, greeter, TiedNotices, is_reading}
 use Rattle.session_laws.proofs.Creds.{asked_sourced, has_sourced, wanting_lacks}
 use Rattle.session_laws.proofs.SetUp.{not_set_up, lacking_unset, alone_unwatched}
 use Rattle.session_laws.proofs.Said.{ending_wanting, ready_heard, setting_heard, setting_told, renoticed, PushesOf}

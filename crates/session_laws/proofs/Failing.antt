@@ -26,7 +26,8 @@ use Rattle.legal_trace.specs.Owed.{owed_by, owed_to_try, owed_unstarted, owed_wa
 use Rattle.legal_trace.specs.Legal.{AllStand, FailuresAreShown, MayClose, MayFail, NoneEnds, ReadyIsShown, VerdictsAreShown, NoneIsOwed}
 use Rattle.session_laws.proofs.Rounded.{rounds_down}
 use Rattle.session_laws.proofs.Numbers.{IsIn}
-use Rattle.session_laws.proofs.Tied.{shown_creation, AreSetups, inner, link_in, no_link, TiedLines, Tied, has_ended}
+use Rattle.session_laws.proofs.Server.{AreSetups}
+use Rattle.session_laws.proofs.Tied.{shown_creation, inner, link_in, no_link, TiedLines, Tied, has_ended}
 use Rattle.session_laws.proofs.Unrepeated.{unrepeated_lined}
 use Rattle.session_laws.proofs.States.{Between, HasApplied}
 use Rattle.session_laws.proofs.Entered.{all_stand-append, shown_more}

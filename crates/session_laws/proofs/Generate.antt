@@ -31,7 +31,8 @@ use Rattle.session_laws.proofs.Owes.{ends_told, notices_told}
 use Rattle.session_laws.proofs.Renewals.{down_renewed_due}
 use Rattle.session_laws.proofs.Reopen.{ArePast, HasNoLink, aim_later, at_rest, none_held, use_later}
 use Rattle.session_laws.proofs.Rounded.{unbegun_waits}
-use Rattle.session_laws.proofs.Tied.{AreLate, AreQueued, AreSought, HasCourse, HasSaid, IsAside, IsPacked, Inner, NoneRenewed, TiedTries, carried, has_ended, whole_link, Tied, TiedLife, TiedLines, TiedManager, TiedPermits, TiedRenewal, TiedRounds, TiedStory, TiedWaits, no_link, link_in, waiting_ids}
+use Rattle.session_laws.proofs.Server.{AreSought, HasSaid, NoneRenewed, TiedRenewal}
+use Rattle.session_laws.proofs.Tied.{AreLate, AreQueued, HasCourse, IsAside, IsPacked, Inner, TiedTries, carried, has_ended, whole_link, Tied, TiedLife, TiedLines, TiedManager, TiedPermits, TiedRounds, TiedStory, TiedWaits, no_link, link_in, waiting_ids}
 
 -- that one begins of these generations
 manager_begins : (config : Option Config) (generation attempts number : ℕ) (m : Option Generations) → number ≢ 0 → TiedManager config generation attempts m → TiedManager config number 0 (option_map (λ g. begun_with g number) m)

@@ -23,7 +23,8 @@ use Rattle.shared_session.specs.declared.core_state.Core.{Core}
 use Rattle.shared_session.specs.Turn.{with_work, is_bad}
 use Rattle.legal_trace.specs.Ledger.{Ledger, authorized_by, by_opening, ending, lacks_credentials, setup_count}
 use Rattle.legal_trace.specs.Book.{book, hearing_in}
-use Rattle.session_laws.proofs.Tied.{AreSetups, has_ended, inner, link_in, on_link}
+use Rattle.session_laws.proofs.Server.{AreSetups, on_link}
+use Rattle.session_laws.proofs.Tied.{has_ended, inner, link_in}
 use Rattle.session_laws.proofs.Creds.{awaited_is, has_credentials, none_awaited, unawaited_is, wanting_awaits}
 use Rattle.session_laws.proofs.Said.{PushesOf, ready_heard, setting_heard, renoticed}
 use Rattle.session_laws.proofs.States.{Between, HasApplied, HasEffect}

@@ -34,7 +34,8 @@ use Rattle.session_laws.proofs.Said.{sources_asked}
 use Rattle.session_laws.proofs.SetUp.{down_undue, none_due, sent_undue, set_up_undue, setting_undecided}
 use Rattle.session_laws.proofs.States.{AreBegun, IsFit}
 use Rattle.session_laws.proofs.Unrepeated.{repeats_started, repeats_timed}
-use Rattle.session_laws.proofs.Tied.{AreSought, HasSaid, Inner, IsSetUp, Sound, Tied, TiedLife, TiedRenewal, carried, has_ended, link_in, owner_of, queue_ids, AreRenewed, waiting_ids, whole_link, IsToldIn, greeter, IsGreeting, watch_queued}
+use Rattle.session_laws.proofs.Server.{AreSought, HasSaid, IsSetUp, TiedRenewal, AreRenewed, IsGreeting, watch_queued}
+use Rattle.session_laws.proofs.Tied.{Inner, Sound, Tied, TiedLife, carried, has_ended, link_in, owner_of, queue_ids, waiting_ids, whole_link, IsToldIn, greeter}
 use Rattle.mux_conn.specs.declared.life.Greeting.TheVariants as greet
 use Rattle.legal_trace.proofs.Setups.{IsUndecided, greeted_is_undue}
 use Rattle.legal_trace.proofs.Watching.{watch_is_up, watch_is_greeted, watch_is_new, watch_is_unset}

@@ -24,7 +24,8 @@ use Rattle.legal_trace.specs.Story.{Story}
 use Rattle.legal_trace.specs.Legal.{NoneEnds}
 use Rattle.session_laws.proofs.Said.{mild_end, setup_on, setup_unheard, BringsNothing, pushes_hear, IsTame, is_tame, renoticed, PushesAt}
 use Rattle.session_laws.proofs.Creds.{creds_hear, down_unawaited, unawaited_is, down_may_renew, IsOfRenewals}
-use Rattle.session_laws.proofs.Tied.{Inner, inner, link_in, carried, whole_link, TiedCreds, TiedLife, TiedSetup, TiedLines, AreQueued, TiedWaits, Tied, has_ended, HasCourse, TiedRenewal, NoneRenewed, TiedRounds, AreEarly}
+use Rattle.session_laws.proofs.Server.{TiedCreds, TiedSetup, TiedRenewal, NoneRenewed}
+use Rattle.session_laws.proofs.Tied.{Inner, inner, link_in, carried, whole_link, TiedLife, TiedLines, AreQueued, TiedWaits, Tied, has_ended, HasCourse, TiedRounds, AreEarly}
 use Rattle.session_laws.proofs.Unrepeated.{down_repeats_not}
 use Rattle.session_laws.proofs.Comes.{course_alike}
 use Rattle.session_laws.proofs.States.{IsFit, IsFitIn, IsHushed, Between, HasApplied, IsStopped}

@@ -16,7 +16,8 @@ use Rattle.legal_trace.specs.Ledger.{Ledger, Line, noted, noted_each}
 use Rattle.legal_trace.specs.Story.{Story, awaited_in, packed_in, shape_in, tried}
 use Rattle.session_laws.proofs.Names.{name_placed}
 use Rattle.session_laws.proofs.Owes.{request_story}
-use Rattle.session_laws.proofs.Tied.{AreAside, AreLate, AreQueued, Inner, IsAside, IsOf, IsPacked, IsQueued, IsRequest, StaysCalm, Tied, TiedCourse, TiedCreds, TiedCreation, TiedLife, TiedLines, TiedNames, TiedNumbers, TiedPermits, TiedNotices, TiedRounds, TiedSetup, TiedStory, TiedTries, TiedWaits, carried, has_ended, hearing_at, link_in, whole_link, TiedRenewal, is_reading, AreUses, AreEarly}
+use Rattle.session_laws.proofs.Server.{TiedCreds, TiedSetup, hearing_at, TiedRenewal}
+use Rattle.session_laws.proofs.Tied.{AreAside, AreLate, AreQueued, Inner, IsAside, IsOf, IsPacked, IsQueued, IsRequest, StaysCalm, Tied, TiedCourse, TiedCreation, TiedLife, TiedLines, TiedNames, TiedNumbers, TiedPermits, TiedNotices, TiedRounds, TiedStory, TiedTries, TiedWaits, carried, has_ended, link_in, whole_link, is_reading, AreUses, AreEarly}
 
 -- a session and the ledger of its link, which is that of the book
 pub record TiedBy (b : Book) (t : Inner) (l : Ledger) : Type 0 where

@@ -50,7 +50,8 @@ use Rattle.session_laws.proofs.Closing.{one_of}
 use Rattle.session_laws.proofs.Rounded.{SameRounds, rounds_with}
 use Rattle.session_laws.proofs.Said.{carried_tied}
 use Rattle.session_laws.proofs.States.{IsFit}
-use Rattle.session_laws.proofs.Tied.{IsAim, AreAimed, AreQueued, Inner, IsEntry, IsKept, IsOf, IsPacked, IsQueued, IsRequest, Tied, TiedLines, TiedNames, TiedNumbers, TiedPermits, TiedRounds, TiedStory, TiedTries, TiedWaits, link_in, owners_each, queue_ids, setup_owners, shown_wait, waiting_ids, numbers_kept, IsToldIn}
+use Rattle.session_laws.proofs.Server.{setup_owners}
+use Rattle.session_laws.proofs.Tied.{IsAim, AreAimed, AreQueued, Inner, IsEntry, IsKept, IsOf, IsPacked, IsQueued, IsRequest, Tied, TiedLines, TiedNames, TiedNumbers, TiedPermits, TiedRounds, TiedStory, TiedTries, TiedWaits, link_in, owners_each, queue_ids, shown_wait, waiting_ids, numbers_kept, IsToldIn}
 use Rattle.session_laws.proofs.Moves.{or_true}
 
 -- requests of which one holds other permits, and waits still

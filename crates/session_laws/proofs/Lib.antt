@@ -1,4 +1,5 @@
 pub mod Numbers
+pub mod Server
 pub mod Tied
 pub mod States
 pub mod Creds

@@ -50,7 +50,8 @@ use Rattle.session_laws.proofs.Regenerate.{IsHarmless, IsResting, manager_is, re
 use Rattle.session_laws.proofs.Reopen.{at_rest, rest_tied}
 use Rattle.session_laws.proofs.Return.{HasReturned, at_next, begins_returned, dials_returned}
 use Rattle.session_laws.proofs.States.{Between, IsFitIn, IsHushed, IsStill}
-use Rattle.session_laws.proofs.Tied.{ComesBack, HasCourse, HasHeeded, Inner, IsAim, HasSaid, IsHeeded, IsUse, Sound, Tied, TiedLife, TiedLines, has_ended, inner, is_begun, link_in, waiting_ids}
+use Rattle.session_laws.proofs.Server.{HasSaid}
+use Rattle.session_laws.proofs.Tied.{ComesBack, HasCourse, HasHeeded, Inner, IsAim, IsHeeded, IsUse, Sound, Tied, TiedLife, TiedLines, has_ended, inner, is_begun, link_in, waiting_ids}
 
 -- what a link hears that isn't asked for yet
 --

@@ -17,7 +17,8 @@ use Rattle.mux_conn.specs.Connection.{is_resting}
 use Rattle.mux_conn.specs.declared.life.Life.{Life}
 use Rattle.mux_conn.specs.declared.life.Life.TheVariants.{Resting, Dialing, Wanting, SettingUp, Ready, Ended}
 use Rattle.legal_trace.specs.Ledger.{Ledger}
-use Rattle.session_laws.proofs.Tied.{owner_of, hearing_on, Inner, Tied, TiedLife, TiedNames}
+use Rattle.session_laws.proofs.Server.{hearing_on}
+use Rattle.session_laws.proofs.Tied.{owner_of, Inner, Tied, TiedLife, TiedNames}
 use Rattle.driver_model.specs.Hearing.{is_watching}
 use Rattle.driver_model.specs.declared.kind.SessionKind.{SessionKind}
 use Rattle.driver_model.specs.declared.kind.SessionKind.TheVariants as session

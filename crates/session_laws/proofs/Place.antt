@@ -37,7 +37,8 @@ use Rattle.session_laws.proofs.Owes.{in_line, request_story, open_on}
 use Rattle.session_laws.proofs.Permits.{permits_closed, permits_further, permits_let}
 use Rattle.session_laws.proofs.Rounded.{admitted_begun, rounds_closed, rounds_with}
 use Rattle.session_laws.proofs.Start.{not_dialing, not_setting, not_wanting, on_link, not_resting}
-use Rattle.session_laws.proofs.Tied.{AreLate, AreQueued, Inner, IsEntry, IsKept, IsOf, IsPacked, IsQueued, Tied, TiedLines, TiedStory, TiedTries, TiedWaits, owner_of, owners_each, queue_ids, setup_owners, relined, shown_wait, waiting_ids, numbers_kept}
+use Rattle.session_laws.proofs.Server.{setup_owners}
+use Rattle.session_laws.proofs.Tied.{AreLate, AreQueued, Inner, IsEntry, IsKept, IsOf, IsPacked, IsQueued, Tied, TiedLines, TiedStory, TiedTries, TiedWaits, owner_of, owners_each, queue_ids, relined, shown_wait, waiting_ids, numbers_kept}
 use Rattle.session_laws.proofs.Ahead.{admitted_open, early_open, waiting_open}
 use Rattle.session_laws.proofs.Calm.{calm_more}
 

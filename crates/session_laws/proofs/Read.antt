@@ -36,7 +36,8 @@ use Rattle.legal_trace.specs.Story.{Story}
 use Rattle.legal_trace.specs.Book.{Book, book, entered, hearing_in, has_generations}
 use Rattle.legal_trace.specs.Owed.{owed}
 use Rattle.session_laws.proofs.Numbers.{IsIn, Rising, requests_in, requests_in-append}
-use Rattle.session_laws.proofs.Tied.{inner, link_in, owner_of, queue_ids, IsEntry, TiedLines, TiedSetup, AreQueued, TiedWaits, has_ended, Tied, Sound, AreRenewed, AreSought, IsSetUp, TiedRenewal, TiedRounds, on_link, hearing_there, HasCourse}
+use Rattle.session_laws.proofs.Server.{TiedSetup, AreRenewed, AreSought, IsSetUp, TiedRenewal, on_link, hearing_there}
+use Rattle.session_laws.proofs.Tied.{inner, link_in, owner_of, queue_ids, IsEntry, TiedLines, AreQueued, TiedWaits, has_ended, Tied, Sound, TiedRounds, HasCourse}
 use Rattle.session_laws.proofs.SetUp.{set_up_hears}
 use Rattle.legal_trace.proofs.Setups.{ends_where_set}
 use Rattle.legal_trace.proofs.Came.{Came, bytes_are}

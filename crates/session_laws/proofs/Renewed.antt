@@ -30,7 +30,8 @@ use Rattle.session_laws.proofs.Renewals.{due_is, due_well, none_renewed_due, ren
 use Rattle.session_laws.proofs.Said.{recredited, setup_on, setup_recredited, well_on, well_recredited, mild_end, renoticed}
 use Rattle.session_laws.proofs.Settle.{renewal_over, seen, trace_of_acts}
 use Rattle.session_laws.proofs.States.{Between, HasApplied, trace_with}
-use Rattle.session_laws.proofs.Tied.{AreRenewed, AreSought, NoneRenewed, Tied, TiedCreds, TiedLife, TiedRenewal, TiedSetup, carried, has_ended, inner, whole_link, on_link}
+use Rattle.session_laws.proofs.Server.{AreRenewed, AreSought, NoneRenewed, TiedCreds, TiedRenewal, TiedSetup, on_link}
+use Rattle.session_laws.proofs.Tied.{Tied, TiedLife, carried, has_ended, inner, whole_link}
 use Rattle.session_laws.proofs.ComeUp.{early_sources}
 
 -- a link that has ended

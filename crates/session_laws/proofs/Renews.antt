@@ -46,7 +46,8 @@ use Rattle.session_laws.proofs.Settle.{Holds, book_of_more, renewal_tied, seen, 
 use Rattle.session_laws.proofs.Start.{not_setting, on_link, owners-append, owners_each-append, owners_length, setup_owners-append}
 use Rattle.session_laws.proofs.Starts.{begins_ends_none}
 use Rattle.session_laws.proofs.States.{IsFit}
-use Rattle.session_laws.proofs.Tied.{AreAimed, AreRenewed, Inner, IsAim, IsEntry, Tied, TiedRenewal, TiedTries, numbers_kept, owner_of, owners_each, queue_ids, setup_owners, timed_of}
+use Rattle.session_laws.proofs.Server.{AreRenewed, TiedRenewal, setup_owners, timed_of}
+use Rattle.session_laws.proofs.Tied.{AreAimed, Inner, IsAim, IsEntry, Tied, TiedTries, numbers_kept, owner_of, owners_each, queue_ids}
 use Rattle.session_laws.proofs.Unrepeated.{repeats_started, repeats_timed, unrepeated_lined}
 use Rattle.session_laws.proofs.Took.{queue_waits}
 use Rattle.mux_conn.specs.declared.life.Greeting.TheVariants as greet

@@ -34,7 +34,8 @@ use Rattle.session_laws.proofs.Names.{get_more, name_placed, open_within, there_
 use Rattle.session_laws.proofs.Numbers.{IsIn, Rising, rising_right}
 use Rattle.session_laws.proofs.Owes.{answered_closed}
 use Rattle.session_laws.proofs.Rounded.{admitted_begun, placed_begun, unbegun_waits}
-use Rattle.session_laws.proofs.Tied.{AreAimed, AreAside, AreCalm, AreLate, AreUses, ComesBack, Inner, IsAim, IsAside, IsRefused, IsRequest, IsRetiring, IsUnknown, IsUse, NoneRenewed, StaysCalm, Tied, TiedCreation, TiedLines, TiedCreds, TiedLife, TiedManager, TiedNames, TiedNotices, TiedNumbers, TiedSetup, TiedTries, TiedPermits, TiedRounds, TiedStory, TiedWaits, no_link, owner_of, is_reading, shown_wait, waiting_ids}
+use Rattle.session_laws.proofs.Server.{NoneRenewed, TiedCreds, TiedSetup}
+use Rattle.session_laws.proofs.Tied.{AreAimed, AreAside, AreCalm, AreLate, AreUses, ComesBack, Inner, IsAim, IsAside, IsRefused, IsRequest, IsRetiring, IsUnknown, IsUse, StaysCalm, Tied, TiedCreation, TiedLines, TiedLife, TiedManager, TiedNames, TiedNotices, TiedNumbers, TiedTries, TiedPermits, TiedRounds, TiedStory, TiedWaits, no_link, owner_of, is_reading, shown_wait, waiting_ids}
 
 -- a session without a link
 --

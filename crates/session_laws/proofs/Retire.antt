@@ -43,7 +43,8 @@ use Rattle.session_laws.proofs.Numbers.{IsIn, Rising, requests_in}
 use Rattle.session_laws.proofs.Renewals.{down_renewed_due, early_renewal}
 use Rattle.session_laws.proofs.Settle.{seen, trace_of_acts, book_of_more}
 use Rattle.session_laws.proofs.States.{Between, HasRetired, IsFitIn, HasEffect}
-use Rattle.session_laws.proofs.Tied.{AreAside, AreUnrepeated, AreUses, Inner, IsAside, IsRetiring, NoneRenewed, Tied, TiedLines, TiedNumbers, has_ended, inner, link_in, no_link, queue_ids, waiting_ids, AreAimed}
+use Rattle.session_laws.proofs.Server.{NoneRenewed}
+use Rattle.session_laws.proofs.Tied.{AreAside, AreUnrepeated, AreUses, Inner, IsAside, IsRetiring, Tied, TiedLines, TiedNumbers, has_ended, inner, link_in, no_link, queue_ids, waiting_ids, AreAimed}
 use Rattle.legal_trace.specs.Managers.{is_lazy}
 use Rattle.connection_info.specs.declared.address.RedisConnectionInfo.{RedisConnectionInfo}
 use Rattle.session_laws.proofs.Heard.{going_awake, heard_by, book_news, book_kind}

@@ -21,7 +21,8 @@ use Rattle.legal_trace.specs.Events.{HasRunOut}
 use Rattle.shared_session.proofs.Replays.{state_after-more, trace_of-more, turns_after}
 use Rattle.session_laws.proofs.Legality.{replay_between, turn_between, room_behind}
 use Rattle.session_laws.proofs.Opening.{opening_unasked}
-use Rattle.session_laws.proofs.Tied.{Inner, Tied, TiedLife, carried, has_ended, inner, whole_link, AreRenewed, NoneRenewed, TiedRenewal}
+use Rattle.session_laws.proofs.Server.{AreRenewed, NoneRenewed, TiedRenewal}
+use Rattle.session_laws.proofs.Tied.{Inner, Tied, TiedLife, carried, has_ended, inner, whole_link}
 use Rattle.driver_model.specs.declared.action.Action.{Action}
 use Rattle.session_laws.proofs.Grown.{IsGrown, turn_grown}
 use Rattle.session_laws.proofs.Renewals.{due_is, down_renewed_due, none_renewed_due}

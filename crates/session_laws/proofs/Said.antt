@@ -20,7 +20,8 @@ use Rattle.legal_trace.specs.Legal.{ReadyIsShown, SourcesAreAsked}
 use Rattle.legal_trace.proofs.Endings.{lasting_is_fault}
 use Rattle.session_laws.proofs.Creds.{down_unawaited, unawaited_is, wanting_lacks, down_may_renew, down_sourced, asked_sourced, has_sourced, ready_sourced}
 use Rattle.session_laws.proofs.SetUp.{not_set_up, lacking_unset, IsUnset}
-use Rattle.session_laws.proofs.Tied.{AreSought, Inner, HasSaid, Tied, TiedLife, TiedSetup, carried, owner_of, whole_link, TiedNotices, IsGreeting, greeter, is_reading, brings_bytes, hearing_at}
+use Rattle.session_laws.proofs.Server.{AreSought, HasSaid, TiedSetup, IsGreeting, hearing_at}
+use Rattle.session_laws.proofs.Tied.{Inner, Tied, TiedLife, carried, owner_of, whole_link, TiedNotices, greeter, is_reading, brings_bytes}
 use Rattle.credentials.specs.Credentials.{Credentials}
 use Rattle.session_laws.proofs.SameSaid.{SameSaid, after_alike, greeting_link, said_alike, set_alike, setup_alike}
 use Rattle.driver_model.specs.declared.hearing.Hearing.{Hearing}

@@ -40,7 +40,8 @@ use Rattle.session_laws.proofs.SetUp.{begun_open, count_length, count_next, down
 use Rattle.session_laws.proofs.Settle.{quiet_asks, seen, trace_of_acts}
 use Rattle.session_laws.proofs.Start.{owners-append, with_queue}
 use Rattle.session_laws.proofs.States.{IsFit}
-use Rattle.session_laws.proofs.Tied.{AreSetups, Inner, IsSettingUp, Tied, TiedTries, numbers_kept, owners_of, setup_owners, AreSetupsAlone, HasGreetedAlone, greeter, greeting_at, is_of_greeting}
+use Rattle.session_laws.proofs.Server.{AreSetups, IsSettingUp, owners_of, setup_owners, AreSetupsAlone, greeting_at}
+use Rattle.session_laws.proofs.Tied.{Inner, Tied, TiedTries, numbers_kept, HasGreetedAlone, greeter, is_of_greeting}
 use Rattle.session_laws.proofs.Unrepeated.{unrepeated_lined}
 use Rattle.session_laws.proofs.Renewals.{none_begins, full_begins}
 use Rattle.session_laws.proofs.SameSaid.{greeter_at, greeting_of, setting_of}

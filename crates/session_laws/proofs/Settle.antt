@@ -31,7 +31,8 @@ use Rattle.legal_trace.specs.Book.{Book, blank_book, book, entered}
 use Rattle.legal_trace.specs.Owed.{owed}
 use Rattle.legal_trace.specs.Legal.{AllStand, MayStand, MayAnswer, IsBefore, is_heard}
 use Rattle.session_laws.proofs.Numbers.{Rising, requests_in, rising_from}
-use Rattle.session_laws.proofs.Tied.{Inner, OnLink, link_in, TiedLife, Tied, Sound, waiting_ids, has_ended, TiedRenewal, AreAside}
+use Rattle.session_laws.proofs.Server.{OnLink, TiedRenewal}
+use Rattle.session_laws.proofs.Tied.{Inner, link_in, TiedLife, Tied, Sound, waiting_ids, has_ended, AreAside}
 use Rattle.session_laws.proofs.Entered.{book_more, quiet_sources, quiet_timers, sound_more, shown_more, sources_more, timers_more}
 use Rattle.session_laws.proofs.Names.{open_within, name_with, length_with, with_then}
 use Rattle.session_laws.proofs.InLine.{line_of, IsInLine, open_in_line, first_is_least}

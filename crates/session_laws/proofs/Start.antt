@@ -38,7 +38,8 @@ use Rattle.legal_trace.proofs.Setups.{count_more}
 use Rattle.session_laws.proofs.SetUp.{set_up_begins, setups_begins}
 use Rattle.mux_conn.specs.Renewals.{renewal_id}
 use Rattle.session_laws.proofs.Renewals.{begins_renewed}
-use Rattle.session_laws.proofs.Tied.{AreQueued, Inner, IsEntry, IsQueued, IsRequest, Tied, TiedLines, TiedTries, TiedWaits, owner_of, owners_each, owners_of, queue_ids, setup_owners, shown_wait, numbers_kept}
+use Rattle.session_laws.proofs.Server.{owners_of, setup_owners}
+use Rattle.session_laws.proofs.Tied.{AreQueued, Inner, IsEntry, IsQueued, IsRequest, Tied, TiedLines, TiedTries, TiedWaits, owner_of, owners_each, queue_ids, shown_wait, numbers_kept}
 use Rattle.session_laws.proofs.Unrepeated.{unrepeated_lined}
 use Rattle.driver_model.specs.Hearing.{is_watching}
 

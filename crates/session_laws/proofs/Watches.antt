@@ -40,7 +40,8 @@ use Rattle.session_laws.proofs.SetsUp.{HasBegun, greeted_more, none_set_up, sett
 use Rattle.session_laws.proofs.Settle.{quiet_asks, seen, trace_of_acts}
 use Rattle.session_laws.proofs.Start.{with_queue}
 use Rattle.session_laws.proofs.States.{IsFit}
-use Rattle.session_laws.proofs.Tied.{Inner, IsWatchDue, IsWatching, Tied, TiedTries, numbers_kept, watch_queued}
+use Rattle.session_laws.proofs.Server.{IsWatchDue, IsWatching, watch_queued}
+use Rattle.session_laws.proofs.Tied.{Inner, Tied, TiedTries, numbers_kept}
 use Rattle.session_laws.proofs.Unrepeated.{unrepeated_lined}
 
 -- MONITOR is due
