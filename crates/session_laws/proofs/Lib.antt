@@ -79,6 +79,7 @@ pub mod Manage
 pub mod Whole
 pub mod First
 pub mod Turns
+pub mod Spending
 pub mod Grown
 pub mod Legality
 pub mod Opening

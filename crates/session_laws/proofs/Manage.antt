@@ -363,7 +363,7 @@ module _ (before : List Action) (c : Core) (started : List ℕ) (g : Generations
   acted runs = record { between = h.between; acted = h.acted; tied = tied; here = h.link; runs = shut_is ∙ runs }
 
   -- nobody is open on a link that has ended
-  none_open_over : (e : RedisError) → k.single.connection.life ≡ Ended e → (p : ℕ) → is_open_at k.single.connection.requests p ≡ true → ⊥
+  pub none_open_over : (e : RedisError) → k.single.connection.life ≡ Ended e → (p : ℕ) → is_open_at k.single.connection.requests p ≡ true → ⊥
   none_open_over e over p o =
       let admitted = h.fit.none (λ link r. (let no : Ended e ≡ Ready link = sym over ∙ r in cc)) in
       let waiting = h.still.none_waits (ap has_ended over) in

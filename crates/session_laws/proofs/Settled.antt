@@ -241,7 +241,7 @@ none_from (Ended e) p true f = refl
 none_from (Ended e) p false f = refl
 
 -- so nothing is shown where nobody waits for a place
-unmoved : (w : Work) (ps : List ℕ) → is_ready w.conn.life ≡ false → ((p : ℕ) → is_admitted_at w.conn.requests p ≡ false) → moved_each_shown w ps ≡ w
+pub unmoved : (w : Work) (ps : List ℕ) → is_ready w.conn.life ≡ false → ((p : ℕ) → is_admitted_at w.conn.requests p ≡ false) → moved_each_shown w ps ≡ w
 unmoved w [] down none = refl
 unmoved w (p ∷ ps) down none =
     let room = is_placed_at w.conn.requests p && is_from (first_queued w.conn.life) p in

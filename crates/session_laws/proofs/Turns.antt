@@ -202,7 +202,7 @@ module _ (before : List Action) (c : Core) (g : Generations) (e : Event) (is : c
   moved_between : is_used_up p.core.single.connection ≡ false → IsUnused c g → HasApplied front t h.started → IsBetween (before ++ actions_of c e) (next_turn c e.kind).core
   moved_between unused idle applied =
       let m = applied_moved front t h.started applied in
-      managed_between before c g e is h.between.began made applied.began (λ none. applied.began (sym (came_kept k (what_of c g e.kind u)).turns ∙ none))
+      managed_between before c g e is made (λ none. applied.began (sym (came_kept k (what_of c g e.kind u)).turns ∙ none))
       (returned before c h.started g e.word e.kind trace k u.acts (heard_so m) unused (first_comes idle m.started (sound_so m).tied (has_acted before c e.word e.kind u.acts (sound_so m).stands)))
 
   -- behind an attempt that failed the passes leave it
@@ -243,7 +243,7 @@ module _ (before : List Action) (c : Core) (g : Generations) (e : Event) (is : c
       let back : ComesBack (book trace).config (book trace).generation (book trace).attempt q = subst (TiedManager (book trace).config (book trace).generation (book trace).attempt) heeds heard.numbers.comes_back in
       let some = retired_some r in
       let all = return.rests_returned trace k q (backoff q.settings q.attempt e.word) stands heard shown heeds some (failed_is (book trace) acted) (ap (backoff q.settings q.attempt) (sym (ap word_of (acted_adds before c e.word e.kind (book trace) u.acts acted).running))) in
-      managed_between before c g e is h.between.began made (λ none. r.began (ap (λ (x : Turning). x.core.turns) (sym same) ∙ none)) (λ none. r.began (ap (λ (x : Turning). x.core.turns) (sym same) ∙ sym (came_kept k (what_of c g e.kind u)).turns ∙ none))
+      managed_between before c g e is made (λ none. r.began (ap (λ (x : Turning). x.core.turns) (sym same) ∙ sym (came_kept k (what_of c g e.kind u)).turns ∙ none))
       (subst (λ (what : Comeback). return.HasReturned (trace ++ comeback_shown q e.word what) (came_back k what)) (sym (retired_rests unused retiring)) all)
 
   -- so whatever the event does

@@ -202,39 +202,55 @@ what_of c g kind u = comeback_of (heeded g kind u.acts) (wakes g kind) (machine.
 pub own_is : (c : Core) (g : Generations) (kind : EventKind) (u : Turning) → u.core.manager ≡ Some g → own_part u (machine.has_ended c.single.connection.life) kind ≡ what_of c g kind u
 own_is c g kind u is = λ i. comeback_in (option_map (λ x. heeded x kind u.acts) (is i)) (wakes_in (is i) kind) (machine.has_ended c.single.connection.life) (heeding u.core kind u.acts) u.acts
 
--- from there it leads from between two turns to between the next two
-pub managed_between : (before : List Action) (c : Core) (g : Generations) (e : Event) → c.manager ≡ Some g → c.turns ≢ 0
-    → (let u = numbered (passed_by (counted c) e.kind) in let k = heeding u.core e.kind u.acts in let what = what_of c g e.kind u in
-    u.core.manager ≡ Some g → u.core.turns ≢ 0 → (came_back k what).turns ≢ 0
-    → return.HasReturned (((before ++ turn_of c e.word e.kind ∷ []) ++ shown_each c.single.link (length c.timers) (length c.sources) u.acts) ++ comeback_shown (heeded g e.kind u.acts) e.word what) (came_back k what)
-    → IsBetween (before ++ actions_of c e) (next_turn c e.kind).core)
-unfolding next_turn comeback_by last_acts
-managed_between before c g e is began made going later h =
+-- the session behind the turn
+pub managed_core : (c : Core) (g : Generations) (e : Event) → c.manager ≡ Some g → (let u = numbered (passed_by (counted c) e.kind) in let d = came_back (heeding u.core e.kind u.acts) (what_of c g e.kind u) in
+    u.core.manager ≡ Some g → (next_turn c e.kind).core ≡ record d { single = record d.single { connection = (flushed_apart d).conn } })
+unfolding next_turn
+managed_core c g e is made =
     let over = machine.has_ended c.single.connection.life in
-    let p = passed_by (counted c) e.kind in
-    let u = numbered p in
-    let k = heeding u.core e.kind u.acts in
+    let u = numbered (passed_by (counted c) e.kind) in
+    let behind : come_back_behind u over e.kind ≡ came_back (heeding u.core e.kind u.acts) (what_of c g e.kind u) = ap (came_back (heeding u.core e.kind u.acts)) (own_is c g e.kind u made) in
+    ap (λ (v : Turning). v.core) (taken_if (is_some c.manager) (ended_apart u over e.kind) _ (ap is_some is))
+    ∙ ap (λ (x : Core). record x { single = record x.single { connection = (flushed_apart x).conn } }) behind
+
+-- and its trace
+pub managed_trace : (before : List Action) (c : Core) (g : Generations) (e : Event) → c.manager ≡ Some g → (let u = numbered (passed_by (counted c) e.kind) in let d = came_back (heeding u.core e.kind u.acts) (what_of c g e.kind u) in
+    u.core.manager ≡ Some g
+    → (((before ++ turn_of c e.word e.kind ∷ []) ++ shown_each c.single.link (length c.timers) (length c.sources) u.acts) ++ comeback_shown (heeded g e.kind u.acts) e.word (what_of c g e.kind u)) ++ shown_behind d (flushed_apart d).acts ≡ before ++ actions_of c e)
+unfolding next_turn comeback_by last_acts
+managed_trace before c g e is made =
+    let over = machine.has_ended c.single.connection.life in
+    let u = numbered (passed_by (counted c) e.kind) in
     let q = heeded g e.kind u.acts in
     let what = what_of c g e.kind u in
-    let d = came_back k what in
+    let d = came_back (heeding u.core e.kind u.acts) what in
     let managed : is_some c.manager ≡ true = ap is_some is in
     let own : own_part u over e.kind ≡ what = own_is c g e.kind u made in
-    let behind : come_back_behind u over e.kind ≡ d = ap (came_back k) own in
+    let behind : come_back_behind u over e.kind ≡ d = ap (came_back (heeding u.core e.kind u.acts)) own in
     let next : next_turn c e.kind ≡ ended_apart u over e.kind = taken_if (is_some c.manager) (ended_apart u over e.kind) _ managed in
     let front = before ++ turn_of c e.word e.kind ∷ [] in
     let acts = shown_each c.single.link (length c.timers) (length c.sources) u.acts in
     let trace = front ++ acts in
-    let done = flushed_between (trace ++ comeback_shown q e.word what) d later h in
     let shown : effects_of c e ≡ acts ++ (comeback_shown q e.word what ++ shown_behind d (flushed_apart d).acts) =
     taken_if (is_some c.manager) _ _ managed
     ∙ (λ i. shown_each c.single.link (length c.timers) (length c.sources) (next i).acts ++ return_shown (next i).core e.word (taken_if (is_some c.manager) (own_part u over e.kind) comeback.Stays managed i) (taken_if (is_some c.manager) (flushed_apart (come_back_behind u over e.kind)).acts [] managed i))
     ∙ (λ i. acts ++ (comeback_shown_in (behind i).manager e.word (own i) ++ shown_each (behind i).single.link (length (behind i).timers) (length (behind i).sources) (flushed_apart (behind i)).acts))
-    ∙ (λ i. acts ++ (shown_alike k q e.word what (ap (option_map (λ x. heeded x e.kind u.acts)) made) i ++ shown_behind d (flushed_apart d).acts)) in
-    let whole : (trace ++ comeback_shown q e.word what) ++ shown_behind d (flushed_apart d).acts ≡ before ++ actions_of c e =
+    ∙ (λ i. acts ++ (shown_alike (heeding u.core e.kind u.acts) q e.word what (ap (option_map (λ x. heeded x e.kind u.acts)) made) i ++ shown_behind d (flushed_apart d).acts)) in
     append_assoc trace (comeback_shown q e.word what) (shown_behind d (flushed_apart d).acts)
     ∙ append_assoc front acts (comeback_shown q e.word what ++ shown_behind d (flushed_apart d).acts)
     ∙ append_assoc before (turn_of c e.word e.kind ∷ []) (acts ++ (comeback_shown q e.word what ++ shown_behind d (flushed_apart d).acts))
-    ∙ ap (λ (xs : List Action). before ++ turn_of c e.word e.kind ∷ xs) (sym shown) in
-    subst (λ (x : List Action). IsBetween x (next_turn c e.kind).core) whole
-    (subst (λ (v : Turning). IsBetween ((trace ++ comeback_shown q e.word what) ++ shown_behind d (flushed_apart d).acts) v.core) (sym next)
-    (subst (λ (x : Core). IsBetween ((trace ++ comeback_shown q e.word what) ++ shown_behind d (flushed_apart d).acts) (record x { single = record x.single { connection = (flushed_apart x).conn } })) (sym behind) done))
+    ∙ ap (λ (xs : List Action). before ++ turn_of c e.word e.kind ∷ xs) (sym shown)
+
+-- from there it leads from between two turns to between the next two
+pub managed_between : (before : List Action) (c : Core) (g : Generations) (e : Event) → c.manager ≡ Some g
+    → (let u = numbered (passed_by (counted c) e.kind) in let k = heeding u.core e.kind u.acts in let what = what_of c g e.kind u in
+    u.core.manager ≡ Some g → (came_back k what).turns ≢ 0
+    → return.HasReturned (((before ++ turn_of c e.word e.kind ∷ []) ++ shown_each c.single.link (length c.timers) (length c.sources) u.acts) ++ comeback_shown (heeded g e.kind u.acts) e.word what) (came_back k what)
+    → IsBetween (before ++ actions_of c e) (next_turn c e.kind).core)
+managed_between before c g e is made later h =
+    let u = numbered (passed_by (counted c) e.kind) in
+    let what = what_of c g e.kind u in
+    let d = came_back (heeding u.core e.kind u.acts) what in
+    let trace = (before ++ turn_of c e.word e.kind ∷ []) ++ shown_each c.single.link (length c.timers) (length c.sources) u.acts in
+    subst (λ (x : List Action). IsBetween x (next_turn c e.kind).core) (managed_trace before c g e is made)
+    (subst (λ (x : Core). IsBetween ((trace ++ comeback_shown (heeded g e.kind u.acts) e.word what) ++ shown_behind d (flushed_apart d).acts) x) (sym (managed_core c g e is made)) (flushed_between (trace ++ comeback_shown (heeded g e.kind u.acts) e.word what) d later h))
