@@ -5,7 +5,6 @@ pub mod Lines
 pub mod Opens
 pub mod Aside
 pub mod Ended
-pub mod Causes
 pub mod Goes
 pub mod Rounds
 pub mod Messages

@@ -30,7 +30,7 @@ use Rattle.legal_trace.proofs.Ledgers.{UpIsNotOver}
 use Rattle.legal_trace.proofs.Moves.{one_holds}
 use Rattle.legal_trace.proofs.Plain.{not_none, same_some}
 use Rattle.legal_laws.proofs.Aside.{IsAside, aside_kept}
-use Rattle.legal_laws.proofs.Causes.{needs_link, needs_in, verdict_needs_none}
+use Rattle.legal_trace.proofs.Causes.{needs_link, needs_in, verdict_needs_none}
 use Rattle.legal_laws.proofs.Ended.{end_kept}
 use Rattle.legal_laws.proofs.Numbers.{HasLinks}
 use Rattle.legal_laws.proofs.Opens.{IsOpening, due_has_no_link}

@@ -4,6 +4,7 @@ pub mod Ledgers
 pub mod Managers
 pub mod Clocks
 pub mod Endings
+pub mod Causes
 pub mod Spoken
 pub mod Books
 pub mod Moves

@@ -37,7 +37,8 @@ use Rattle.session_laws.proofs.Rounded.{admitted_begun, has_begun, placed_begun,
 use Rattle.legal_trace.proofs.Again.{unwanted_is_served}
 use Rattle.session_laws.proofs.SetUp.{not_set_up, lacking_unset}
 use Rattle.session_laws.proofs.States.{IsFit}
-use Rattle.session_laws.proofs.Tied.{AreSought, HasSaid, Inner, IsQueued, Tied, TiedLife, TiedNames, TiedNumbers, carried, has_ended, link_in, owner_of, queue_ids, shown_wait, waiting_ids, whole_link}
+use Rattle.session_laws.proofs.Server.{AreSought, HasSaid}
+use Rattle.session_laws.proofs.Tied.{Inner, IsQueued, Tied, TiedLife, TiedNames, TiedNumbers, carried, has_ended, link_in, owner_of, queue_ids, shown_wait, waiting_ids, whole_link}
 
 -- counts
 --
@@ -678,6 +679,15 @@ pub dialing_step : (b : Book) (t : Inner) (p : ℕ) → Tied b t → t.life ≡ 
 dialing_step b t p h dialing on =
     let s = b.story (name_at t.requests p) in
     taken_if (dials (b.link s.link)) (waits wait.Connect) _ (ap (λ l. dials (b.link l)) on ∙ dialing_dials (b.link t.link) b.created t.life dialing h.life)
+
+-- without a link it waits for one
+pub resting_step : (b : Book) (t : Inner) (p : ℕ) → Tied b t → t.life ≡ Resting → (b.story (name_at t.requests p)).link ≡ t.link → next_step b (name_at t.requests p) ≡ waits wait.Backoff
+resting_step b t p h rests on =
+    let l = b.link (b.story (name_at t.requests p)).link in
+    let life = subst (λ m. TiedLife (b.link m) b.created Resting) (sym on) (subst (TiedLife (b.link t.link) b.created) rests h.life) in
+    left_if (dials l) (waits wait.Connect) (if l.up then (if is_set_up l then step_ready b (name_at t.requests p) (b.story (name_at t.requests p)) else waits (unready_wait l)) else step_down l.asked) (λ i. (life.0 i && not (life.1 i)) && not (is_some (life.2 i)))
+    ∙ left_if l.up (if is_set_up l then step_ready b (name_at t.requests p) (b.story (name_at t.requests p)) else waits (unready_wait l)) (step_down l.asked) life.1
+    ∙ ap step_down life.0
 
 -- and the setup, while the link isn't set up
 pub setup_step : (b : Book) (t : Inner) (p : ℕ) (link : LinkState) (greeting : Greeting) → Tied b t → t.life ≡ SettingUp link greeting → (b.story (name_at t.requests p)).link ≡ t.link → next_step b (name_at t.requests p) ≡ waits wait.Setup

@@ -1,7 +1,7 @@
 -- A turn of an event: where it may stand, and what its link and the others hear.
 use Rattle.std.proofs.Common.{◌≡◌, ◌≢◌, inl, inr, ℕ, ◌+◌, ◌<◌, ◌≤◌, ◌==◌, nat_lt, nat_le, false, ◌&&◌, ◌||◌, not, is_some, List, [], ◌∷◌, ◌++◌, length, slice_get, Some, refl, sym, ap, ◌∙◌, subst, arith, length-take, None, Option, true, Bool}
 use Rattle.std.proofs.lemmas.List.{append-nil}
-use Rattle.containers.proofs.Choices.{by_test, chosen, left_if, eq_from, ne_from, ne_test, not_le_from, not_both}
+use Rattle.containers.proofs.Choices.{or_left, by_test, chosen, left_if, eq_from, ne_from, ne_test, not_le_from, not_both}
 use Rattle.redis_error.specs.declared.redis_error.RedisError.TheVariants as error
 use Rattle.driver_model.specs.declared.action.Action.{Action}
 use Rattle.driver_model.specs.declared.action.Owner.{Owner}
@@ -31,8 +31,10 @@ use Rattle.legal_trace.specs.Story.{Story, fires}
 use Rattle.legal_trace.specs.Book.{Book, book, entered, is_clock_of, hearing_in, rest_after, timeout_after, kind_in, has_generations}
 use Rattle.legal_trace.specs.Events.{is_bad_event}
 use Rattle.legal_trace.specs.Legal.{MayTurn}
-use Rattle.mux_conn.specs.Connection.{is_ready}
-use Rattle.session_laws.proofs.Tied.{TiedCreation, AreAimed, AreUses, IsAim, owners_of, owners_each, setup_owners, Inner, inner, link_in, carried, whole_link, AreAside, TiedCreds, TiedLife, TiedSetup, TiedTries, TiedLines, AreQueued, TiedWaits, Tied, Sound, has_ended, TiedNotices, TiedRenewal, HasGreetedAlone, is_reading, IsUse, TiedRounds, AreUnrepeated, AreEarly}
+use Rattle.mux_conn.specs.Connection.{is_ready, is_resting}
+use Rattle.session_laws.proofs.Comes.{course_later}
+use Rattle.session_laws.proofs.Server.{owners_of, setup_owners, TiedCreds, TiedSetup, TiedRenewal, hearing_at, on_link}
+use Rattle.session_laws.proofs.Tied.{TiedCreation, AreAimed, AreUses, IsAim, owners_each, Inner, inner, link_in, carried, whole_link, AreAside, TiedLife, TiedTries, TiedLines, AreQueued, TiedWaits, Tied, Sound, has_ended, TiedNotices, HasGreetedAlone, is_reading, IsUse, TiedRounds, AreUnrepeated, HasCourse, AreEarly}
 use Rattle.session_laws.proofs.Unrepeated.{unrepeated_hears}
 use Rattle.session_laws.proofs.States.{Between}
 use Rattle.session_laws.proofs.Entered.{book_more, sound_more}
@@ -128,7 +130,7 @@ source_news m x first later one other =
     chosen (λ (y : News). y ≢ connected) (is_source_of m x) first (for_link (renews m x) later) (λ t. one) (λ f. else_news (renews m x) later other)
 
 -- a link that was never asked for hears of no successful connect
-far_news : (c : Core) (m : ℕ) (kind : EventKind) → is_bad c kind ≡ false → c.links ≤ m → news_of c.timers c.sources m kind ≢ connected
+pub far_news : (c : Core) (m : ℕ) (kind : EventKind) → is_bad c kind ≡ false → c.links ≤ m → news_of c.timers c.sources m kind ≢ connected
 unfolding is_bad
 far_news c m (event.Submit what) good past e = cc
 far_news c m (event.Cancel n) good past e = cc
@@ -180,6 +182,25 @@ heard_starts l turn (denied text) = refl
 heard_starts l turn deserted = refl
 heard_starts l turn dropped = refl
 heard_starts l turn shut = refl
+
+-- news leave what is heard on a link
+pub heard_hearing : (l : Ledger) (turn : ℕ) (n : News) → (noted l (hears turn n)).hearing ≡ l.hearing
+heard_hearing l turn silence = refl
+heard_hearing l turn (refused f) = chosen (λ (x : Ledger). x.hearing ≡ l.hearing) (dials l) (refused_in l turn (error.Io f)) l (λ t. refl) (λ d. refl)
+heard_hearing l turn overdue = refl
+heard_hearing l turn connected = chosen (λ (x : Ledger). x.hearing ≡ l.hearing) (is_over l) l _ (λ t. refl) (λ f. refl)
+heard_hearing l turn (took count) = chosen (λ (x : Ledger). x.hearing ≡ l.hearing) l.up _ l (λ t. refl) (λ f. refl)
+heard_hearing l turn (came piece) = chosen (λ (x : Ledger). x.hearing ≡ l.hearing) l.up (bytes_came l piece) l (λ t. holds_bytes (λ (x : Ledger). x.hearing ≡ l.hearing) l piece (λ rest strange told more. refl)) (λ f. refl)
+heard_hearing l turn (failed f) = refl
+heard_hearing l turn (authorized c) = chosen (λ (x : Ledger). x.hearing ≡ l.hearing) (awaits_credentials l) (authorized_by l c) l (λ t. refl) (λ f. refl)
+heard_hearing l turn (renewed c) = chosen (λ (x : Ledger). x.hearing ≡ l.hearing) (may_renew l) (renewed_by l c) l (λ t. refl) (λ f. refl)
+heard_hearing l turn unrenewed = chosen (λ (x : Ledger). x.hearing ≡ l.hearing) l.up (unrenewed_by l) l (λ t. refl) (λ f. refl)
+heard_hearing l turn (late k) = chosen (λ (x : Ledger). x.hearing ≡ l.hearing) (l.up && is_renewal_open l k) (lost_by l) l (λ t. refl) (λ f. refl)
+heard_hearing l turn unrepeated = chosen (λ (x : Ledger). x.hearing ≡ l.hearing) (is_repeating l) (unrepeated_by l) l (λ t. refl) (λ f. refl)
+heard_hearing l turn (denied text) = refl
+heard_hearing l turn deserted = refl
+heard_hearing l turn dropped = refl
+heard_hearing l turn shut = refl
 
 -- the turn of an event that is of no account for submissions
 --
@@ -332,15 +353,18 @@ aims_longer timers link count more l h k what e = by_purpose what (h k what e)
     by_purpose (purpose.Response owner.Resub) is = absurd is
     by_purpose (purpose.Response owner.Monitor) is = absurd is
     by_purpose (purpose.Renewal m k) is = is
-    by_purpose (purpose.Backoff g) is = absurd is
+    by_purpose (purpose.Backoff g) is = tt
     by_purpose (purpose.Resubscription m) is = absurd is
     by_purpose (purpose.Response (owner.Try n round)) is = (let less = is.0 in omega arith, is.1)
 
 -- what the session needs of the life, and of the new credentials, that the turn leads to, by the ledger that its link has come
 -- to, and by what is said to its server then; the creation may be shown with it
-pub record ComesAs (b : Book) (c : Core) (l : Ledger) (created : ℕ) (info : RedisConnectionInfo) (renewal : Renewal) (life : Life) (fresh pending : List ℕ) (untold : List Heard) (started : List ℕ) : Type 0 where
+pub record ComesAs (b : Book) (c : Core) (l : Ledger) (created : ℕ) (opened : Bool) (info : RedisConnectionInfo) (renewal : Renewal) (life : Life) (fresh pending : List ℕ) (untold : List Heard) (started : List ℕ) : Type 0 where
   pub starts : l.starts ≡ (b.link c.single.link).starts
+  pub hearing_kept : l.hearing ≡ (b.link c.single.link).hearing
+  pub spoken : info.protocol ≡ c.single.connection.info.protocol
   pub lived : TiedLife l created life
+  pub course : HasCourse l.last l.end c.links c.single.link c.shut c.manager c.single.connection.last opened info c.single.connection.address life
   pub creds : TiedCreds l.creds renewal.wanted life
   pub renewal_is : TiedRenewal l renewal life
   pub said : TiedSetup l info started life
@@ -350,11 +374,11 @@ pub record ComesAs (b : Book) (c : Core) (l : Ledger) (created : ℕ) (info : Re
   pub waits : TiedWaits b.story c.single.connection.requests life fresh c.single.connection.moved
   pub rounds : TiedRounds (has_generations b) b.story c.single.connection.requests (is_ready life) fresh c.single.connection.rounds
   pub early : AreEarly c.single.connection.requests life
-  pub notices : TiedNotices (hearing_in b.config) c.single.connection.hears l.hearing l.notices l.told l.end l.parted l.strange (is_reading l) untold false
+  pub notices : TiedNotices (hearing_in b.config) c.single.connection.hears (hearing_at life c.single.connection.hears l.hearing) l.notices l.told l.end l.parted l.strange (is_reading l) untold false
 
 -- where its new credentials are as they were
-abbrev pub ComesTo : Book → Core → Ledger → ℕ → RedisConnectionInfo → Life → List ℕ → List ℕ → List Heard → List ℕ → Type 0
-ComesTo b c l created info life fresh pending untold started = ComesAs b c l created info c.single.connection.renewal life fresh pending untold started
+abbrev pub ComesTo : Book → Core → Ledger → ℕ → Bool → RedisConnectionInfo → Life → List ℕ → List ℕ → List Heard → List ℕ → Type 0
+ComesTo b c l created opened info life fresh pending untold started = ComesAs b c l created opened info c.single.connection.renewal life fresh pending untold started
 
 -- the connection then
 abbrev pub renews_as : Core → RedisConnectionInfo → Renewal → Life → List ℕ → MultiplexedConnection
@@ -373,13 +397,13 @@ pub quiet_still : (b : Book) (c : Core) (started : List ℕ) → Tied b (inner c
 quiet_still b c started h w = let q = h.numbers.quiet w in (q.unwanted, q.unrenewed)
 
 -- the session tied to a book with these ledgers, and with these sources of credentials, where new credentials came to this
-pub heard_tied_as : (b : Book) (c : Core) (started : List ℕ) (word created : ℕ) (halted told : Bool) (kind : EventKind) (info : RedisConnectionInfo) (renewal : Renewal) (life : Life) (fresh pending : List ℕ) (untold : List Heard) (links : ℕ → Ledger) (l : Ledger) (asked uses : List SourceUse) → Tied b (inner c started) → TiedCreation created told
-    → renewal.within ≡ c.single.connection.renewal.within → StaysQuiet c renewal → info.protocol ≡ c.single.connection.info.protocol
-    → AreAside c.single.link c.links links c.single.connection.hears renewal.within created → AreUnrepeated links → links c.single.link ≡ l → asked ≡ uses → AreUses uses c.single.link l.creds.asked l.creds.renews → ComesAs b c l created info renewal life fresh pending untold started
-    → Tied (record (heard_book b c.turns word kind) { created = created; failed = halted; link = links; sources = asked }) (record (seen (turned c kind) [] (renews_as c info renewal life fresh) pending started) { told = told; untold = untold; sources = uses })
-heard_tied_as b c started word created halted told kind info renewal life fresh pending untold links l asked uses h made within quiet same others again is sourced used k =
+pub heard_tied_as : (b : Book) (c : Core) (started : List ℕ) (word created : ℕ) (halted told opened : Bool) (kind : EventKind) (info : RedisConnectionInfo) (renewal : Renewal) (life : Life) (fresh pending : List ℕ) (untold : List Heard) (links : ℕ → Ledger) (l : Ledger) (asked uses : List SourceUse) → Tied b (inner c started) → TiedCreation created told
+    → (b.created ≢ 0 → created ≢ 0) → renewal.within ≡ c.single.connection.renewal.within → renewal.wanted ≡ c.single.connection.renewal.wanted → StaysQuiet c renewal
+    → AreAside c.single.link c.links links c.single.connection.hears renewal.within created → AreUnrepeated links → links c.single.link ≡ l → asked ≡ uses → AreUses uses c.single.link l.creds.asked l.creds.renews → ComesAs b c l created opened info renewal life fresh pending untold started
+    → Tied (record (heard_book b c.turns word kind) { created = created; failed = halted; link = links; sources = asked }) (record (seen (turned c kind) [] (renews_as c info renewal life fresh) pending started) { told = told; opened = opened; untold = untold; sources = uses })
+heard_tied_as b c started word created halted told opened kind info renewal life fresh pending untold links l asked uses h made shown within wanted quiet others again is sourced used k =
     let after = record (heard_book b c.turns word kind) { created = created; failed = halted; link = links; sources = asked } in
-    let t = record (seen (turned c kind) [] (renews_as c info renewal life fresh) pending started) { told = told; untold = untold; sources = uses } in
+    let t = record (seen (turned c kind) [] (renews_as c info renewal life fresh) pending started) { told = told; opened = opened; untold = untold; sources = uses } in
     tied_by after t l is (record {
       numbers = record {
         turns = ap (λ n. n + 1) h.numbers.turns;
@@ -397,16 +421,19 @@ heard_tied_as b c started word created halted told kind info renewal life fresh 
         settings = record { size_is = h.numbers.settings.size_is; bound_is = h.numbers.settings.bound_is; limit_is = h.numbers.settings.limit_is; some = h.numbers.settings.some; limited = h.numbers.settings.limited };
         kind_is = h.numbers.kind_is;
         quiet = λ w. record { none = (h.numbers.quiet w).none; unwanted = (quiet w).0; unrenewed = (quiet w).1 };
-        plain = h.numbers.plain;
-        eager = h.numbers.eager;
+        comes_back = h.numbers.comes_back;
+        lazy = λ is. shown (h.numbers.lazy is);
         current_is = h.numbers.current_is;
-        speaks = h.numbers.speaks ∙ sym same;
-        one = h.numbers.one;
-        few_links = h.numbers.few_links;
+        speaks = h.numbers.speaks ∙ sym k.spoken;
+        address_is = h.numbers.address_is;
+        wants = h.numbers.wants ∙ sym wanted;
+        alone = h.numbers.alone;
       };
       others = others;
       notices = k.notices;
       life = k.lived;
+      course = course_later life l.last l.end c.links c.single.link c.shut (c.shut || is_shutdown kind) c.manager c.single.connection.last opened info c.single.connection.address (or_left c.shut (is_shutdown kind)) k.course;
+      calm = λ up awake. refl;
       creds = k.creds;
       creation = made;
       uses = used;
@@ -415,7 +442,7 @@ heard_tied_as b c started word created halted told kind info renewal life fresh 
       link = k.linked;
       names = h.names;
       story = h.story;
-      tries = tries_by (b.link c.single.link) l b.story c.single.connection.requests c.single.link started k.starts (k.notices.hearing_is ∙ sym h.notices.hearing_is) h.tries;
+      tries = tries_by (b.link c.single.link) l b.story c.single.connection.requests c.single.link started k.starts k.hearing_kept h.tries;
       lines = k.lines;
       told = k.told;
       waits = k.waits;
@@ -426,11 +453,11 @@ heard_tied_as b c started word created halted told kind info renewal life fresh 
     })
 
 -- where they are as they were
-pub heard_tied_by : (b : Book) (c : Core) (started : List ℕ) (word created : ℕ) (halted told : Bool) (kind : EventKind) (info : RedisConnectionInfo) (life : Life) (fresh pending : List ℕ) (untold : List Heard) (links : ℕ → Ledger) (l : Ledger) (asked uses : List SourceUse) → Tied b (inner c started) → TiedCreation created told → info.protocol ≡ c.single.connection.info.protocol
-    → AreAside c.single.link c.links links c.single.connection.hears c.single.connection.renewal.within created → AreUnrepeated links → links c.single.link ≡ l → asked ≡ uses → AreUses uses c.single.link l.creds.asked l.creds.renews → ComesTo b c l created info life fresh pending untold started
-    → Tied (record (heard_book b c.turns word kind) { created = created; failed = halted; link = links; sources = asked }) (record (seen (turned c kind) [] (comes_as c info life fresh) pending started) { told = told; untold = untold; sources = uses })
-heard_tied_by b c started word created halted told kind info life fresh pending untold links l asked uses h made same others again is sourced used k =
-    heard_tied_as b c started word created halted told kind info c.single.connection.renewal life fresh pending untold links l asked uses h made refl (quiet_still b c started h) same others again is sourced used k
+pub heard_tied_by : (b : Book) (c : Core) (started : List ℕ) (word created : ℕ) (halted told opened : Bool) (kind : EventKind) (info : RedisConnectionInfo) (life : Life) (fresh pending : List ℕ) (untold : List Heard) (links : ℕ → Ledger) (l : Ledger) (asked uses : List SourceUse) → Tied b (inner c started) → TiedCreation created told → (b.created ≢ 0 → created ≢ 0)
+    → AreAside c.single.link c.links links c.single.connection.hears c.single.connection.renewal.within created → AreUnrepeated links → links c.single.link ≡ l → asked ≡ uses → AreUses uses c.single.link l.creds.asked l.creds.renews → ComesTo b c l created opened info life fresh pending untold started
+    → Tied (record (heard_book b c.turns word kind) { created = created; failed = halted; link = links; sources = asked }) (record (seen (turned c kind) [] (comes_as c info life fresh) pending started) { told = told; opened = opened; untold = untold; sources = uses })
+heard_tied_by b c started word created halted told opened kind info life fresh pending untold links l asked uses h made shown others again is sourced used k =
+    heard_tied_as b c started word created halted told opened kind info c.single.connection.renewal life fresh pending untold links l asked uses h made shown refl refl (quiet_still b c started h) others again is sourced used k
 
 -- news ask for no source
 pub sources_hear : (l : Ledger) (turn : ℕ) (n : News) → (noted l (hears turn n)).creds.asked ≡ l.creds.asked
@@ -520,11 +547,11 @@ asked_hear l turn n = record { asked = (by_news n).asked; last = (by_news n).las
     by_news shut = same_asked l
 
 -- so the session says the same protocol to its server
-pub protocol_still : (b : Book) (c : Core) (started : List ℕ) (kind : EventKind) (info : RedisConnectionInfo) (l : Ledger) → Tied b (inner c started) → noted (b.link c.single.link) (hears c.turns (news_of b.timers b.sources c.single.link kind)) ≡ l → l.info ≡ info
+pub protocol_still : (b : Book) (c : Core) (started : List ℕ) (kind : EventKind) (info : RedisConnectionInfo) (l : Ledger) → Tied b (inner c started) → is_resting c.single.connection.life ≡ false → noted (b.link c.single.link) (hears c.turns (news_of b.timers b.sources c.single.link kind)) ≡ l → l.info ≡ info
     → info.protocol ≡ c.single.connection.info.protocol
-protocol_still b c started kind info l h is told =
+protocol_still b c started kind info l h there is told =
     let n = news_of b.timers b.sources c.single.link kind in
-    sym (ap (λ (x : RedisConnectionInfo). x.protocol) told) ∙ sym (ap (λ (x : Ledger). x.info.protocol) is) ∙ (asked_hear (b.link c.single.link) c.turns n).protocol ∙ ap (λ (x : RedisConnectionInfo). x.protocol) h.setup.info_is
+    sym (ap (λ (x : RedisConnectionInfo). x.protocol) told) ∙ sym (ap (λ (x : Ledger). x.info.protocol) is) ∙ (asked_hear (b.link c.single.link) c.turns n).protocol ∙ ap (λ (x : RedisConnectionInfo). x.protocol) (on_link c.single.connection.life ((b.link c.single.link).info ≡ c.single.connection.info) there h.setup.info_is)
 
 -- so all sources are for it as they were
 pub uses_hear : (sources : List SourceUse) (link : ℕ) (l : Ledger) (turn : ℕ) (n : News) → AreUses sources link l.creds.asked l.creds.renews → (let m = noted l (hears turn n) in AreUses sources link m.creds.asked m.creds.renews)
@@ -533,20 +560,20 @@ uses_hear sources link l turn n h =
     subst (λ (x : Bool). AreUses sources link x m.creds.renews) (sym (sources_hear l turn n)) (subst (λ (x : Bool). AreUses sources link l.creds.asked x) (sym (renews_hear l turn n)) h)
 
 -- by what its link hears, where new credentials came to this
-pub heard_tied_new : (b : Book) (c : Core) (started : List ℕ) (word created : ℕ) (halted told : Bool) (kind : EventKind) (info : RedisConnectionInfo) (renewal : Renewal) (life : Life) (fresh pending : List ℕ) (untold : List Heard) (l : Ledger) → Tied b (inner c started) → TiedCreation created told → renewal.within ≡ c.single.connection.renewal.within → StaysQuiet c renewal → is_bad c kind ≡ false → (b.created ≢ 0 → created ≢ 0)
-    → noted (b.link c.single.link) (hears c.turns (news_of b.timers b.sources c.single.link kind)) ≡ l → ComesAs b c l created info renewal life fresh pending untold started
-    → Tied (record (heard_book b c.turns word kind) { created = created; failed = halted }) (record (seen (turned c kind) [] (renews_as c info renewal life fresh) pending started) { told = told; untold = untold })
-heard_tied_new b c started word created halted told kind info renewal life fresh pending untold l h made within quiet good shown is k =
-    heard_tied_as b c started word created halted told kind info renewal life fresh pending untold (heard_book b c.turns word kind).link l b.sources (c.sources ++ []) h made within quiet (protocol_still b c started kind info l h is k.said.info_is)
+pub heard_tied_new : (b : Book) (c : Core) (started : List ℕ) (word created : ℕ) (halted told opened : Bool) (kind : EventKind) (info : RedisConnectionInfo) (renewal : Renewal) (life : Life) (fresh pending : List ℕ) (untold : List Heard) (l : Ledger) → Tied b (inner c started) → TiedCreation created told → renewal.within ≡ c.single.connection.renewal.within → renewal.wanted ≡ c.single.connection.renewal.wanted → StaysQuiet c renewal → is_bad c kind ≡ false → (b.created ≢ 0 → created ≢ 0)
+    → noted (b.link c.single.link) (hears c.turns (news_of b.timers b.sources c.single.link kind)) ≡ l → ComesAs b c l created opened info renewal life fresh pending untold started
+    → Tied (record (heard_book b c.turns word kind) { created = created; failed = halted }) (record (seen (turned c kind) [] (renews_as c info renewal life fresh) pending started) { told = told; opened = opened; untold = untold })
+heard_tied_new b c started word created halted told opened kind info renewal life fresh pending untold l h made within wanted quiet good shown is k =
+    heard_tied_as b c started word created halted told opened kind info renewal life fresh pending untold (heard_book b c.turns word kind).link l b.sources (c.sources ++ []) h made shown within wanted quiet
     (subst (λ o. AreAside c.single.link c.links (heard_book b c.turns word kind).link c.single.connection.hears o created) (sym within) (others_heard b c started kind created h good shown)) (still_unrepeated b c started kind h) is
     (h.numbers.sources ∙ sym (append-nil c.sources))
     (uses_on c.sources c.single.link (subst (λ (x : Ledger). AreUses c.sources c.single.link x.creds.asked x.creds.renews) is (uses_hear c.sources c.single.link (b.link c.single.link) c.turns (news_of b.timers b.sources c.single.link kind) h.uses))) k
 
 -- where they are as they were
-pub heard_tied : (b : Book) (c : Core) (started : List ℕ) (word created : ℕ) (halted told : Bool) (kind : EventKind) (info : RedisConnectionInfo) (life : Life) (fresh pending : List ℕ) (untold : List Heard) (l : Ledger) → Tied b (inner c started) → TiedCreation created told → is_bad c kind ≡ false → (b.created ≢ 0 → created ≢ 0)
-    → noted (b.link c.single.link) (hears c.turns (news_of b.timers b.sources c.single.link kind)) ≡ l → ComesTo b c l created info life fresh pending untold started
-    → Tied (record (heard_book b c.turns word kind) { created = created; failed = halted }) (record (seen (turned c kind) [] (comes_as c info life fresh) pending started) { told = told; untold = untold })
-heard_tied b c started word created halted told kind info life fresh pending untold l h made good shown is k = heard_tied_new b c started word created halted told kind info c.single.connection.renewal life fresh pending untold l h made refl (quiet_still b c started h) good shown is k
+pub heard_tied : (b : Book) (c : Core) (started : List ℕ) (word created : ℕ) (halted told opened : Bool) (kind : EventKind) (info : RedisConnectionInfo) (life : Life) (fresh pending : List ℕ) (untold : List Heard) (l : Ledger) → Tied b (inner c started) → TiedCreation created told → is_bad c kind ≡ false → (b.created ≢ 0 → created ≢ 0)
+    → noted (b.link c.single.link) (hears c.turns (news_of b.timers b.sources c.single.link kind)) ≡ l → ComesTo b c l created opened info life fresh pending untold started
+    → Tied (record (heard_book b c.turns word kind) { created = created; failed = halted }) (record (seen (turned c kind) [] (comes_as c info life fresh) pending started) { told = told; opened = opened; untold = untold })
+heard_tied b c started word created halted told opened kind info life fresh pending untold l h made good shown is k = heard_tied_new b c started word created halted told opened kind info c.single.connection.renewal life fresh pending untold l h made refl refl (quiet_still b c started h) good shown is k
 
 -- the trace begins
 --

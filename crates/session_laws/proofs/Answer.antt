@@ -20,12 +20,13 @@ use Rattle.mux_conn.specs.declared.request.Waiting.{Waiting}
 use Rattle.mux_conn.specs.Requests.{is_open as is_open_progress, is_placed, is_open_at, name_at, permits_at, with_permits, given_back}
 use Rattle.legal_trace.specs.Ledger.{End, Heard, Ledger, is_over, ending, next_notice, Ending, by_shutdown, by_fault, by_opening, by_attempt}
 use Rattle.legal_trace.specs.Story.{Story, Try, last_of, is_no_error, is_open, packed_in, shape_in, bytes_of, answered}
-use Rattle.legal_trace.specs.Book.{Book, entered}
+use Rattle.legal_trace.specs.Book.{Book, entered, faults_in}
 use Rattle.legal_trace.specs.Owed.{owed, owed_by, owed_to_try, owed_to_message, owed_unstarted, owed_waiting}
 use Rattle.legal_trace.specs.Legal.{NoneEnds, VerdictsAreShown, MayAnswer, FailuresAreShown, EndsAreTold, IsBefore, is_heard}
+use Rattle.session_laws.proofs.Calm.{calm_more, owed_calm}
 use Rattle.session_laws.proofs.Rounded.{rounds_closed, early_closed}
 use Rattle.session_laws.proofs.Numbers.{IsIn, in_either, in_right, in_left, Rising, rising_in, requests_in, request_in}
-use Rattle.session_laws.proofs.Tied.{Inner, link_in, queue_ids, TiedLife, TiedNames, IsEntry, AreQueued, TiedLines, Tied, relined, has_ended, numbers_kept}
+use Rattle.session_laws.proofs.Tied.{AreCalm, Inner, link_in, queue_ids, TiedLife, TiedNames, IsEntry, AreQueued, TiedLines, Tied, relined, has_ended, numbers_kept}
 use Rattle.session_laws.proofs.Said.{carried_tied, sources_asked}
 use Rattle.session_laws.proofs.Names.{name_within, open_within, earlier_name, owners_with, length_with, names_with, with_other, with_then, request_not}
 use Rattle.session_laws.proofs.Aside.{aside_ends, not_up_ends, over_not_asked}
@@ -64,7 +65,7 @@ some_end None o owes = cc
 some_end (Some e) o owes = refl
 
 -- a connection that has ended has a link that is over
-ended_over : (l : Ledger) (created : ℕ) (life : Life) → has_ended life ≡ true → TiedLife l created life → is_over l ≡ true
+pub ended_over : (l : Ledger) (created : ℕ) (life : Life) → has_ended life ≡ true → TiedLife l created life → is_over l ≡ true
 ended_over l created Resting over h = cc
 ended_over l created Dialing over h = cc
 ended_over l created (Wanting link) over h = cc
@@ -195,11 +196,12 @@ lines_answered table story requests link waiting admitted p pending started clos
 abbrev pub closed_in : Inner → ℕ → List ℕ → Inner
 closed_in t p pending = record t { requests = with_permits t.requests p progress.Closed 0; free = given_back t.limit t.free (permits_at t.requests p); pending = pending }
 
--- one that is to be answered is, and is neither in the row nor in the queue; who is told and has not started is there
-pub answer_apart : (b : Book) (t : Inner) (p : ℕ) (pending : List ℕ) (o : Outcome) → is_open_at t.requests p ≡ true → (IsIn p (wanted (link_in t.life).row ++ queue_ids (link_in t.life).queue) → ⊥)
+-- one that is to be answered is, and is neither in the row nor in the queue; who is told and has not started is there; and the answer
+-- is no cause for the next generation, until the link ends
+pub answer_apart : (b : Book) (t : Inner) (p : ℕ) (pending : List ℕ) (o : Outcome) → (has_ended t.life ≡ false → t.shut ≡ false → AreCalm (faults_in o)) → is_open_at t.requests p ≡ true → (IsIn p (wanted (link_in t.life).row ++ queue_ids (link_in t.life).queue) → ⊥)
     → (has_ended t.life ≡ false → AreQueued (entered b (action.Outcome (name_at t.requests p) o)).story (with_permits t.requests p progress.Closed 0) t.link (link_in t.life)) → Tied b (record t { pending = p ∷ pending })
     → Tied (entered b (action.Outcome (name_at t.requests p) o)) (closed_in t p pending)
-answer_apart b t p pending o open_is apart told h =
+answer_apart b t p pending o calm open_is apart told h =
     let l = open_within t.requests p open_is in
     let closed : ℕ → Story = λ n. answered (b.story n) o in
     let c : (n : ℕ) → Closes (b.story n) (closed n) = λ n. answer_closes (b.story n) o in
@@ -217,6 +219,8 @@ answer_apart b t p pending o open_is apart told h =
       others = h.others;
       notices = h.notices;
       life = h.life;
+      course = h.course;
+      calm = calm_more b.errors o t.shut t.life calm h.calm;
       creds = h.creds;
       creation = h.creation;
       uses = h.uses;
@@ -228,7 +232,7 @@ answer_apart b t p pending o open_is apart told h =
       tries = tries_closed (b.link t.link) b.story t.requests t.link p closed t.started c h.tries;
       lines = lines_answered t.table b.story t.requests (link_in t.life) t.waiting t.admitted p pending t.started closed h.names l c apart h.lines;
       told = told;
-      waits = waits_closed t.table b.story t.requests p closed t.life t.life t.fresh t.moved h.names l (λ e. e) (λ x e. (x, e)) (λ x u e. (x, e)) (λ x e. (x, e))
+      waits = waits_closed t.table b.story t.requests p closed t.life t.life t.fresh t.moved h.names l (λ e. e) (λ e. e) (λ x e. (x, e)) (λ x u e. (x, e)) (λ x e. (x, e))
           (λ q i.
           let j = awaited_in q link.queue i in
           let k = rising_in 0 (requests_in t.started ++ (queue ++ kept)) (length t.requests) q h.lines.line (in_right q (requests_in t.started) (queue ++ kept) (in_left q queue kept j)) in
@@ -301,7 +305,7 @@ answer_tied b t p pending o e owes r h =
       | inl j ↦ in_left p (requests_in (wanted link.row)) (queue_ids link.queue) (request_in p (wanted link.row) (request_not b (record t { pending = p ∷ pending }) p h l) j)
       | inr j ↦ in_right p (requests_in (wanted link.row)) (queue_ids link.queue) j
     ] in
-    answer_apart b t p pending o e (λ i. first_is_apart 0 p (pending ++ line_of link t.admitted t.waiting) (length t.requests) r (in_right p pending (line_of link t.admitted t.waiting) (front_in p (requests_in (wanted link.row)) (queue_ids link.queue) (kept_ids t.admitted t.waiting) (asked_in i))))
+    answer_apart b t p pending o (λ up open_still. owed_calm b (record t { pending = p ∷ pending }) p o h e up open_still owes) e (λ i. first_is_apart 0 p (pending ++ line_of link t.admitted t.waiting) (length t.requests) r (in_right p pending (line_of link t.admitted t.waiting) (front_in p (requests_in (wanted link.row)) (queue_ids link.queue) (kept_ids t.admitted t.waiting) (asked_in i))))
     (λ up. told_closed b.story t.requests t.link p (λ n. answered (b.story n) o) link link (λ u. absurd (owed_untold b (name_at t.requests p) o asked owes u)) (λ n. refl) (λ q is i. i) (λ q i. i) (h.told up)) h
 
 -- one that isn't open is answered with nothing shown

@@ -2,7 +2,7 @@
 use Rattle.std.proofs.lemmas.List.{append-nil}
 use Rattle.std.proofs.Common.{◌≡◌, ◌≢◌, inl, inr, ℕ, ◌+◌, ◌<◌, ◌≤◌, ◌==◌, Bool, true, false, ◌||◌, ◌&&◌, not, List, [], ◌∷◌, ◌++◌, length, Some, slice_get, if◌then◌else◌, refl, sym, ap, ◌∙◌, subst, append_assoc, arith, length-append, ◌^◌}
 use Rattle.containers.proofs.Places.{get_within}
-use Rattle.containers.proofs.Choices.{chosen, not_both}
+use Rattle.containers.proofs.Choices.{chosen, not_both, or_left}
 use Rattle.redis_error.specs.declared.redis_error.RedisError.{RedisError}
 use Rattle.redis_error.specs.declared.redis_error.RedisError.TheVariants as error
 use Rattle.driver_model.specs.declared.action.Action.{Action}
@@ -37,11 +37,12 @@ use Rattle.session_laws.proofs.Names.{there_within, names_asked, submits_unwatch
 use Rattle.session_laws.proofs.Owes.{started_within}
 use Rattle.session_laws.proofs.Settle.{seen}
 use Rattle.session_laws.proofs.Announce.{aims_longer, aims_on, turn_of, turned, may_turn, uses_on, uses_on, time_still, still_unrepeated}
-use Rattle.session_laws.proofs.Heard.{told_life, silent_no_end, silent_applied, still_none, tame_between}
+use Rattle.session_laws.proofs.Heard.{told_life, silent_no_end, silent_applied, still_none, tame_between, hushed_still}
 use Rattle.session_laws.proofs.Said.{setup_on, IsTame, renoticed}
 use Rattle.session_laws.proofs.Further.{one_longer, there_longer, before_or_new, further_story, tries_longer, queue_longer, packs_longer, entries_longer, link_longer, told_longer, IsNext, waits_longer, permits_longer, late_longer}
 use Rattle.session_laws.proofs.InLine.{kept_ids, awaited_in}
 use Rattle.session_laws.proofs.Submit.{stories_with, new_story, story_is_new, others_before, within_line, IsErrorOf, may_refuse, core_refused, refused_tied, or_none}
+use Rattle.session_laws.proofs.Comes.{course_later}
 
 -- a submission that isn't bad has a form
 formed : (c : Core) (what : Submission) → is_bad c (event.Submit what) ≡ false → has_no_form c.kind what ≡ false
@@ -63,11 +64,12 @@ refused_applied before c started word what e h few good why =
     let may : MayAnswer now (length c.table) (outcome.Fault e) = may_refuse b c started word what e h.sound.tied applied.answered applied.ended applied.created.failed why in
     record {
       sound = sound_more front a t all (inl (subst (λ (x : Book). MayAnswer x (length c.table) (outcome.Fault e)) (sym book_is) may))
-          (subst (λ (x : Book). Tied (entered x a) t) (sym book_is) (refused_tied b c started word what e h.sound.tied (tame_between before c started h) (formed c what good) few h.fresh));
+          (subst (λ (x : Book). Tied (entered x a) t) (sym book_is) (refused_tied b c started word what e h.sound.tied (tame_between before c started h) (formed c what good) few h.fresh why));
       ended = subst NoneEnds (sym (book_more front a ∙ ap (λ (x : Book). entered x a) book_is)) (λ m. silent_no_end (b.link m) c.turns (still_none before c started h m));
       began = λ z. absurd (omega arith);
       moved = h.moved;
-      fit = record { wanting = h.fit.wanting; setup = h.fit.setup; link = h.fit.link; none = h.fit.none; lasts = h.fit.lasts };
+      fit = record { wanting = h.fit.wanting; setup = h.fit.setup; link = h.fit.link; none = h.fit.none };
+      hushed = hushed_still c (event.Submit what) refl h.hushed;
     }
 
 -- it is the next request
@@ -258,16 +260,19 @@ asked_tied b c started word what h tame form few no_fresh up speaks some =
         settings = record { size_is = h.numbers.settings.size_is; bound_is = h.numbers.settings.bound_is; limit_is = h.numbers.settings.limit_is; some = h.numbers.settings.some; limited = h.numbers.settings.limited };
         kind_is = h.numbers.kind_is;
         quiet = λ w. absurd (submits_unwatched b (inner c started) what h form w);
-        plain = h.numbers.plain;
-        eager = h.numbers.eager;
+        comes_back = h.numbers.comes_back;
+        lazy = h.numbers.lazy;
         current_is = h.numbers.current_is;
         speaks = h.numbers.speaks;
-        one = h.numbers.one;
-        few_links = h.numbers.few_links;
+        address_is = h.numbers.address_is;
+        wants = h.numbers.wants;
+        alone = h.numbers.alone;
       };
       others = λ m other. aside_silent (b.link m) c.turns (h.others m other);
       notices = renoticed tame h.notices;
       life = told_life ledger b.created conn.life silence h.life;
+      course = course_later conn.life ledger.last ledger.end c.links c.single.link c.shut (c.shut || false) c.manager conn.last conn.opened conn.info conn.address (or_left c.shut false) h.course;
+      calm = λ up awake. refl;
       creds = h.creds;
       creation = h.creation;
       uses = uses_on c.sources c.single.link h.uses;
@@ -307,7 +312,8 @@ pub asked_applied : (before : List Action) (c : Core) (started : List ℕ) (word
     → HasApplied (before ++ turn_of c word (event.Submit what) ∷ []) (asked_for (heard (counted c) (event.Submit what)) what) started
 asked_applied before c started word what h few good up speaks some =
     let b = book before in
-    silent_applied before c started word (event.Submit what) (core_asked c what) (asked c.single.connection (length c.table) (packed_bytes what) (shape_of what) (is_reply_awaited what) c.timeout) h good (λ m. silent_no_end (b.link m) c.turns (still_none before c started h m)) (λ z. absurd (omega arith)) h.moved (record { wanting = h.fit.wanting; setup = h.fit.setup; link = h.fit.link; none = h.fit.none; lasts = h.fit.lasts })
+    silent_applied before c started word (event.Submit what) (core_asked c what) (asked c.single.connection (length c.table) (packed_bytes what) (shape_of what) (is_reply_awaited what) c.timeout) h good (λ m. silent_no_end (b.link m) c.turns (still_none before c started h m)) (λ z. absurd (omega arith)) h.moved (record { wanting = h.fit.wanting; setup = h.fit.setup; link = h.fit.link; none = h.fit.none })
+    (λ over. absurd (not_both b.shut up (h.sound.tied.numbers.shut ∙ sym (or_none c.shut) ∙ over)))
     (asked_tied b c started word what h.sound.tied (tame_between before c started h) (formed c what good) few h.fresh up speaks some)
 
 -- one or the other

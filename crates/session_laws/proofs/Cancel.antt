@@ -2,7 +2,7 @@
 use Rattle.std.proofs.lemmas.List.{append-nil}
 use Rattle.std.proofs.Common.{◌≡◌, ◌≢◌, inl, inr, ℕ, suc, ◌+◌, ◌<◌, ◌≤◌, ◌==◌, Bool, true, false, ◌&&◌, ◌||◌, is_some, List, [], ◌∷◌, ◌++◌, length, Option, Some, None, slice_get, if◌then◌else◌, refl, sym, ap, ◌∙◌, subst, arith}
 use Rattle.std.specs.List.{AllByRecursion}
-use Rattle.containers.proofs.Choices.{by_test, both_left, chosen, left_if, taken_if, eq_from, eq_test, ne_from, not_both}
+use Rattle.containers.proofs.Choices.{by_test, both_left, chosen, left_if, taken_if, eq_from, eq_test, ne_from, not_both, or_left}
 use Rattle.driver_model.specs.declared.hearing.Hearing.{Hearing}
 use Rattle.driver_model.specs.declared.action.Action.{Action}
 use Rattle.connection_info.specs.declared.address.RedisConnectionInfo.{RedisConnectionInfo}
@@ -30,7 +30,7 @@ use Rattle.mux_conn.specs.Requests.{is_open as is_open_progress, is_placed, is_o
 use Rattle.mux_conn.specs.Effects.{cancelled_in}
 use Rattle.shared_session.specs.declared.core_state.Core.{Core}
 use Rattle.shared_session.specs.Turn.{with_work, heard, is_shutdown, left_by, effect, counted, is_bad}
-use Rattle.legal_trace.specs.Ledger.{Ledger, Sourced, ending, hears, noted}
+use Rattle.legal_trace.specs.Ledger.{Ledger, Sourced, ending, hears, noted, Heard, End}
 use Rattle.legal_trace.specs.Story.{Story, is_open, is_told, left}
 use Rattle.legal_trace.specs.Book.{Book, after_event, book, entered, if_own, shuts, submitted_by, timeout_after, kind_in, has_generations}
 use Rattle.mux_conn.specs.Renewals.{renewal_id}
@@ -39,8 +39,9 @@ use Rattle.session_laws.proofs.Rounded.{rounds_closed, early_closed}
 use Rattle.session_laws.proofs.Aside.{aside_silent}
 use Rattle.session_laws.proofs.Renewals.{renewal_alike}
 use Rattle.session_laws.proofs.Numbers.{IsIn, in_left, in_right, in_either, Rising, rising_from, rising_in, rising_right, rising_tail, requests_in, request_in, request_of, request_other, requests_first}
-use Rattle.session_laws.proofs.Tied.{carried, inner, no_link, link_in, owner_of, queue_ids, whole_link, IsQueued, IsEntry, AreQueued, TiedCreds, TiedLife, TiedStory, TiedNames, TiedNumbers, TiedPermits, TiedLines, TiedSetup, IsAside, Tied, has_ended, TiedRenewal, greeter, TiedRounds, AreEarly}
-use Rattle.session_laws.proofs.States.{IsFit, IsFitIn, Between, HasApplied}
+use Rattle.session_laws.proofs.Server.{TiedCreds, TiedSetup, TiedRenewal, hearing_at}
+use Rattle.session_laws.proofs.Tied.{carried, inner, no_link, link_in, owner_of, queue_ids, whole_link, IsQueued, IsEntry, AreQueued, TiedLife, TiedStory, TiedNames, TiedNumbers, TiedPermits, TiedLines, IsAside, Tied, has_ended, greeter, TiedRounds, HasCourse, TiedNotices, AreEarly}
+use Rattle.session_laws.proofs.States.{IsFit, IsFitIn, Between, HasApplied, IsStopped}
 use Rattle.session_laws.proofs.Names.{name_within, open_within, name_of_some, owners_with, length_with, names_with, with_other, with_then, request_not}
 use Rattle.session_laws.proofs.InLine.{row_ids, kept_ids, chosen_in, awaited_in, wanted_in}
 use Rattle.session_laws.proofs.Behind.{open_untold}
@@ -52,9 +53,11 @@ use Rattle.session_laws.proofs.Settle.{seen}
 use Rattle.session_laws.proofs.Announce.{aims_on, turn_of, turned, uses_on, uses_on, time_still, still_unrepeated}
 use Rattle.session_laws.proofs.Kept.{tied_by}
 use Rattle.session_laws.proofs.Permits.{permits_closed}
-use Rattle.session_laws.proofs.Heard.{silent_applied, still_none, told_life, silent_no_end, tame_between}
+use Rattle.session_laws.proofs.Heard.{silent_applied, still_none, told_life, silent_no_end, tame_between, hushed_still}
 use Rattle.session_laws.proofs.Said.{carried_tied, setup_on, IsTame, renoticed}
-use Rattle.mux_conn.specs.Connection.{is_ready}
+use Rattle.mux_conn.specs.Connection.{is_ready, is_resting}
+use Rattle.session_laws.proofs.Comes.{course_later}
+use Rattle.shared_session.specs.declared.generations.Generations.{Generations}
 
 -- one who leaves closes its story
 --
@@ -299,6 +302,57 @@ left_link requests l (Ready link) p h n = told_tied (owner_of requests) l (cance
 left_link requests l (Ended e) p h n = cc
 
 -- what dials has dialled before
+-- one without a link has none still
+pub still_rests : (life : Life) (p : ℕ) → cancelled_in life p ≡ Resting → life ≡ Resting
+still_rests Resting p e = refl
+still_rests Dialing p e = cc
+still_rests (Wanting link) p e = cc
+still_rests (SettingUp link greeting) p e = cc
+still_rests (Ready link) p e = cc
+still_rests (Ended x) p e = cc
+
+pub resting_cancelled : (life : Life) (p : ℕ) → is_resting (cancelled_in life p) ≡ is_resting life
+resting_cancelled Resting p = refl
+resting_cancelled Dialing p = refl
+resting_cancelled (Wanting link) p = refl
+resting_cancelled (SettingUp link greeting) p = refl
+resting_cancelled (Ready link) p = refl
+resting_cancelled (Ended x) p = refl
+
+-- it has come as far, and so it has where everything is shut down later
+pub left_course : (life : Life) (p : ℕ) (is_last : Bool) (end : Option End) (links link : ℕ) (shut next : Bool) (manager : Option Generations) (last opened : Bool) (info address : RedisConnectionInfo) → (next ≡ false → shut ≡ false) → HasCourse is_last end links link shut manager last opened info address life
+    → HasCourse is_last end links link next manager last opened info address (cancelled_in life p)
+left_course Resting p is_last end links link shut next manager last opened info address later h = h
+left_course Dialing p is_last end links link shut next manager last opened info address later h = h
+left_course (Wanting state) p is_last end links link shut next manager last opened info address later h = h
+left_course (SettingUp state greeting) p is_last end links link shut next manager last opened info address later h = h
+left_course (Ready state) p is_last end links link shut next manager last opened info address later h = h
+left_course (Ended e) p is_last end links link shut next manager last opened info address later h = course_later (Ended e) is_last end links link shut next manager last opened info address later h
+
+-- and what is heard on it is the same
+pub left_hearing : (life : Life) (p : ℕ) (mine hearing : Hearing) → hearing_at (cancelled_in life p) mine hearing ≡ hearing_at life mine hearing
+left_hearing Resting p mine hearing = refl
+left_hearing Dialing p mine hearing = refl
+left_hearing (Wanting link) p mine hearing = refl
+left_hearing (SettingUp link greeting) p mine hearing = refl
+left_hearing (Ready link) p mine hearing = refl
+left_hearing (Ended x) p mine hearing = refl
+
+pub left_notices : {heard mine : Hearing} {notices : List Heard} {told : ℕ} {end : Option End} {parted strange reading : Bool} {untold : List Heard} {parting : Bool} (life : Life) (p : ℕ) (hearing : Hearing) → TiedNotices heard mine (hearing_at life mine hearing) notices told end parted strange reading untold parting
+    → TiedNotices heard mine (hearing_at (cancelled_in life p) mine hearing) notices told end parted strange reading untold parting
+left_notices {heard = heard} {mine = mine} {notices = notices} {told = told} {end = end} {parted = parted} {strange = strange} {reading = reading} {untold = untold} {parting = parting} life p hearing h =
+    subst (λ (x : Hearing). TiedNotices heard mine x notices told end parted strange reading untold parting) (sym (left_hearing life p mine hearing)) h
+
+-- where it is stopped it is so still
+pub left_stopped : (life : Life) (p : ℕ) (waiting : List Waiting) → IsStopped life waiting → IsStopped (cancelled_in life p) waiting
+left_stopped Resting p waiting h = h
+left_stopped Dialing p waiting h = h
+left_stopped (Wanting link) p waiting h = h
+left_stopped (SettingUp link greeting) p waiting h = h
+left_stopped (Ready link) p waiting h = h
+left_stopped (Ended x) p waiting h = h
+
+-- nor is a connect answered that wasn't
 pub still_dials : (life : Life) (p : ℕ) → cancelled_in life p ≡ Dialing → life ≡ Dialing
 still_dials Resting p e = cc
 still_dials Dialing p e = refl
@@ -407,23 +461,21 @@ left_others requests (Ended e) ys p lo r q i = absurd i
 
 -- the link is fit
 pub left_fit : (c : MultiplexedConnection) (free : ℕ) (requests : List Request) (life : Life) (p : ℕ) → c.life ≡ life → IsFitIn c → IsFitIn (record c { free = free; requests = requests; life = cancelled_in life p })
-left_fit c free requests Resting p is h = record { wanting = λ x e. cc; setup = λ x u e. cc; link = λ x e. cc; none = λ n. h.none (λ x e. (let no : Resting ≡ Ready x = sym is ∙ e in cc)); lasts = λ x y. h.lasts (ap is_ready is) (ap has_ended is) }
-left_fit c free requests Dialing p is h = record { wanting = λ x e. cc; setup = λ x u e. cc; link = λ x e. cc; none = λ n. h.none (λ x e. (let no : Dialing ≡ Ready x = sym is ∙ e in cc)); lasts = λ x y. h.lasts (ap is_ready is) (ap has_ended is) }
+left_fit c free requests Resting p is h = record { wanting = λ x e. cc; setup = λ x u e. cc; link = λ x e. cc; none = λ n. h.none (λ x e. (let no : Resting ≡ Ready x = sym is ∙ e in cc)) }
+left_fit c free requests Dialing p is h = record { wanting = λ x e. cc; setup = λ x u e. cc; link = λ x e. cc; none = λ n. h.none (λ x e. (let no : Dialing ≡ Ready x = sym is ∙ e in cc)) }
 left_fit c free requests (Wanting link) p is h = record {
   wanting = λ x e. let same : link ≡ x = cc in subst (IsFit c.size c.boundary) same (h.wanting link is);
   setup = λ x u e. cc;
   link = λ x e. cc;
   none = λ n. h.none (λ x e. (let no : Wanting link ≡ Ready x = sym is ∙ e in cc));
-  lasts = λ x y. h.lasts (ap is_ready is) (ap has_ended is);
 }
 left_fit c free requests (SettingUp link greeting) p is h = record {
   wanting = λ x e. cc;
   setup = λ x u e. let same : link ≡ x = cc in subst (IsFit c.size c.boundary) same (h.setup link greeting is);
   link = λ x e. cc;
   none = λ n. h.none (λ x e. (let no : SettingUp link greeting ≡ Ready x = sym is ∙ e in cc));
-  lasts = λ x y. h.lasts (ap is_ready is) (ap has_ended is);
 }
-left_fit c free requests (Ended y) p is h = record { wanting = λ x e. cc; setup = λ x u e. cc; link = λ x e. cc; none = λ n. h.none (λ x e. (let no : Ended y ≡ Ready x = sym is ∙ e in cc)); lasts = λ x y. cc }
+left_fit c free requests (Ended y) p is h = record { wanting = λ x e. cc; setup = λ x u e. cc; link = λ x e. cc; none = λ n. h.none (λ x e. (let no : Ended y ≡ Ready x = sym is ∙ e in cc)) }
 left_fit c free requests (Ready link) p is h = record {
   wanting = λ x e. cc;
   setup = λ x u e. cc;
@@ -433,7 +485,6 @@ left_fit c free requests (Ready link) p is h = record {
       let few = without_length link.queue p in
       subst (IsFit c.size c.boundary) same (record { sound = k.sound; size_is = k.size_is; bound_is = k.bound_is; within = omega (arith, k.within, few) });
   none = λ n. absurd (n (cancelled link p) refl);
-  lasts = λ x y. cc;
 }
 
 -- the turn
@@ -474,12 +525,13 @@ silent_numbers b c started word kind timeout story free life requests pending q 
   settings = record { size_is = h.numbers.settings.size_is; bound_is = h.numbers.settings.bound_is; limit_is = h.numbers.settings.limit_is; some = h.numbers.settings.some; limited = h.numbers.settings.limited };
   kind_is = h.numbers.kind_is;
   quiet = h.numbers.quiet;
-  plain = h.numbers.plain;
-  eager = h.numbers.eager;
+  comes_back = h.numbers.comes_back;
+  lazy = h.numbers.lazy;
   current_is = h.numbers.current_is;
   speaks = h.numbers.speaks;
-  one = h.numbers.one;
-  few_links = h.numbers.few_links;
+  address_is = h.numbers.address_is;
+  wants = h.numbers.wants;
+  alone = h.numbers.alone;
 }
 
 -- all other links stay aside
@@ -506,6 +558,8 @@ still_tied b c started word kind timeout q same h tame =
       others = λ m other. silent_others b c kind timeout m q (h.others m other);
       notices = renoticed tame h.notices;
       life = told_life ledger b.created conn.life silence h.life;
+      course = course_later conn.life ledger.last ledger.end c.links c.single.link c.shut (c.shut || is_shutdown kind) c.manager conn.last conn.opened conn.info conn.address (or_left c.shut (is_shutdown kind)) h.course;
+      calm = λ up awake. refl;
       creds = h.creds;
       creation = h.creation;
       uses = uses_on c.sources c.single.link h.uses;
@@ -550,8 +604,10 @@ gone_tied b c started word p n h tame o named =
     (record {
       numbers = silent_numbers b c started word (event.Cancel own) c.timeout after free (cancelled_in conn.life p) requests [] (leave_silent b c word own started h) h;
       others = λ m other. aside_silent (b.link m) c.turns (h.others m other);
-      notices = renoticed tame h.notices;
+      notices = left_notices conn.life p ledger.hearing (renoticed tame h.notices);
       life = left_life ledger b.created conn.life p h.life;
+      course = left_course conn.life p ledger.last ledger.end c.links c.single.link c.shut (c.shut || false) c.manager conn.last conn.opened conn.info conn.address (or_left c.shut false) h.course;
+      calm = λ up awake. refl;
       creds = left_creds ledger.creds conn.renewal.wanted conn.life p h.creds;
       creation = h.creation;
       uses = uses_on c.sources c.single.link h.uses;
@@ -563,7 +619,7 @@ gone_tied b c started word p n h tame o named =
       tries = tries_closed (record ledger { heard = silence }) b.story conn.requests c.single.link p closed started k (record { owners = h.tries.owners; greeted = h.tries.greeted; shapes = h.tries.shapes; tried = h.tries.tried; untried = h.tries.untried });
       lines = left_lines_in c.table b.story conn.requests conn.life conn.waiting conn.admitted p started closed h.names l (request_not b (inner c started) p h l) asked k (λ up. row_in_line b (inner c started) h up) h.lines;
       told = left_told b.story conn.requests c.single.link conn.life p asked h.told;
-      waits = waits_closed c.table b.story conn.requests p closed conn.life (cancelled_in conn.life p) conn.fresh conn.moved h.names l (still_dials conn.life p) (was_wanting conn.life p) (was_setting conn.life p) (was_ready conn.life p) (left_others conn.requests conn.life (kept_ids conn.admitted conn.waiting) p 0 line) h.waits;
+      waits = waits_closed c.table b.story conn.requests p closed conn.life (cancelled_in conn.life p) conn.fresh conn.moved h.names l (still_rests conn.life p) (still_dials conn.life p) (was_wanting conn.life p) (was_setting conn.life p) (was_ready conn.life p) (left_others conn.requests conn.life (kept_ids conn.admitted conn.waiting) p 0 line) h.waits;
       permits = subst (λ m. TiedPermits after m requests c.single.link conn.limit free []) (none_more b.submissions)
           (permits_closed b.story after c.table b.submissions conn.requests c.single.link conn.limit conn.free [] p h.names l known (r.on o) r.permits_is (λ m other. closed_other b.story conn.requests p closed m other)
           (ap (λ (s : Story). s.permits) is ∙ leave_frees (b.story own) asked) (ap (λ (s : Story). s.link) is ∙ leave_link (b.story own) ∙ r.on o) h.permits);
@@ -586,7 +642,7 @@ cancel_applied before c started word n h good = by_entry (slice_get c.table n) r
     b = book before
 
     still : is_open (b.story n) ≡ false → HasApplied (before ++ turn_of c word (event.Cancel n) ∷ []) (with_work (record { core = turned c (event.Cancel n); acts = [] }) (record { conn = c.single.connection; acts = [] })) started
-    still f = silent_applied before c started word (event.Cancel n) (turned c (event.Cancel n)) c.single.connection h good (λ m. silent_no_end (b.link m) c.turns (still_none before c started h m)) (λ z. absurd (omega arith)) h.moved h.fit
+    still f = silent_applied before c started word (event.Cancel n) (turned c (event.Cancel n)) c.single.connection h good (λ m. silent_no_end (b.link m) c.turns (still_none before c started h m)) (λ z. absurd (omega arith)) h.moved h.fit (hushed_still c (event.Cancel n) refl h.hushed)
         (still_tied b c started word (event.Cancel n) c.timeout (leave_silent b c word n started h.sound.tied) (stays_left b n f) h.sound.tied (tame_between before c started h))
 
     by_entry : (x : Option (Option Pending)) → slice_get c.table n ≡ x → TiedStory (b.story n) c.single.connection.requests c.single.link x → HasApplied (before ++ turn_of c word (event.Cancel n) ∷ []) (left_by (heard (counted c) (event.Cancel n)) x) started
@@ -600,5 +656,6 @@ cancel_applied before c started word n h good = by_entry (slice_get c.table n) r
         (is_open_at conn.requests p.number) (record (closed_conn conn p.number) { life = cancelled_in conn.life p.number }) conn
         (λ t. silent_applied before c started word (event.Cancel n) (turned c (event.Cancel n)) (record (closed_conn conn p.number) { life = cancelled_in conn.life p.number }) h good
         (λ m. silent_no_end (b.link m) c.turns (still_none before c started h m)) (λ z. absurd (omega arith)) h.moved (left_fit conn (given_back conn.limit conn.free (permits_at conn.requests p.number)) (with_permits conn.requests p.number progress.Closed 0) conn.life p.number refl h.fit)
+        (λ over. left_stopped conn.life p.number conn.waiting (hushed_still c (event.Cancel n) refl h.hushed over))
         (gone_tied b c started word p.number n h.sound.tied (tame_between before c started h) t named))
         (λ f. still (s.open_is ∙ f))

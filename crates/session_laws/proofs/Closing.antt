@@ -11,7 +11,7 @@ use Rattle.link_core.specs.Link.{LinkState}
 use Rattle.link_laws.specs.Settles.{awaited_ids}
 use Rattle.mux_conn.specs.declared.life.Greeting.{Greeting}
 use Rattle.mux_conn.specs.declared.life.Life.{Life}
-use Rattle.mux_conn.specs.declared.life.Life.TheVariants.{Dialing, Wanting, SettingUp, Ready}
+use Rattle.mux_conn.specs.declared.life.Life.TheVariants.{Resting, Dialing, Wanting, SettingUp, Ready}
 use Rattle.mux_conn.specs.declared.request.Pending.{Pending}
 use Rattle.mux_conn.specs.declared.request.Progress.TheVariants as progress
 use Rattle.mux_conn.specs.declared.request.Request.{Request}
@@ -23,7 +23,8 @@ use Rattle.legal_trace.specs.Story.{Story, is_open, is_told, shape, packed_in, s
 use Rattle.legal_trace.specs.Book.{if_own}
 use Rattle.session_laws.proofs.Numbers.{IsIn, Rising}
 use Rattle.legal_trace.specs.Ledger.{setup_count}
-use Rattle.session_laws.proofs.Tied.{link_in, owners_each, setup_owners, queue_ids, IsRefused, IsRequest, TiedStory, TiedTries, TiedNames, IsOf, IsQueued, IsPacked, IsKept, AreQueued, shown_wait, TiedWaits, AreLate}
+use Rattle.session_laws.proofs.Server.{setup_owners}
+use Rattle.session_laws.proofs.Tied.{link_in, owners_each, queue_ids, IsRefused, IsRequest, TiedStory, TiedTries, TiedNames, IsOf, IsQueued, IsPacked, IsKept, AreQueued, shown_wait, TiedWaits, AreLate}
 use Rattle.session_laws.proofs.Names.{name_placed, permits_other, permits_with, same_name, name_of_some, name_with, owners_with, length_with, was_with, there_within, with_same, with_other, with_then}
 
 -- a story that closes: what was handed in and tried stays
@@ -198,7 +199,7 @@ AreOthers requests p life after = (q : ℕ) → IsIn q (awaited_ids (link_in aft
 
 -- what is shown of a request that waits for the connection, or for a permit: nothing, or one of these
 abbrev pub IsOneOf : Option WaitKind → Type 0
-IsOneOf x = (x ≡ None) ⊎ ((x ≡ Some wait.Connect) ⊎ ((x ≡ Some wait.Creds) ⊎ ((x ≡ Some wait.Setup) ⊎ (x ≡ Some wait.Permit))))
+IsOneOf x = (x ≡ None) ⊎ ((x ≡ Some wait.Backoff) ⊎ ((x ≡ Some wait.Connect) ⊎ ((x ≡ Some wait.Creds) ⊎ ((x ≡ Some wait.Setup) ⊎ (x ≡ Some wait.Permit)))))
 
 -- with another left side
 pub one_of : (x y : Option WaitKind) → x ≡ y → IsOneOf y → IsOneOf x
@@ -218,9 +219,9 @@ WasSettingUp life after = (link : LinkState) (greeting : Greeting) → after ≡
 
 -- the waits of the others stay
 pub waits_closed : (table : List (Option Pending)) (story : ℕ → Story) (requests : List Request) (p : ℕ) (closed : ℕ → Story) (life after : Life) (fresh moved : List ℕ) → TiedNames table requests → p < length requests
-    → (after ≡ Dialing → life ≡ Dialing) → WasWanting life after → WasSettingUp life after → WasReady life after → AreOthers requests p life after → TiedWaits story requests life fresh moved
+    → (after ≡ Resting → life ≡ Resting) → (after ≡ Dialing → life ≡ Dialing) → WasWanting life after → WasSettingUp life after → WasReady life after → AreOthers requests p life after → TiedWaits story requests life fresh moved
     → TiedWaits (with_closed story requests p closed) (with_permits requests p progress.Closed 0) after fresh moved
-waits_closed table story requests p closed life after fresh moved names l dials wants sets ready others h =
+waits_closed table story requests p closed life after fresh moved names l rests dials wants sets ready others h =
     let waits : (q : ℕ) → is_waiting_at (with_permits requests p progress.Closed 0) q ≡ true → (p ≢ q) × (is_waiting_at requests q ≡ true) = λ q w. with_then is_waiting requests p q progress.Closed 0 refl l w in
     let admits : (q : ℕ) → is_admitted_at (with_permits requests p progress.Closed 0) q ≡ true → (p ≢ q) × (is_admitted_at requests q ≡ true) = λ q a. with_then is_admitted requests p q progress.Closed 0 refl l a in
     let same : (q : ℕ) → p ≢ q → q < length requests → shown_wait (with_closed story requests p closed) (with_permits requests p progress.Closed 0) q ≡ shown_wait story requests q = λ q other m. shown_closed table story requests p q closed names l m other in
@@ -228,6 +229,9 @@ waits_closed table story requests p closed life after fresh moved names l dials 
       early = λ q w.
           let k = waits q w in
           one_of (shown_wait (with_closed story requests p closed) (with_permits requests p progress.Closed 0) q) (shown_wait story requests q) (same q k.0 (there_within is_waiting requests q k.1)) (h.early q k.1);
+      backoff = λ q w d.
+          let k = waits q w in
+          elim (h.backoff q k.1 (rests d)) [ inl i ↦ inl i | inr e ↦ inr (same q k.0 (there_within is_waiting requests q k.1) ∙ e) ];
       connect = λ q w d.
           let k = waits q w in
           elim (h.connect q k.1 (dials d)) [ inl i ↦ inl i | inr e ↦ inr (same q k.0 (there_within is_waiting requests q k.1) ∙ e) ];
@@ -251,6 +255,7 @@ waits_closed table story requests p closed life after fresh moved names l dials 
           elim (h.room q k.2) [ inl j ↦ inl j | inr e ↦ inr (same q k.0 k.1 ∙ e) ];
       newer = subst (Rising 0 fresh) (sym (length_with requests p progress.Closed 0)) h.newer;
       rising = subst (Rising 0 moved) (sym (length_with requests p progress.Closed 0)) h.rising;
+      no_backoff = λ q i w d. let k = waits q w in same q k.0 (there_within is_waiting requests q k.1) ∙ h.no_backoff q i k.1 (rests d);
       no_connect = λ q i w d e. let k = waits q w in h.no_connect q i k.1 (dials d) (sym (same q k.0 (there_within is_waiting requests q k.1)) ∙ e);
       no_creds = λ q link i w c e. let k = waits q w in let x = wants link c in h.no_creds q x.0 i k.1 x.1 (sym (same q k.0 (there_within is_waiting requests q k.1)) ∙ e);
       no_setup = λ q link greeting i w s e. let k = waits q w in let x = sets link greeting s in h.no_setup q x.0 greeting i k.1 x.1 (sym (same q k.0 (there_within is_waiting requests q k.1)) ∙ e);

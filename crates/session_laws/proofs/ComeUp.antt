@@ -9,7 +9,7 @@ use Rattle.driver_model.specs.declared.action.SourceUse.TheVariants as source
 use Rattle.driver_model.specs.declared.action.WaitKind.{WaitKind}
 use Rattle.driver_model.specs.declared.action.WaitKind.TheVariants as wait
 use Rattle.driver_model.specs.declared.event.EventKind.{EventKind}
-use Rattle.driver_model.specs.News.{News, news_of}
+use Rattle.driver_model.specs.News.{News, news_of, shut}
 use Rattle.connection_info.specs.declared.address.RedisConnectionInfo.{RedisConnectionInfo}
 use Rattle.connection_setup.specs.Setup.{setup}
 use Rattle.driver_model.specs.Setup.{says_nothing}
@@ -24,7 +24,7 @@ use Rattle.mux_conn.specs.declared.life.Life.TheVariants.{Resting, Dialing, Want
 use Rattle.mux_conn.specs.Requests.{is_waiting_at}
 use Rattle.mux_conn.specs.Effects.{all_fresh, come_up, creation_told, made_ready, sets_up, setup_queued, steps_of, numbers_of, greeted, setup_id}
 use Rattle.mux_conn.specs.Turn.{early_wait}
-use Rattle.mux_conn.specs.Connection.{Work, is_ready, acted, opened_on}
+use Rattle.mux_conn.specs.Connection.{Work, is_ready, acted, opened_on, is_resting}
 use Rattle.mux_conn.specs.Renewals.{source_asked}
 use Rattle.mux_conn.specs.declared.connection.MultiplexedConnection.{MultiplexedConnection}
 use Rattle.mux_conn.specs.declared.request.Request.{Request}
@@ -37,7 +37,8 @@ use Rattle.legal_trace.specs.Story.{Story}
 use Rattle.legal_trace.specs.Legal.{AllStand, MayBeCreated, MayNeed}
 use Rattle.legal_trace.proofs.Setups.{ends_where_set, silent_is_set, silent_is_greeted}
 use Rattle.session_laws.proofs.Rounded.{rounds_down, rounds_new, unbegun_waits}
-use Rattle.session_laws.proofs.Tied.{shown_creation, Sound, TiedCreation, never_rests, AreSetups, AreQueued, HasCredentials, IsEntry, IsQueued, IsSettingUp, IsSetupDue, IsSetUp, Inner, Tied, TiedLines, TiedNotices, TiedWaits, has_ended, inner, link_in, no_link, owner_of, queue_ids, shown_wait, waiting_ids, AreSought, AreUses, HasSaid, is_reading, AreSetupsAlone, IsWatching, greeting_at, owners_of, setup_owners, watch_queued, TiedRounds}
+use Rattle.session_laws.proofs.Server.{AreSetups, HasCredentials, IsSettingUp, IsSetupDue, IsSetUp, AreSought, HasSaid, AreSetupsAlone, IsWatching, greeting_at, owners_of, setup_owners, watch_queued}
+use Rattle.session_laws.proofs.Tied.{shown_creation, Sound, TiedCreation, AreQueued, IsEntry, IsQueued, Inner, Tied, TiedLines, TiedNotices, TiedWaits, has_ended, inner, link_in, no_link, owner_of, queue_ids, shown_wait, waiting_ids, AreUses, is_reading, TiedRounds, is_begun}
 use Rattle.session_laws.proofs.Unrepeated.{unrepeated_lined}
 use Rattle.session_laws.proofs.States.{Between, HasApplied, IsFit, IsFitIn}
 use Rattle.session_laws.proofs.Creds.{has_credentials, IsOfRenewals, down_sourced}
@@ -46,8 +47,8 @@ use Rattle.session_laws.proofs.Entered.{all_stand-append, book_more, sound_more,
 use Rattle.session_laws.proofs.Settle.{Tells, seen, trace_of_acts}
 use Rattle.session_laws.proofs.InLine.{kept_ids}
 use Rattle.session_laws.proofs.Numbers.{IsIn, Rising, rising_right, requests_in}
-use Rattle.session_laws.proofs.Announce.{IsNewsKind, comes_as, heard_book, heard_is, heard_starts, heard_tied, may_turn, turn_of, turned, ComesTo, heard_tied_by, others_heard, renews_hear, uses_asked, uses_more, protocol_still, still_unrepeated}
-use Rattle.session_laws.proofs.Heard.{book_kind, book_news, fresh_applied, heard_by, none_ends, none_hears}
+use Rattle.session_laws.proofs.Announce.{IsNewsKind, comes_as, heard_book, heard_is, heard_starts, heard_tied, may_turn, turn_of, turned, ComesTo, heard_tied_by, others_heard, renews_hear, uses_asked, uses_more, protocol_still, still_unrepeated, heard_hearing, asked_hear}
+use Rattle.session_laws.proofs.Heard.{book_kind, book_news, fresh_applied, heard_by, none_ends, none_hears, hushed_there, going_awake}
 use Rattle.session_laws.proofs.Ahead.{waiting_open}
 use Rattle.session_laws.proofs.Renewals.{early_renewal, renewed_first}
 use Rattle.session_laws.proofs.Kept.{mine_noted, others_kept}
@@ -56,6 +57,7 @@ use Rattle.session_laws.proofs.Failing.{unstarted_owed}
 use Rattle.mux_conn.specs.declared.life.Greeting.TheVariants as greet
 use Rattle.mux_conn.specs.declared.life.Greeting.{Greeting}
 use Rattle.driver_model.specs.Hearing.{is_watching}
+use Rattle.session_laws.proofs.Comes.{tied_live, tied_unopened}
 
 -- the waits
 --
@@ -71,7 +73,7 @@ bare_lines story requests link waiting admitted started queue row h = record {
 }
 
 -- the numbers of those that wait
-numbers_is : (ws : List Waiting) → numbers_of ws ≡ waiting_ids ws
+pub numbers_is : (ws : List Waiting) → numbers_of ws ≡ waiting_ids ws
 numbers_is [] = refl
 numbers_is (w ∷ ws) = ap (λ ns. w.number ∷ ns) (numbers_is ws)
 
@@ -98,7 +100,7 @@ fresh_rises b t h =
 
 -- where no wait is to be shown, who waits for the connection has shown what it waits for
 shown_early : (b : Book) (t : Inner) (p : ℕ) (life : Life) → Tied b t → t.fresh ≡ [] → t.life ≡ life → is_ready life ≡ false → has_ended life ≡ false → is_waiting_at t.requests p ≡ true → shown_wait b.story t.requests p ≡ Some (early_wait life)
-shown_early b t p Resting h none e f g w = absurd (never_rests (b.link t.link) b.created t.life e h.life)
+shown_early b t p Resting h none e f g w = elim (h.waits.backoff p w e) [ inl i ↦ absurd (subst (IsIn p) none i) | inr s ↦ s ]
 shown_early b t p Dialing h none e f g w = elim (h.waits.connect p w e) [ inl i ↦ absurd (subst (IsIn p) none i) | inr s ↦ s ]
 shown_early b t p (Wanting link) h none e f g w = elim (h.waits.creds p link w e) [ inl i ↦ absurd (subst (IsIn p) none i) | inr s ↦ s ]
 shown_early b t p (SettingUp link greeting) h none e f g w = elim (h.waits.setup p link greeting w e) [ inl i ↦ absurd (subst (IsIn p) none i) | inr s ↦ s ]
@@ -110,10 +112,11 @@ same_kind : (a b : WaitKind) → ◌≡◌ {A = Option WaitKind} (Some a) (Some 
 same_kind a b e = cc
 
 -- the waits in a life in which something else is waited for, where all that waited are to show theirs anew
-pub fresh_waits : (b : Book) (t : Inner) (life after : Life) → Tied b t → t.pending ≡ [] → t.admitted ≡ [] → t.fresh ≡ [] → t.life ≡ life → link_in life ≡ no_link → is_ready life ≡ false → has_ended life ≡ false → early_wait life ≢ early_wait after
+pub fresh_waits : (b : Book) (t : Inner) (life after : Life) → Tied b t → t.pending ≡ [] → t.admitted ≡ [] → t.fresh ≡ [] → t.life ≡ life → link_in life ≡ no_link → is_ready life ≡ false → has_ended life ≡ false → early_wait life ≢ early_wait after → is_resting after ≡ false
     → (link_in after).queue ≡ [] → TiedWaits b.story t.requests after (numbers_of t.waiting) t.moved
-fresh_waits b t life after h none nobody no_fresh e bare f g other queue = record {
+fresh_waits b t life after h none nobody no_fresh e bare f g other goes queue = record {
   early = h.waits.early;
+  backoff = λ p w d. inl (here p w);
   connect = λ p w d. inl (here p w);
   creds = λ p x w d. inl (here p w);
   setup = λ p x u w d. inl (here p w);
@@ -122,6 +125,7 @@ fresh_waits b t life after h none nobody no_fresh e bare f g other queue = recor
   room = λ p i. absurd (subst (λ (qs : List Queued). IsIn p (awaited_ids qs)) queue i);
   newer = fresh_rises b t h;
   rising = h.waits.rising;
+  no_backoff = λ p i w d. absurd (not_both (is_resting after) goes (ap is_resting d));
   no_connect = λ p i w d. anew p w wait.Connect (ap early_wait d);
   no_creds = λ p x i w d. anew p w wait.Creds (ap early_wait d);
   no_setup = λ p x u i w d. anew p w wait.Setup (ap early_wait d);
@@ -144,7 +148,6 @@ pub record IsMade (l : Ledger) (created : ℕ) (requests : List Request) (link :
   pub asked : l.asked ≡ true
   pub up : l.up ≡ true
   pub alive : l.end ≡ None
-  pub last : l.last ≡ true
   pub said : IsSetUp l
   pub tied : TiedLink (owner_of requests) l link
   pub queue : link.queue ≡ []
@@ -155,11 +158,12 @@ pub record IsShownReady (front : List Action) (f : Core) (w : Work) (l : Ledger)
   pub holds : Tells front f w untold [] started
   pub ledger : (book (trace_of_acts front f w.acts)).link f.single.link ≡ l
 
--- the life of a connection whose link isn't ready, and has not ended
+-- the life of a connection that has a link, which isn't ready, and has not ended
 pub record IsEarly (life : Life) (after : WaitKind) : Type 0 where
   pub bare : link_in life ≡ no_link
   pub unready : is_ready life ≡ false
   pub alive : has_ended life ≡ false
+  pub there : is_resting life ≡ false
   pub other : early_wait life ≢ after
 
 -- no message has started there
@@ -191,9 +195,9 @@ pub record IsReadied (b : Book) (c : Core) (l : Ledger) (info : RedisConnectionI
 
 -- what the session needs of it, also where a second source is asked for
 readied_comes : (b : Book) (c : Core) (started : List ℕ) (n : News) (info : RedisConnectionInfo) (link : LinkState) (untold : List Heard) (more : Bool) (created : ℕ) → created ≢ 0 → Tied b (inner c started) → IsFitIn c.single.connection → c.single.connection.fresh ≡ [] → (IsOfRenewals n → ⊥) → IsEarly c.single.connection.life wait.Permit
-    → (let l = heard_by b c n in IsReadied b c l info link untold → l.creds.wanted ≡ more → (more ≡ true → l.creds.asked ≡ true)
-    → ComesTo b c (readied more l) created info (Ready link) (numbers_of c.single.connection.waiting) [] untold started)
-readied_comes b c started n info link untold more created some_created h0 fit no_fresh other early facts needs some =
+    → (let l = heard_by b c n in IsReadied b c l info link untold → info.protocol ≡ c.single.connection.info.protocol → l.creds.wanted ≡ more → (more ≡ true → l.creds.asked ≡ true)
+    → ComesTo b c (readied more l) created true info (Ready link) (numbers_of c.single.connection.waiting) [] untold started)
+readied_comes b c started n info link untold more created some_created h0 fit no_fresh other early facts spoken needs some =
     let conn = c.single.connection in
     let l = heard_by b c n in
     let made = facts.made in
@@ -203,9 +207,13 @@ readied_comes b c started n info link untold more created some_created h0 fit no
     let none = none_hears (b.link c.single.link) c.turns n conn.renewal other (early_renewal (b.link c.single.link) conn.renewal conn.life early.unready early.alive h0.renewal) in
     let once : l.creds.renews ≡ false = renews_hear (b.link c.single.link) c.turns n ∙ early_sources (b.link c.single.link).creds conn.life early.unready early.alive h0.creds.sought in
     let said = setup_recredited l asked renews l.creds.renewals l.creds.over l.creds.timed l.creds.lost info started link (record { info_is = facts.info_is; sent = facts.sent; said = made.said }) in
+    let live = tied_live b (inner c started) h0 early.there early.alive in
     record {
       starts = heard_starts (b.link c.single.link) c.turns n;
-      lived = (made.asked, made.up, made.alive, made.last, some_created);
+      hearing_kept = heard_hearing (b.link c.single.link) c.turns n;
+      spoken = spoken;
+      lived = (made.asked, made.up, made.alive, some_created);
+      course = (live.links, live.begun, refl, (asked_hear (b.link c.single.link) c.turns n).last ∙ live.lasts);
       creds = record {
         wanted_is = facts.wanted_is;
         sought = (
@@ -232,7 +240,7 @@ readied_comes b c started n info link untold more created some_created h0 fit no
         told = λ m told none on. absurd (let q = (subst (λ (x : LinkState). AreQueued b.story conn.requests c.single.link x) early.bare (h0.told early.alive)).told m told none on in q.3);
         here = λ p i. absurd (subst (λ (qs : List Queued). IsIn p (queue_ids qs)) made.queue i);
       };
-      waits = fresh_waits b (inner c started) conn.life (Ready link) h0 refl nobody no_fresh refl early.bare early.unready early.alive early.other made.queue;
+      waits = fresh_waits b (inner c started) conn.life (Ready link) h0 refl nobody no_fresh refl early.bare early.unready early.alive early.other refl made.queue;
       rounds = anew_rounds b (inner c started) h0 refl nobody early.bare;
       early = λ up. cc;
       notices = facts.notices;
@@ -290,6 +298,9 @@ makes_ready before c started word kind n info link untold h good k is other earl
     own : now.link mine ≡ l
     own = ap (heard_by b c) (book_news b c started kind n h0 is)
 
+    spoken : info.protocol ≡ c.single.connection.info.protocol
+    spoken = protocol_still b c started kind info l h0 early.there own facts.info_is
+
     may : b.created ≡ 0 → MayBeCreated now
     may unshown = may_be_created b c started word kind n info link untold h0 early own facts unshown
 
@@ -302,10 +313,10 @@ makes_ready before c started word kind n info link untold h good k is other earl
     -- none come of sources
     unwanted : b.created ≡ 0 → c.single.connection.renewal.wanted ≡ false → IsShownReady front f v (readied c.single.connection.renewal.wanted l) untold started
     unwanted unshown w =
-        let t = record (seen f [] (comes_as c info (Ready link) ns) [] started) { told = true; untold = untold } in
+        let t = record (seen f [] (comes_as c info (Ready link) ns) [] started) { told = true; opened = true; untold = untold } in
         let same : readied c.single.connection.renewal.wanted l ≡ l = ap (λ (x : Bool). readied x l) w in
-        let comes = readied_comes b c started n info link untold false (b.created + 1) ((shown_creation b.created).after refl) h0 h.fit h.fresh other early facts (facts.wanted_is ∙ w) (λ none. cc) in
-        let tied : Tied (entered now shown) t = heard_tied b c started word (b.created + 1) (b.failed || false) true kind info (Ready link) ns [] untold l h0 (shown_creation b.created) good (λ some none. absurd (omega arith)) own comes in
+        let comes = readied_comes b c started n info link untold false (b.created + 1) ((shown_creation b.created).after refl) h0 h.fit h.fresh other early facts spoken (facts.wanted_is ∙ w) (λ none. cc) in
+        let tied : Tied (entered now shown) t = heard_tied b c started word (b.created + 1) (b.failed || false) true true kind info (Ready link) ns [] untold l h0 (shown_creation b.created) good (λ some none. absurd (omega arith)) own comes in
         record {
           holds = sound_more front shown t all (inl (subst MayBeCreated (sym book_is) (may unshown))) (subst (λ (x : Book). Tied (entered x shown) t) (sym book_is) tied);
           ledger = ap (λ (x : Book). x.link mine) (book_more front shown ∙ ap (λ (x : Book). entered x shown) book_is) ∙ own ∙ sym same;
@@ -329,11 +340,11 @@ makes_ready before c started word kind n info link untold h good k is other earl
         let links : ℕ → Ledger = λ m. noted_each (now.link m) (if_mine (mine == m) sources) in
         let after = noted l sources in
         let ledger_is : links mine ≡ after = mine_noted (now.link mine) mine sources ∙ ap (λ (y : Ledger). noted y sources) own in
-        let t = record (seen f [] (comes_as c info (Ready link) ns) [] started) { told = true; untold = untold; sources = uses } in
-        let comes = readied_comes b c started n info link untold true (b.created + 1) ((shown_creation b.created).after refl) h0 h.fit h.fresh other early facts wanted (λ x. asked) in
+        let t = record (seen f [] (comes_as c info (Ready link) ns) [] started) { told = true; opened = true; untold = untold; sources = uses } in
+        let comes = readied_comes b c started n info link untold true (b.created + 1) ((shown_creation b.created).after refl) h0 h.fit h.fresh other early facts spoken wanted (λ x. asked) in
         let used : AreUses uses mine true l.creds.asked = uses_more c.sources mine true l.creds.asked (source.Renewal mine) (omega arith, λ same. asked) (uses_asked c.sources mine (b.link mine).creds.asked (b.link mine).creds.renews l.creds.asked once h0.uses) in
         let tied : Tied (entered created needs) t =
-        heard_tied_by b c started word (b.created + 1) (b.failed || false) true kind info (Ready link) ns [] untold links after (b.sources ++ what ∷ []) uses h0 (shown_creation b.created) (protocol_still b c started kind info l h0 own facts.info_is) (others_kept now mine sources others) (unrepeated_lined now.link mine sources refl (still_unrepeated b c started kind h0)) ledger_is
+        heard_tied_by b c started word (b.created + 1) (b.failed || false) true true kind info (Ready link) ns [] untold links after (b.sources ++ what ∷ []) uses h0 (shown_creation b.created) (λ some none. absurd (omega arith)) (others_kept now mine sources others) (unrepeated_lined now.link mine sources refl (still_unrepeated b c started kind h0)) ledger_is
         (λ i. h0.numbers.sources i ++ what_is i ∷ []) used comes in
         let need : MayNeed created count mine = record {
           due = ap source_due own ∙ (λ i. facts.made.up i && wanted i && (not (asked i) || (facts.made.said.well i && not (renews i))));
@@ -366,10 +377,10 @@ makes_ready before c started word kind n info link untold h good k is other earl
 
     again_unwanted : c.single.connection.told ≡ true → c.single.connection.renewal.wanted ≡ false → IsShownReady front f u (readied c.single.connection.renewal.wanted l) untold started
     again_unwanted told w =
-        let t = record (seen f [] (comes_as c info (Ready link) ns) [] started) { told = true; untold = untold } in
+        let t = record (seen f [] (comes_as c info (Ready link) ns) [] started) { told = true; opened = true; untold = untold } in
         let same : readied c.single.connection.renewal.wanted l ≡ l = ap (λ (x : Bool). readied x l) w in
-        let comes = readied_comes b c started n info link untold false b.created (h0.creation.after told) h0 h.fit h.fresh other early facts (facts.wanted_is ∙ w) (λ none. cc) in
-        let tied : Tied now t = heard_tied b c started word b.created b.failed true kind info (Ready link) ns [] untold l h0 (again_creation told) good (λ some. some) own comes in
+        let comes = readied_comes b c started n info link untold false b.created (h0.creation.after told) h0 h.fit h.fresh other early facts spoken (facts.wanted_is ∙ w) (λ none. cc) in
+        let tied : Tied now t = heard_tied b c started word b.created b.failed true true kind info (Ready link) ns [] untold l h0 (again_creation told) good (λ some. some) own comes in
         record {
           holds = subst (λ (x : List Action). Sound x t) (sym (append-nil front)) (record { stands = all; tied = subst (λ (x : Book). Tied x t) (sym book_is) tied });
           ledger = ap (λ (x : List Action). (book x).link mine) (append-nil front) ∙ ap (λ (x : Book). x.link mine) book_is ∙ own ∙ sym same;
@@ -390,11 +401,11 @@ makes_ready before c started word kind n info link untold h good k is other earl
         let links : ℕ → Ledger = λ m. noted_each (now.link m) (if_mine (mine == m) sources) in
         let after = noted l sources in
         let ledger_is : links mine ≡ after = mine_noted (now.link mine) mine sources ∙ ap (λ (y : Ledger). noted y sources) own in
-        let t = record (seen f [] (comes_as c info (Ready link) ns) [] started) { told = true; untold = untold; sources = uses } in
-        let comes = readied_comes b c started n info link untold true b.created (h0.creation.after told) h0 h.fit h.fresh other early facts wanted (λ x. asked) in
+        let t = record (seen f [] (comes_as c info (Ready link) ns) [] started) { told = true; opened = true; untold = untold; sources = uses } in
+        let comes = readied_comes b c started n info link untold true b.created (h0.creation.after told) h0 h.fit h.fresh other early facts spoken wanted (λ x. asked) in
         let used : AreUses uses mine true l.creds.asked = uses_more c.sources mine true l.creds.asked (source.Renewal mine) (omega arith, λ same. asked) (uses_asked c.sources mine (b.link mine).creds.asked (b.link mine).creds.renews l.creds.asked once h0.uses) in
         let tied : Tied (entered now needs) t =
-        heard_tied_by b c started word b.created b.failed true kind info (Ready link) ns [] untold links after (b.sources ++ what ∷ []) uses h0 (again_creation told) (protocol_still b c started kind info l h0 own facts.info_is) (others_kept now mine sources others) (unrepeated_lined now.link mine sources refl (still_unrepeated b c started kind h0)) ledger_is
+        heard_tied_by b c started word b.created b.failed true true kind info (Ready link) ns [] untold links after (b.sources ++ what ∷ []) uses h0 (again_creation told) (λ some. some) (others_kept now mine sources others) (unrepeated_lined now.link mine sources refl (still_unrepeated b c started kind h0)) ledger_is
         (λ i. h0.numbers.sources i ++ what_is i ∷ []) used comes in
         let need : MayNeed now count mine = record {
           due = ap source_due own ∙ (λ i. facts.made.up i && wanted i && (not (asked i) || (facts.made.said.well i && not (renews i))));
@@ -441,9 +452,9 @@ made_is w link = by_wanted w.conn.renewal.wanted
     by_wanted false = refl
 
 -- so the event has had its effect, where the link need not end
-pub ready_applied : (front : List Action) (f : Core) (conn : MultiplexedConnection) (link : LinkState) (l : Ledger) (started : List ℕ) → f.turns ≢ 0 → conn.moved ≡ [] → IsFit conn.size conn.boundary link → ending l ≡ None
+pub ready_applied : (front : List Action) (f : Core) (conn : MultiplexedConnection) (link : LinkState) (l : Ledger) (started : List ℕ) → f.turns ≢ 0 → f.shut ≡ false → conn.moved ≡ [] → IsFit conn.size conn.boundary link → ending l ≡ None
     → IsShownReady front f (made_ready (record { conn = conn; acts = [] }) link) l [] started → HasApplied front (with_work (record { core = f; acts = [] }) (made_ready (record { conn = conn; acts = [] }) link)) started
-ready_applied front f conn link l started began none_moved fit none h =
+ready_applied front f conn link l started began awake none_moved fit none h =
     let first : Work = record { conn = conn; acts = [] } in
     let w = made_ready first link in
     let same = made_conn first link in
@@ -457,8 +468,8 @@ ready_applied front f conn link l started began none_moved fit none h =
         setup = λ x u e. cc;
         link = λ x e. (let same : link ≡ x = cc in subst (IsFit conn.size conn.boundary) same fit);
         none = λ none. absurd (none link refl);
-        lasts = λ x y. cc;
       });
+      hushed = λ over. absurd (not_both f.shut awake over);
     }
 
 -- a link is up
@@ -468,7 +479,6 @@ pub record IsUpNow (l : Ledger) (created : ℕ) (c : MultiplexedConnection) (inf
   pub asked : l.asked ≡ true
   pub up : l.up ≡ true
   pub alive : l.end ≡ None
-  pub last : l.last ≡ true
   pub info_is : l.info ≡ info
   pub wanted_is : l.creds.wanted ≡ c.renewal.wanted
   pub sent : AreSetups l
@@ -479,24 +489,38 @@ pub record IsUpNow (l : Ledger) (created : ℕ) (c : MultiplexedConnection) (inf
   pub row : link.row ≡ []
   pub fit : IsFit c.size c.boundary link
 
+-- to whose server the same protocol is said
+spoken_up : (before : List Action) (c : Core) (started : List ℕ) (kind : EventKind) (n : News) (info : RedisConnectionInfo) (link : LinkState) → Between before c started → news_of c.timers c.sources c.single.link kind ≡ n → is_resting c.single.connection.life ≡ false
+    → IsUpNow (heard_by (book before) c n) (book before).created c.single.connection info started link → info.protocol ≡ c.single.connection.info.protocol
+spoken_up before c started kind n info link h is there u =
+    let b = book before in
+    protocol_still b c started kind info (heard_by b c n) h.sound.tied there (ap (heard_by b c) (book_news b c started kind n h.sound.tied is)) u.info_is
+
+-- it has come as far as to be set up
+setting_course : (b : Book) (c : Core) (started : List ℕ) (n : News) → Tied b (inner c started) → is_resting c.single.connection.life ≡ false → is_ready c.single.connection.life ≡ false → has_ended c.single.connection.life ≡ false
+    → (let conn = c.single.connection in (c.links ≡ c.single.link + 1) × (is_begun c.manager ≡ true) × (conn.opened ≡ false) × ((heard_by b c n).last ≡ conn.last))
+setting_course b c started n h there unready alive =
+    let live = tied_live b (inner c started) h there alive in
+    (live.links, live.begun, tied_unopened b (inner c started) h unready alive, (asked_hear (b.link c.single.link) c.turns n).last ∙ live.lasts)
+
 -- what is to be said is the same for the session and the ledger
 says_same : (l : Ledger) (info : RedisConnectionInfo) → l.info ≡ info → says_nothing (setup_steps l 0) ≡ says_nothing (setup info true)
 says_same l info is = ap (λ (x : RedisConnectionInfo). says_nothing (setup x true)) is
 
 -- nothing is to be said: it is ready
 comes_ready : (before : List Action) (c : Core) (started : List ℕ) (word : ℕ) (kind : EventKind) (n : News) (info : RedisConnectionInfo) (link : LinkState) → Between before c started → is_bad c kind ≡ false → IsNewsKind c.timers kind → news_of c.timers c.sources c.single.link kind ≡ n
-    → (IsOfRenewals n → ⊥) → IsEarly c.single.connection.life wait.Permit
+    → (IsOfRenewals n → ⊥) → n ≢ shut → IsEarly c.single.connection.life wait.Permit
     → (let l = heard_by (book before) c n in IsUpNow l (book before).created c.single.connection info started link → HasCredentials l.creds → PushesOf (hearing_in (book before).config) c.single.connection.hears l → ((more : Bool) → ending_up (readied more l) n ≡ None)
     → says_nothing (setup info true) ≡ true → is_watching c.single.connection.hears ≡ false
     → HasApplied (before ++ turn_of c word kind ∷ []) (with_work (record { core = turned c kind; acts = [] }) (made_ready (record { conn = record c.single.connection { info = info }; acts = [] }) link)) started)
-comes_ready before c started word kind n info link h good k is other early u has notices calm nothing plain =
+comes_ready before c started word kind n info link h good k is other shutless early u has notices calm nothing plain =
     let conn = record c.single.connection { info = info } in
     let l = heard_by (book before) c n in
     let more = c.single.connection.renewal.wanted in
     let silent : says_nothing (setup_steps l 0) ≡ true = says_same l info u.info_is ∙ nothing in
     let said : IsSetUp l = record { well = silent_is_set l (ap is_watching notices.hearing_is ∙ plain) (has_credentials l.creds has) silent; none = λ t. ap setup_count u.starts } in
-    let made : IsMade l (book before).created conn.requests link = record { asked = u.asked; up = u.up; alive = u.alive; last = u.last; said = said; tied = u.tied (owner_of conn.requests); queue = u.queue; row = u.row } in
-    ready_applied (before ++ turn_of c word kind ∷ []) (turned c kind) conn link (readied more l) started (λ z. absurd (omega arith)) h.moved u.fit (ends_where_set (readied more l) u.up (well_readied more l ∙ said.well) ∙ calm more)
+    let made : IsMade l (book before).created conn.requests link = record { asked = u.asked; up = u.up; alive = u.alive; said = said; tied = u.tied (owner_of conn.requests); queue = u.queue; row = u.row } in
+    ready_applied (before ++ turn_of c word kind ∷ []) (turned c kind) conn link (readied more l) started (λ z. absurd (omega arith)) (going_awake c kind n is shutless early.there early.alive h.hushed) h.moved u.fit (ends_where_set (readied more l) u.up (well_readied more l ∙ said.well) ∙ calm more)
     (makes_ready before c started word kind n info link [] h good k is other early (record { info_is = u.info_is; sent = u.sent; wanted_is = u.wanted_is; has = has; made = made; notices = notices }))
 
 -- on a link on which nothing has started setups stand alone
@@ -505,11 +529,11 @@ bare_alone l none = ap owners_of none ∙ ap (λ (ss : List Start). setup_owners
 
 -- or its setup is to start
 comes_to_say : (before : List Action) (c : Core) (started : List ℕ) (word : ℕ) (kind : EventKind) (n : News) (info : RedisConnectionInfo) (link : LinkState) → Between before c started → is_bad c kind ≡ false → IsNewsKind c.timers kind → news_of c.timers c.sources c.single.link kind ≡ n
-    → (IsOfRenewals n → ⊥) → IsEarly c.single.connection.life wait.Setup
+    → (IsOfRenewals n → ⊥) → n ≢ shut → IsEarly c.single.connection.life wait.Setup
     → (let l = heard_by (book before) c n in IsUpNow l (book before).created c.single.connection info started link → HasCredentials l.creds → PushesOf (hearing_in (book before).config) c.single.connection.hears l → ending_unready l n ≡ None
     → says_nothing (setup info true) ≡ false
     → HasApplied (before ++ turn_of c word kind ∷ []) (with_work (record { core = turned c kind; acts = [] }) (sets_up (all_fresh (record { conn = record c.single.connection { info = info }; acts = [] })) link greet.WithUser)) started)
-comes_to_say before c started word kind n info link h good k is other early u has notices calm something =
+comes_to_say before c started word kind n info link h good k is other shutless early u has notices calm something =
     let b = book before in
     let h0 = h.sound.tied in
     let conn = c.single.connection in
@@ -539,14 +563,17 @@ comes_to_say before c started word kind n info link h good k is other early u ha
     fresh_applied before c started word kind n info life (numbers_of conn.waiting) h good k is
     (record {
       starts = heard_starts (b.link c.single.link) c.turns n;
-      lived = (u.asked, u.up, u.alive, u.last);
+      hearing_kept = heard_hearing (b.link c.single.link) c.turns n;
+      spoken = spoken_up before c started kind n info link h is early.there u;
+      lived = (u.asked, u.up, u.alive);
+      course = setting_course b c started n h0 early.there early.unready early.alive;
       creds = record { wanted_is = u.wanted_is; sought = (has, renews_hear (b.link c.single.link) c.turns n ∙ early_sources (b.link c.single.link).creds conn.life early.unready early.alive h0.creds.sought) };
       renewal_is = none_hears (b.link c.single.link) c.turns n conn.renewal other (early_renewal (b.link c.single.link) conn.renewal conn.life early.unready early.alive h0.renewal);
       said = record { info_is = u.info_is; sent = u.sent; said = (u.none, said) };
       linked = λ z. enqueued_tied _ l link q (u.tied _);
       lines = subst (λ (x : LinkState). TiedLines b.story conn.requests x conn.waiting conn.admitted [] started) early.bare h0.lines;
       told = λ z. subst (λ (x : LinkState). AreQueued b.story conn.requests c.single.link x) early.bare (h0.told early.alive);
-      waits = fresh_waits b (inner c started) conn.life life h0 refl nobody h.fresh refl early.bare early.unready early.alive early.other refl;
+      waits = fresh_waits b (inner c started) conn.life life h0 refl nobody h.fresh refl early.bare early.unready early.alive early.other refl refl;
       rounds = rounds_down b.story conn.requests conn.fresh (numbers_of conn.waiting) refl h0.rounds;
       early = λ unready alive. h0.early early.unready early.alive;
       notices = notices;
@@ -557,13 +584,14 @@ comes_to_say before c started word kind n info link h good k is other early u ha
       setup = λ x w same. (let one : next ≡ x = cc in subst (IsFit conn.size conn.boundary) one fits);
       link = λ x same. cc;
       none = λ z. nobody;
-      lasts = λ x y. h.fit.lasts early.unready early.alive;
     })
+    (hushed_there c kind n life is shutless early.there early.alive h.hushed)
 
 -- where there are no requests nobody waits
 none_wait : (story : ℕ → Story) (requests : List Request) (life : Life) (link : LinkState) (greeting : Greeting) (fresh moved : List ℕ) → requests ≡ [] → TiedWaits story requests life fresh moved → TiedWaits story requests (SettingUp link greeting) fresh moved
 none_wait story requests life link greeting fresh moved empty h = record {
   early = h.early;
+  backoff = λ p w d. absurd (nobody p w);
   connect = λ p w d. absurd (nobody p w);
   creds = λ p x w d. absurd (nobody p w);
   setup = λ p x u w d. absurd (nobody p w);
@@ -572,6 +600,7 @@ none_wait story requests life link greeting fresh moved empty h = record {
   room = λ p i. absurd i;
   newer = h.newer;
   rising = h.rising;
+  no_backoff = λ p i w d. absurd (nobody p w);
   no_connect = λ p i w d. absurd (nobody p w);
   no_creds = λ p x i w d. absurd (nobody p w);
   no_setup = λ p x u i w d. absurd (nobody p w);
@@ -590,11 +619,11 @@ none_asked b t h w = nil_from_length t.requests (let none = ap length (h.numbers
 
 -- or, where nothing is to be said, MONITOR is
 comes_to_watch : (before : List Action) (c : Core) (started : List ℕ) (word : ℕ) (kind : EventKind) (n : News) (info : RedisConnectionInfo) (link : LinkState) → Between before c started → is_bad c kind ≡ false → IsNewsKind c.timers kind → news_of c.timers c.sources c.single.link kind ≡ n
-    → (IsOfRenewals n → ⊥) → IsEarly c.single.connection.life wait.Setup
+    → (IsOfRenewals n → ⊥) → n ≢ shut → IsEarly c.single.connection.life wait.Setup
     → (let l = heard_by (book before) c n in IsUpNow l (book before).created c.single.connection info started link → HasCredentials l.creds → PushesOf (hearing_in (book before).config) c.single.connection.hears l → ending_unready l n ≡ None
     → says_nothing (setup info true) ≡ true → is_watching c.single.connection.hears ≡ true
     → HasApplied (before ++ turn_of c word kind ∷ []) (with_work (record { core = turned c kind; acts = [] }) (sets_up (record { conn = record c.single.connection { info = info }; acts = [] }) link greet.Monitor)) started)
-comes_to_watch before c started word kind n info link h good k is other early u has notices calm nothing watches =
+comes_to_watch before c started word kind n info link h good k is other shutless early u has notices calm nothing watches =
     let b = book before in
     let h0 = h.sound.tied in
     let conn = c.single.connection in
@@ -621,7 +650,10 @@ comes_to_watch before c started word kind n info link h good k is other early u 
     fresh_applied before c started word kind n info life conn.fresh h good k is
     (record {
       starts = heard_starts (b.link c.single.link) c.turns n;
-      lived = (u.asked, u.up, u.alive, u.last);
+      hearing_kept = heard_hearing (b.link c.single.link) c.turns n;
+      spoken = spoken_up before c started kind n info link h is early.there u;
+      lived = (u.asked, u.up, u.alive);
+      course = setting_course b c started n h0 early.there early.unready early.alive;
       creds = record { wanted_is = u.wanted_is; sought = (has, renews_hear (b.link c.single.link) c.turns n ∙ early_sources (b.link c.single.link).creds conn.life early.unready early.alive h0.creds.sought) };
       renewal_is = none_hears (b.link c.single.link) c.turns n conn.renewal other (early_renewal (b.link c.single.link) conn.renewal conn.life early.unready early.alive h0.renewal);
       said = record { info_is = u.info_is; sent = u.sent; said = (u.none, said) };
@@ -639,19 +671,19 @@ comes_to_watch before c started word kind n info link h good k is other early u 
       setup = λ x w same. (let one : next ≡ x = cc in subst (IsFit conn.size conn.boundary) one fits);
       link = λ x same. cc;
       none = λ z. nobody;
-      lasts = λ x y. h.fit.lasts early.unready early.alive;
     })
+    (hushed_there c kind n life is shutless early.there early.alive h.hushed)
 
 -- so it comes up
 pub comes_up : (before : List Action) (c : Core) (started : List ℕ) (word : ℕ) (kind : EventKind) (n : News) (info : RedisConnectionInfo) (link : LinkState) → Between before c started → is_bad c kind ≡ false → IsNewsKind c.timers kind → news_of c.timers c.sources c.single.link kind ≡ n
-    → (IsOfRenewals n → ⊥) → IsEarly c.single.connection.life wait.Permit → IsEarly c.single.connection.life wait.Setup
+    → (IsOfRenewals n → ⊥) → n ≢ shut → IsEarly c.single.connection.life wait.Permit → IsEarly c.single.connection.life wait.Setup
     → (let l = heard_by (book before) c n in IsUpNow l (book before).created c.single.connection info started link → HasCredentials l.creds → PushesOf (hearing_in (book before).config) c.single.connection.hears l → ((more : Bool) → ending_up (readied more l) n ≡ None) × (ending_unready l n ≡ None)
     → HasApplied (before ++ turn_of c word kind ∷ []) (with_work (record { core = turned c kind; acts = [] }) (come_up (record { conn = record c.single.connection { info = info }; acts = [] }) link)) started)
-comes_up before c started word kind n info link h good k is other ready setting u has notices calm =
+comes_up before c started word kind n info link h good k is other shutless ready setting u has notices calm =
     let w : Work = record { conn = record c.single.connection { info = info }; acts = [] } in
     chosen (λ (x : Work). HasApplied (before ++ turn_of c word kind ∷ []) (with_work (record { core = turned c kind; acts = [] }) x) started) (says_nothing (steps_of w.conn greet.WithUser))
     (greeted w link) (sets_up (all_fresh w) link greet.WithUser)
     (λ t. chosen (λ (x : Work). HasApplied (before ++ turn_of c word kind ∷ []) (with_work (record { core = turned c kind; acts = [] }) x) started) (is_watching w.conn.hears) (sets_up w link greet.Monitor) (made_ready w link)
-    (λ y. comes_to_watch before c started word kind n info link h good k is other setting u has notices calm.1 t y)
-    (λ y. comes_ready before c started word kind n info link h good k is other ready u has notices calm.0 t y))
-    (λ f. comes_to_say before c started word kind n info link h good k is other setting u has notices calm.1 f)
+    (λ y. comes_to_watch before c started word kind n info link h good k is other shutless setting u has notices calm.1 t y)
+    (λ y. comes_ready before c started word kind n info link h good k is other shutless ready u has notices calm.0 t y))
+    (λ f. comes_to_say before c started word kind n info link h good k is other shutless setting u has notices calm.1 f)

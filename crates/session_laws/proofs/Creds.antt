@@ -9,7 +9,7 @@ use Rattle.link_core.specs.Link.{LinkState}
 use Rattle.mux_conn.specs.declared.life.Life.TheVariants.{Wanting}
 use Rattle.legal_trace.specs.Ledger.{Ledger, Sourced, Start, hears, noted, authorized_by, awaits_credentials, bytes_came, dials, is_over, lacks_credentials, refused_in, setup_after, setup_count, setup_result, setup_steps, source_due, is_renewal_open, is_set_up, lost_by, may_renew, renewed_by, unrenewed_by, is_repeating, unrepeated_by}
 use Rattle.legal_trace.proofs.Setups.{IsUndecided, setup_unsaid}
-use Rattle.session_laws.proofs.Tied.{AreSought, HasCredentials}
+use Rattle.session_laws.proofs.Server.{AreSought, HasCredentials}
 use Rattle.legal_trace.proofs.Came.{holds_bytes}
 
 -- whether they are waited for

@@ -22,7 +22,8 @@ use Rattle.legal_trace.specs.Ledger.{Ledger, setup_count}
 use Rattle.legal_trace.specs.Story.{Story, is_told, shape}
 use Rattle.mux_conn.specs.Renewals.{renewal_id}
 use Rattle.session_laws.proofs.Numbers.{IsIn, Rising}
-use Rattle.session_laws.proofs.Tied.{carried, link_in, no_link, owner_of, owners_each, queue_ids, setup_owners, waiting_ids, whole_link, IsRequest, TiedStory, TiedTries, TiedNames, IsOf, IsQueued, IsEntry, IsPacked, AreQueued, AreLate, shown_wait, TiedWaits, TiedPermits}
+use Rattle.session_laws.proofs.Server.{setup_owners}
+use Rattle.session_laws.proofs.Tied.{carried, link_in, no_link, owner_of, owners_each, queue_ids, waiting_ids, whole_link, IsRequest, TiedStory, TiedTries, TiedNames, IsOf, IsQueued, IsEntry, IsPacked, AreQueued, AreLate, shown_wait, TiedWaits, TiedPermits}
 use Rattle.session_laws.proofs.Permits.{held_same}
 use Rattle.legal_trace.specs.Steps.{is_let_in, permits_held, permits_on}
 use Rattle.driver_model.specs.declared.action.WaitKind.{WaitKind}
@@ -262,6 +263,9 @@ waits_longer table story after requests more life fresh later moved names same l
       early = λ p w. before_or_new requests more p _
           (λ old. one_of (shown_wait after more p) (shown_wait story requests p) (still p old) (h.early p (was p old w)))
           (λ past. inl (next.shown p w past).0);
+      backoff = λ p w d. before_or_new requests more p _
+          (λ old. elim (h.backoff p (was p old w) d) [ inl i ↦ absurd (old_one p i) | inr e ↦ inr (still p old ∙ e) ])
+          (λ past. inl (next.shown p w past).1);
       connect = λ p w d. before_or_new requests more p _
           (λ old. elim (h.connect p (was p old w) d) [ inl i ↦ absurd (old_one p i) | inr e ↦ inr (still p old ∙ e) ])
           (λ past. inl (next.shown p w past).1);
@@ -280,6 +284,7 @@ waits_longer table story after requests more life fresh later moved names same l
       room = λ p i. elim (h.room p i) [ inl j ↦ inl j | inr e ↦ inr (still p (within p i) ∙ e) ];
       newer = next.newer;
       rising = rising_below 0 (length requests) (length more) moved longer.long h.rising;
+      no_backoff = λ p i w d. (next.shown p w (next.only p i)).0;
       no_connect = λ p i w d. no_wait (shown_wait after more p) wait.Connect (next.shown p w (next.only p i)).0;
       no_creds = λ p link i w r. no_wait (shown_wait after more p) wait.Creds (next.shown p w (next.only p i)).0;
       no_setup = λ p link u i w r. no_wait (shown_wait after more p) wait.Setup (next.shown p w (next.only p i)).0;

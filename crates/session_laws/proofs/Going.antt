@@ -1,29 +1,29 @@
 -- A session whose event has had its own effect, while requests are moved.
 use Rattle.std.proofs.Common.{◌+◌, ◌≤◌, List, None, Option, Some, [], ap, arith, false, inl, inr, length, refl, subst, sym, true, ℕ, ◌++◌, ◌<◌, ◌∙◌, ◌∷◌, ◌≡◌, ◌⊎◌}
 use Rattle.std.specs.Prelude.{if◌then◌else◌, is_some, ◌==◌, Bool, not, ◌&&◌}
-use Rattle.containers.proofs.Choices.{by_test, chosen, eq_from, left_if, ne_from, not_both, ne_test}
-use Rattle.redis_error.specs.declared.redis_error.RedisError.{RedisError}
+use Rattle.containers.proofs.Choices.{by_test, chosen, eq_from, left_if, ne_from, not_both}
 use Rattle.credentials.specs.Credentials.{Credentials}
 use Rattle.driver_model.specs.declared.action.Action.{Action}
 use Rattle.driver_model.specs.declared.action.WaitKind.TheVariants as wait
 use Rattle.link_core.specs.Link.{LinkState, holds_back, is_full_beside}
 use Rattle.link_laws.proofs.TiedLink.{TiedLink}
-use Rattle.mux_conn.specs.Connection.{has_no_permit, in_front, is_due as is_renewal_due, is_ready}
+use Rattle.mux_conn.specs.Connection.{has_no_permit, in_front, is_due as is_renewal_due, is_ready, is_resting}
 use Rattle.mux_conn.specs.Effects.{setup_queued, setup_id}
 use Rattle.mux_conn.specs.Requests.{is_unbegun_at, name_at}
 use Rattle.mux_conn.specs.declared.renewal.Renewal.{Renewal}
 use Rattle.mux_conn.specs.declared.life.Greeting.{Greeting}
 use Rattle.mux_conn.specs.declared.life.Life.{Life}
 use Rattle.mux_conn.specs.declared.life.Life.TheVariants.{Resting, Dialing, Ended, Ready, SettingUp, Wanting}
-use Rattle.legal_trace.specs.Book.{Book, blank_book, book, entered, if_mine, has_generations}
+use Rattle.legal_trace.specs.Book.{Book, blank_book, book, entered, if_mine}
 use Rattle.legal_trace.specs.Ledger.{Ledger, Line, dials, ending, is_set_up, lacks_credentials, noted, noted_each, renewal_count, renewal_due, renewals_asked, setup_count, setup_due, setup_steps, monitor_due, is_greeted, setup_result}
-use Rattle.legal_trace.specs.Legal.{AllStand, CanMove, IsApplied, IsBegun, IsFirstToMove, IsMoved, MayStand, NoneEnds, RenewalsAreStarted, RenewalsAreTimed, SetupsAreStarted, MonitorsAreStarted, IsShown, begins_first, current_link, is_attempt, is_caused}
+use Rattle.legal_trace.specs.Legal.{AllStand, CanMove, IsApplied, IsBegun, IsFirstToMove, IsMoved, MayStand, NoneEnds, RenewalsAreStarted, RenewalsAreTimed, SetupsAreStarted, MonitorsAreStarted, IsShown}
 use Rattle.legal_trace.specs.Steps.{Step, is_due, is_held_back, next_step, starts_or_waits, step_down, step_ready, unready_wait, waits}
 use Rattle.session_laws.proofs.Ahead.{HasSeats, IsRunning, creds_step, full_step, held_by, permit_step, queue_step, ready_alive, running_of, setup_step}
 use Rattle.session_laws.proofs.Behind.{alive_behind}
+use Rattle.session_laws.proofs.Comes.{NoneComes, live_comes, none_rests}
 use Rattle.session_laws.proofs.Creds.{lacking_undue, wanting_lacks, lacking_undecided}
 use Rattle.session_laws.proofs.Entered.{book_more, sound_more}
-use Rattle.session_laws.proofs.InLine.{first_is_least, kept_ids, kept_in}
+use Rattle.session_laws.proofs.InLine.{first_is_least, kept_ids, kept_in, line_of}
 use Rattle.session_laws.proofs.Moves.{IsLater, later_of, unstarted_alive}
 use Rattle.session_laws.proofs.Names.{earlier_name}
 use Rattle.session_laws.proofs.Numbers.{IsIn, Rising, in_left, in_right, rising_in, rising_right, requests_in}
@@ -33,7 +33,8 @@ use Rattle.session_laws.proofs.Said.{sources_asked}
 use Rattle.session_laws.proofs.SetUp.{down_undue, none_due, sent_undue, set_up_undue, setting_undecided}
 use Rattle.session_laws.proofs.States.{AreBegun, IsFit}
 use Rattle.session_laws.proofs.Unrepeated.{repeats_started, repeats_timed}
-use Rattle.session_laws.proofs.Tied.{AreSought, HasSaid, Inner, IsSetUp, Sound, Tied, TiedLife, TiedRenewal, carried, has_ended, link_in, owner_of, queue_ids, AreRenewed, waiting_ids, whole_link, IsToldIn, greeter, IsGreeting, watch_queued}
+use Rattle.session_laws.proofs.Server.{AreSought, HasSaid, IsSetUp, TiedRenewal, AreRenewed, IsGreeting, watch_queued}
+use Rattle.session_laws.proofs.Tied.{Inner, Sound, Tied, TiedLife, carried, has_ended, link_in, owner_of, queue_ids, waiting_ids, whole_link, IsToldIn, greeter}
 use Rattle.mux_conn.specs.declared.life.Greeting.TheVariants as greet
 use Rattle.legal_trace.proofs.Setups.{IsUndecided, greeted_is_undue}
 use Rattle.legal_trace.proofs.Watching.{watch_is_up, watch_is_greeted, watch_is_new, watch_is_unset}
@@ -41,6 +42,18 @@ use Rattle.legal_trace.proofs.Watching.{watch_is_up, watch_is_greeted, watch_is_
 -- where new credentials are to be told on a link that is set up, their timer was asked for, and the link is held back
 abbrev pub HasRenewed : Renewal → Life → Type 0
 HasRenewed r life = (link : LinkState) → life ≡ Ready link → is_renewal_due r ≡ true → (r.pending ≡ true) × (holds_back link ≡ true)
+
+-- its link goes on
+abbrev pub goes_on : Life → Bool
+goes_on life = not (is_resting life) && not (has_ended life)
+
+-- where it doesn't, no generation begins, and no link is asked for
+abbrev pub StaysPut : Book → Life → Type 0
+StaysPut b life = goes_on life ≡ false → NoneComes b
+
+-- where everything was shut down while it has none, nobody waits for one
+abbrev pub IsHushedIn : Inner → Type 0
+IsHushedIn t = t.shut ≡ true → is_resting t.life ≡ true → t.waiting ≡ []
 
 -- nothing must end, and all new credentials are told that may be
 pub record IsGoing (trace : List Action) (t : Inner) : Type 0 where
@@ -56,19 +69,18 @@ going_more trace a t stands may tied none renewed = record {
   renewed = renewed;
 }
 
--- what is shown is all that the event does, since no generation follows, and the link was asked for
-shown_applied : (b : Book) (t : Inner) → Tied b t → IsShown b → IsApplied b
-shown_applied b t h shown = record {
-  shown = shown;
-  rested = ap (λ g. g && is_attempt (current_link b).end) h.numbers.plain;
-  generated = ap (λ g. g && (not b.failed && (not b.shut && (if b.generation == 0 then begins_first b else is_caused b)))) h.numbers.plain;
-  linked = left_if (has_generations b) _ (b.links == 0) h.numbers.plain ∙ ne_test b.links 0 (λ none. let links = h.numbers.links in let one = h.numbers.one in omega arith);
-  timed = h.numbers.timed;
-}
+-- what is shown is all that the event does, where no generation begins, and no link is to be asked for
+shown_applied : (b : Book) (t : Inner) → Tied b t → NoneComes b → IsShown b → IsApplied b
+shown_applied b t h comes shown = record { shown = shown; rested = none_rests b t h; generated = comes.0; linked = comes.1; timed = h.numbers.timed }
 
--- the event has had its effect, while nothing is to be answered and the link has not ended
-pub applied_up : (b : Book) (t : Inner) → Tied b t → t.pending ≡ [] → IsToldIn t → has_ended t.life ≡ false → NoneEnds b → IsApplied b
-applied_up b t h none told up ended = shown_applied b t h (record { answered = none_owed b t h none up; ended = ended; created = created_is b t h; pushed = notices_told b t h told.0; parted = ends_told b t h told.1; sourced = sources_asked b t h })
+-- while nothing is to be answered and the link goes on, all that the event does is shown
+pub shown_up : (b : Book) (t : Inner) → Tied b t → t.pending ≡ [] → IsToldIn t → is_resting t.life ≡ false → has_ended t.life ≡ false → NoneEnds b → IsShown b
+shown_up b t h none told there up ended =
+    record { answered = none_owed b t h (λ rests. absurd (not_both (is_resting t.life) there rests)) none up; ended = ended; created = created_is b t h; pushed = notices_told b t h told.0; parted = ends_told b t h told.1; sourced = sources_asked b t h }
+
+-- so the event has had its effect
+pub applied_up : (b : Book) (t : Inner) → Tied b t → t.pending ≡ [] → IsToldIn t → is_resting t.life ≡ false → has_ended t.life ≡ false → NoneEnds b → IsApplied b
+applied_up b t h none told there up ended = shown_applied b t h (live_comes b t h there up) (shown_up b t h none told there up ended)
 
 -- each setup has started that is to start, but where its link is held back, where it is so of the link of the session
 pub setups_started : (b : Book) (t : Inner) → Tied b t → ((link : LinkState) (greeting : Greeting) → t.life ≡ SettingUp link greeting → (setup_due (b.link t.link) ≡ None) ⊎ (is_held_back b (b.link t.link) ≡ true)) → SetupsAreStarted b
@@ -185,10 +197,19 @@ renewals_started b t h bound renewed m c due = by_test (m == t.link) _
         held_by b t (owner_of t.requests) link h.numbers (bound link e) tied ∙ (renewed link e is).1
     by_life (Ended x) e d = absurd (no_due (b.link t.link) (down_renewed_due (b.link t.link) (subst (TiedLife (b.link t.link) b.created) e h.life).0) d)
 
+-- what is ready has a link
+ready_there : (life : Life) → is_ready life ≡ true → is_resting life ≡ false
+ready_there Resting r = cc
+ready_there Dialing r = refl
+ready_there (Wanting link) r = refl
+ready_there (SettingUp link greeting) r = refl
+ready_there (Ready link) r = refl
+ready_there (Ended e) r = refl
+
 -- so on a link that is up requests may be moved
 pub begun_up : (b : Book) (t : Inner) → Tied b t → IsRunning t → IsToldIn t → NoneEnds b → HasRenewed t.renewal t.life → IsBegun b
 begun_up b t h r told ended renewed = record {
-  applied = applied_up b t h r.settled told (ready_alive t.life r.up) ended;
+  applied = applied_up b t h r.settled told (ready_there t.life r.up) (ready_alive t.life r.up) ended;
   setups = setups_started b t h (λ link greeting e. absurd (ready_not_setting t.life link greeting r.up e));
   monitors = monitors_started b t h (λ link e. absurd (ready_not_setting t.life link greet.Monitor r.up e));
   repeats_timed = repeats_timed b h.numbers.unrepeated;
@@ -198,15 +219,34 @@ begun_up b t h r told ended renewed = record {
 }
 
 -- or none waits
-pub applied_over : (b : Book) (t : Inner) (e : RedisError) → Tied b t → t.pending ≡ [] → IsToldIn t → t.life ≡ Ended e → kept_ids t.admitted t.waiting ≡ [] → NoneEnds b → IsApplied b
-applied_over b t e h none told over empty ended = shown_applied b t h (record {
-  answered = λ n o. absurd (none_open b t e n h none over empty o);
+pub shown_over : (b : Book) (t : Inner) (life : Life) → line_of (link_in life) t.admitted t.waiting ≡ kept_ids t.admitted t.waiting → Tied b t → t.pending ≡ [] → IsToldIn t → t.life ≡ life → kept_ids t.admitted t.waiting ≡ [] → NoneEnds b → IsShown b
+shown_over b t life bare h none told over empty ended = record {
+  answered = λ n o. absurd (none_open b t life n bare h none over empty o);
   ended = ended;
   created = created_is b t h;
   pushed = notices_told b t h told.0;
   parted = ends_told b t h told.1;
   sourced = sources_asked b t h;
-})
+}
+
+pub applied_over : (b : Book) (t : Inner) (life : Life) → line_of (link_in life) t.admitted t.waiting ≡ kept_ids t.admitted t.waiting → Tied b t → NoneComes b → t.pending ≡ [] → IsToldIn t → t.life ≡ life → kept_ids t.admitted t.waiting ≡ [] → NoneEnds b → IsApplied b
+applied_over b t life bare h comes none told over empty ended = shown_applied b t h comes (shown_over b t life bare h none told over empty ended)
+
+-- or there is no link, and where everything was shut down none waits
+pub shown_resting : (b : Book) (t : Inner) → Tied b t → IsHushedIn t → t.pending ≡ [] → IsToldIn t → t.life ≡ Resting → t.admitted ≡ [] → NoneEnds b → IsShown b
+shown_resting b t h hushed none told rests nobody ended = by_test t.shut _
+    (λ over. shown_over b t Resting refl h none told rests (λ i. kept_ids (nobody i) (hushed over (ap is_resting rests) i)) ended)
+    (λ awake. record {
+      answered = none_owed b t h (λ r. awake) none (ap has_ended rests);
+      ended = ended;
+      created = created_is b t h;
+      pushed = notices_told b t h told.0;
+      parted = ends_told b t h told.1;
+      sourced = sources_asked b t h;
+    })
+
+pub applied_resting : (b : Book) (t : Inner) → Tied b t → NoneComes b → IsHushedIn t → t.pending ≡ [] → IsToldIn t → t.life ≡ Resting → t.admitted ≡ [] → NoneEnds b → IsApplied b
+applied_resting b t h comes hushed none told rests nobody ended = shown_applied b t h comes (shown_resting b t h hushed none told rests nobody ended)
 
 -- a line of one link that ends none
 pub none_ends_kept : (b : Book) (n : ℕ) (line : Line) → ((l : Ledger) → ending l ≡ None → ending (noted l line) ≡ None) → NoneEnds b → (m : ℕ) → ending (noted_each (b.link m) (if_mine (n == m) line)) ≡ None
@@ -398,13 +438,13 @@ first_round b t p h r nobody still full none within begun n before m =
       ]
     ]
 
--- where nothing is to be answered, nothing must end, and nothing moves
+-- where nothing is to be answered, nothing must end, nothing moves, and no generation begins
 pub is_moved : (b : Book) (t : Inner) → Tied b t → t.pending ≡ [] → IsToldIn t → t.letting ≡ [] → NoneEnds b → ((link : LinkState) → t.life ≡ Ready link → IsFit t.size t.bound link) → (((link : LinkState) → t.life ≡ Ready link → ⊥) → t.admitted ≡ [])
     → ((link : LinkState) → t.life ≡ Ready link → (link.queue ≡ []) ⊎ (holds_back link ≡ true)) → ((link : LinkState) → t.life ≡ Ready link → (t.admitted ≡ []) ⊎ (is_full_beside link (in_front t.renewal) ≡ true))
-    → ((link : LinkState) → t.life ≡ Ready link → (t.waiting ≡ []) ⊎ (has_no_permit t.limit t.free ≡ true)) → (has_ended t.life ≡ true → t.waiting ≡ [])
+    → ((link : LinkState) → t.life ≡ Ready link → (t.waiting ≡ []) ⊎ (has_no_permit t.limit t.free ≡ true)) → (has_ended t.life ≡ true → t.waiting ≡ []) → IsHushedIn t → StaysPut b t.life
     → ((link : LinkState) (greeting : Greeting) → t.life ≡ SettingUp link greeting → IsFit t.size t.bound link) → ((link : LinkState) (greeting : Greeting) → t.life ≡ SettingUp link greeting → (link.queue ≡ []) ⊎ (holds_back link ≡ true))
     → HasSeats t.moved (in_front t.renewal) (link_in t.life) t.size → HasRenewed t.renewal t.life → AreBegun t.rounds t.life t.requests → IsMoved b
-is_moved b t h none told alone ends fit nobody held full stuck gone setup_fit setup_held seats renewed rounded = by_life t.life refl
+is_moved b t h none told alone ends fit nobody held full stuck gone hushed comes setup_fit setup_held seats renewed rounded = by_life t.life refl
   where
     setups : SetupsAreStarted b
     setups = setups_started b t h (λ link greeting e. setting_done b t link greeting h e (setup_fit link greeting e) (setup_held link greeting e))
@@ -420,25 +460,25 @@ is_moved b t h none told alone ends fit nobody held full stuck gone setup_fit se
 
     by_life : (life : Life) → t.life ≡ life → IsMoved b
     by_life Resting e = record {
-      begun = record { applied = applied_up b t h none told (ap has_ended e) ends; setups = setups; monitors = monitors; repeats_timed = repeats_timed b h.numbers.unrepeated; repeated = repeats_started b h.numbers.unrepeated; timed = timed; renewed = told_all };
+      begun = record { applied = applied_resting b t h (comes (ap goes_on e)) hushed none told e (nobody (λ link r. (let no : Resting ≡ Ready link = sym e ∙ r in cc))) ends; setups = setups; monitors = monitors; repeats_timed = repeats_timed b h.numbers.unrepeated; repeated = repeats_started b h.numbers.unrepeated; timed = timed; renewed = told_all };
       moved = down_moves_none b t h (subst (TiedLife (b.link t.link) b.created) e h.life).1;
     }
     by_life Dialing e = record {
-      begun = record { applied = applied_up b t h none told (ap has_ended e) ends; setups = setups; monitors = monitors; repeats_timed = repeats_timed b h.numbers.unrepeated; repeated = repeats_started b h.numbers.unrepeated; timed = timed; renewed = told_all };
+      begun = record { applied = applied_up b t h none told (ap is_resting e) (ap has_ended e) ends; setups = setups; monitors = monitors; repeats_timed = repeats_timed b h.numbers.unrepeated; repeated = repeats_started b h.numbers.unrepeated; timed = timed; renewed = told_all };
       moved = down_moves_none b t h (dialing_down (b.link t.link) b.created t.life e h.life);
     }
     by_life (Wanting link) e = record {
-      begun = record { applied = applied_up b t h none told (ap has_ended e) ends; setups = setups; monitors = monitors; repeats_timed = repeats_timed b h.numbers.unrepeated; repeated = repeats_started b h.numbers.unrepeated; timed = timed; renewed = told_all };
+      begun = record { applied = applied_up b t h none told (ap is_resting e) (ap has_ended e) ends; setups = setups; monitors = monitors; repeats_timed = repeats_timed b h.numbers.unrepeated; repeated = repeats_started b h.numbers.unrepeated; timed = timed; renewed = told_all };
       moved = wanting_moves_none b t link h e;
     }
     by_life (SettingUp link greeting) e = record {
-      begun = record { applied = applied_up b t h none told (ap has_ended e) ends; setups = setups; monitors = monitors; repeats_timed = repeats_timed b h.numbers.unrepeated; repeated = repeats_started b h.numbers.unrepeated; timed = timed; renewed = told_all };
+      begun = record { applied = applied_up b t h none told (ap is_resting e) (ap has_ended e) ends; setups = setups; monitors = monitors; repeats_timed = repeats_timed b h.numbers.unrepeated; repeated = repeats_started b h.numbers.unrepeated; timed = timed; renewed = told_all };
       moved = setting_moves_none b t link greeting h e;
     }
     by_life (Ready link) e =
         let here : link_in t.life ≡ link = ap link_in e in
         record {
-          begun = record { applied = applied_up b t h none told (ap has_ended e) ends; setups = setups; monitors = monitors; repeats_timed = repeats_timed b h.numbers.unrepeated; repeated = repeats_started b h.numbers.unrepeated; timed = timed; renewed = told_all };
+          begun = record { applied = applied_up b t h none told (ap is_resting e) (ap has_ended e) ends; setups = setups; monitors = monitors; repeats_timed = repeats_timed b h.numbers.unrepeated; repeated = repeats_started b h.numbers.unrepeated; timed = timed; renewed = told_all };
           moved = up_moves_none b t h (running_of t link none e (fit link e) (subst (λ (x : LinkState). HasSeats t.moved (in_front t.renewal) x t.size) here seats)) alone
               (subst (λ (x : LinkState). (x.queue ≡ []) ⊎ (holds_back x ≡ true)) (sym here) (held link e))
               (subst (λ (x : LinkState). (t.admitted ≡ []) ⊎ (is_full_beside x (in_front t.renewal) ≡ true)) (sym here) (full link e))
@@ -446,7 +486,7 @@ is_moved b t h none told alone ends fit nobody held full stuck gone setup_fit se
         }
     by_life (Ended x) e = record {
       begun = record {
-        applied = applied_over b t x h none told e (λ i. kept_ids (nobody (λ link r. (let no : Ended x ≡ Ready link = sym e ∙ r in cc)) i) (gone (ap has_ended e) i)) ends;
+        applied = applied_over b t (Ended x) refl h (comes (ap goes_on e)) none told e (λ i. kept_ids (nobody (λ link r. (let no : Ended x ≡ Ready link = sym e ∙ r in cc)) i) (gone (ap has_ended e) i)) ends;
         setups = setups;
         monitors = monitors;
         repeats_timed = repeats_timed b h.numbers.unrepeated;

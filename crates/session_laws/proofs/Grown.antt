@@ -1,6 +1,6 @@
 -- For how many new credentials a connection was asked: its effects leave it, and where a turn's moves ask for more, these are told,
 -- or wait on a link that is ready.
-use Rattle.std.proofs.Common.{◌≡◌, ◌≤◌, ◌⊎◌, inl, inr, ℕ, subst, sym, arith, ◌+◌, ◌==◌, nat_le, Bool, true, false, ◌&&◌, List, [], ◌∷◌, length, Option, Some, None, slice_get, if◌then◌else◌, refl, ap, ◌||◌}
+use Rattle.std.proofs.Common.{◌≡◌, ◌≤◌, ◌⊎◌, inl, inr, ℕ, subst, sym, arith, ◌+◌, ◌==◌, nat_le, Bool, true, false, ◌&&◌, List, [], ◌∷◌, length, Option, Some, None, slice_get, if◌then◌else◌, refl, ap, ◌||◌, is_some, ◌∙◌}
 use Rattle.containers.proofs.Choices.{chosen, not_both, both_left, both_right}
 use Rattle.credentials.specs.Credentials.{Credentials}
 use Rattle.redis_error.specs.declared.redis_error.RedisError.{RedisError}
@@ -36,7 +36,7 @@ use Rattle.mux_conn.specs.declared.life.Life.TheVariants.{Resting, Dialing, Want
 use Rattle.mux_conn.specs.declared.request.Pending.{Pending}
 use Rattle.mux_conn.specs.declared.request.Progress.TheVariants as progress
 use Rattle.mux_conn.specs.declared.request.Waiting.{Waiting}
-use Rattle.mux_conn.specs.Connection.{Work, acted, admits_none, at_life, has_room, is_due, is_ready, with_link, with_setup, with_wanting}
+use Rattle.mux_conn.specs.Connection.{Work, acted, admits_none, at_life, has_room, is_due, is_ready, with_link, with_setup, with_wanting, work_with}
 use Rattle.mux_conn.specs.Requests.{answered, is_admitted_at, is_open_at, is_waiting_at, name_at, is_unbegun_at, progressed}
 use Rattle.mux_conn.specs.Renewals.{is_done, renewal_asked, renewal_id, renewal_moved, renewing, replied, takes_more, is_unanswered, asked_next, renewal_timed}
 use Rattle.mux_conn.specs.Renewals.{renewed as auth_told}
@@ -45,12 +45,15 @@ use Rattle.mux_conn.specs.Passes.{admitted, admitted_at, admitted_each, let_in, 
 use Rattle.mux_conn.specs.Passes.{took as took_permits}
 use Rattle.mux_conn.specs.Turn.{flushed, fresh_each_shown, fresh_wait, moved_each_shown, moved_shown, moved_wait, wait_shown, written, written_at}
 use Rattle.shared_session.specs.declared.core_state.Core.{Core}
-use Rattle.shared_session.specs.Turn.{Turning, asked_for, counted, effect, fired_by, heard, late_by, left_by, moved_on, refused_with, requested, submitted, work_of}
+use Rattle.shared_session.specs.Turn.{Turning, asked_for, counted, effect, fired_by, heard, late_by, left_by, refused_with, requested, submitted, work_of, next_turn, numbered, passed_by, ended_apart, flushed_on, come_back_behind, own_part}
 use Rattle.session_laws.proofs.ComeUp.{made_conn}
 use Rattle.driver_model.specs.Hearing.{hears_pushes, hears_messages, is_watching, felt}
 use Rattle.driver_model.specs.Kind.{has_timeouts}
 use Rattle.mux_conn.specs.declared.life.Greeting.TheVariants as greet
 use Rattle.driver_model.specs.declared.hearing.Hearing.TheVariants as hearing
+use Rattle.shared_session.specs.Generations.{came_back, has_ended, heeding}
+use Rattle.shared_session.specs.declared.generations.Comeback.{Comeback}
+use Rattle.shared_session.specs.declared.generations.Comeback.TheVariants as comeback
 
 -- no more than so many were asked for
 abbrev HasAsked : ℕ → Work → Type 0
@@ -508,8 +511,53 @@ passed_grown n w h =
     let u = moved_up_all v in
     begun_grown n (moved_all w) (each_grown n (still_waiting u []) u.conn.waiting (moved_grown n (still_admitted v []) v.conn.admitted (started_grown n (auth_told w) (renewal_grown n w h))))
 
+-- behind what is done of its own
+--
+-- so it is there, or a link was just asked for
+abbrev pub IsGrown : ℕ → MultiplexedConnection → Type 0
+IsGrown n c = HasGrown n c ⊎ (c.life ≡ Dialing)
+
+came_grown : (n : ℕ) (c : Core) (what : Comeback) → HasGrown n c.single.connection → IsGrown n (came_back c what).single.connection
+came_grown n c comeback.Stays h = inl h
+came_grown n c (comeback.Rests number attempt timer) h = inl h
+came_grown n c (comeback.Dials l None timer) h = inr refl
+came_grown n c (comeback.Dials l (Some number) timer) h = inr refl
+
+-- a wait that is shown leaves the life, and so do all
+wait_lives : (w : Work) (p : ℕ) (kind : Option WaitKind) → (wait_shown w p kind).conn.life ≡ w.conn.life
+wait_lives w p None = refl
+wait_lives w p (Some kind) = refl
+
+moves_live : (w : Work) (ps : List ℕ) → (moved_each_shown w ps).conn.life ≡ w.conn.life
+moves_live w [] = refl
+moves_live w (p ∷ ps) = moves_live (wait_shown w p (moved_wait w.conn p)) ps ∙ wait_lives w p (moved_wait w.conn p)
+
+fresh_lives : (w : Work) (ps : List ℕ) → (fresh_each_shown w ps).conn.life ≡ w.conn.life
+fresh_lives w [] = refl
+fresh_lives w (p ∷ ps) = fresh_lives (wait_shown w p (fresh_wait w.conn p)) ps ∙ wait_lives w p (fresh_wait w.conn p)
+
+-- where the connect isn't answered, nothing is offered
+dialing_flushed : (w : Work) → w.conn.life ≡ Dialing → (flushed w).conn.life ≡ Dialing
+dialing_flushed w e =
+    let v = written w in
+    let m = moved_shown v in
+    fresh_lives (record m { conn = record m.conn { fresh = [] } }) m.conn.fresh ∙ moves_live (record v { conn = record v.conn { moved = [] } }) v.conn.moved ∙ ap (λ (x : Life). (written_at w x).conn.life) e ∙ e
+
+-- what the turn ends with then
+apart_grown : (n : ℕ) (w : Work) → IsGrown n w.conn → IsGrown n (flushed w).conn
+apart_grown n w (inl h) = inl (flushed_grown n w h)
+apart_grown n w (inr e) = inr (dialing_flushed w e)
+
 -- a turn
-pub turn_grown : (c : Core) (kind : EventKind) → HasGrown c.single.connection.renewal.asked (moved_on (effect (counted c) kind)).core.single.connection
+pub turn_grown : (c : Core) (kind : EventKind) → IsGrown c.single.connection.renewal.asked (next_turn c kind).core.single.connection
+unfolding next_turn
 turn_grown c kind =
-    let t = effect (counted c) kind in
-    flushed_grown c.single.connection.renewal.asked (passed (work_of t)) (passed_grown c.single.connection.renewal.asked (work_of t) (effect_asked c kind))
+    let n = c.single.connection.renewal.asked in
+    let t = passed_by (counted c) kind in
+    let u = numbered t in
+    let over = has_ended c.single.connection.life in
+    let w = work_of (effect (counted c) kind) in
+    let grown = passed_grown n w (effect_asked c kind) in
+    chosen (λ (x : Turning). IsGrown n x.core.single.connection) (is_some c.manager) (ended_apart u over kind) (numbered (flushed_on t))
+    (λ managed. let k = come_back_behind u over kind in apart_grown n (work_with k.single.connection []) (came_grown n (heeding u.core kind u.acts) (own_part u over kind) grown))
+    (λ plain. inl (flushed_grown n (passed w) grown))

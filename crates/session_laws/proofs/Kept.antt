@@ -16,14 +16,17 @@ use Rattle.legal_trace.specs.Ledger.{Ledger, Line, noted, noted_each}
 use Rattle.legal_trace.specs.Story.{Story, awaited_in, packed_in, shape_in, tried}
 use Rattle.session_laws.proofs.Names.{name_placed}
 use Rattle.session_laws.proofs.Owes.{request_story}
-use Rattle.session_laws.proofs.Tied.{AreAside, AreLate, AreQueued, Inner, IsAside, IsOf, IsPacked, IsQueued, IsRequest, Tied, TiedCreds, TiedCreation, TiedLife, TiedLines, TiedNames, TiedNumbers, TiedPermits, TiedNotices, TiedRounds, TiedSetup, TiedStory, TiedTries, TiedWaits, carried, has_ended, link_in, whole_link, TiedRenewal, is_reading, AreUses, AreEarly}
+use Rattle.session_laws.proofs.Server.{TiedCreds, TiedSetup, hearing_at, TiedRenewal}
+use Rattle.session_laws.proofs.Tied.{AreAside, AreLate, AreQueued, Inner, IsAside, IsOf, IsPacked, IsQueued, IsRequest, StaysCalm, Tied, TiedCourse, TiedCreation, TiedLife, TiedLines, TiedNames, TiedNumbers, TiedPermits, TiedNotices, TiedRounds, TiedStory, TiedTries, TiedWaits, carried, has_ended, link_in, whole_link, is_reading, AreUses, AreEarly}
 
 -- a session and the ledger of its link, which is that of the book
 pub record TiedBy (b : Book) (t : Inner) (l : Ledger) : Type 0 where
   pub numbers : TiedNumbers b t
   pub others : AreAside t.link t.links b.link t.hears t.renewal.within b.created
-  pub notices : TiedNotices (hearing_in b.config) t.hears l.hearing l.notices l.told l.end l.parted l.strange (is_reading l) t.untold t.parting
+  pub notices : TiedNotices (hearing_in b.config) t.hears (hearing_at t.life t.hears l.hearing) l.notices l.told l.end l.parted l.strange (is_reading l) t.untold t.parting
   pub life : TiedLife l b.created t.life
+  pub course : TiedCourse l.last l.end t
+  pub calm : StaysCalm b.errors t.shut t.life
   pub creation : TiedCreation b.created t.told
   pub creds : TiedCreds l.creds t.renewal.wanted t.life
   pub uses : AreUses t.sources t.link l.creds.asked l.creds.renews
@@ -46,8 +49,10 @@ pub tied_by : (b : Book) (t : Inner) (l : Ledger) → b.link t.link ≡ l → Ti
 tied_by b t l e h = record {
   numbers = h.numbers;
   others = h.others;
-  notices = subst (λ (x : Ledger). TiedNotices (hearing_in b.config) t.hears x.hearing x.notices x.told x.end x.parted x.strange (is_reading x) t.untold t.parting) (sym e) h.notices;
+  notices = subst (λ (x : Ledger). TiedNotices (hearing_in b.config) t.hears (hearing_at t.life t.hears x.hearing) x.notices x.told x.end x.parted x.strange (is_reading x) t.untold t.parting) (sym e) h.notices;
   life = subst (λ (x : Ledger). TiedLife x b.created t.life) (sym e) h.life;
+  course = subst (λ (x : Ledger). TiedCourse x.last x.end t) (sym e) h.course;
+  calm = h.calm;
   creation = h.creation;
   creds = subst (λ (x : Ledger). TiedCreds x.creds t.renewal.wanted t.life) (sym e) h.creds;
   uses = subst (λ (x : Ledger). AreUses t.sources t.link x.creds.asked x.creds.renews) (sym e) h.uses;

@@ -2,7 +2,7 @@
 use Rattle.std.proofs.Common.{Bool, List, None, Option, Some, [], is_some, true, ap, append_assoc, false, length, refl, slice_get, subst, sym, ℕ, ◌+◌, ◌++◌, ◌∙◌, ◌∷◌, ◌≡◌, ◌<◌, nat_le, arith}
 use Rattle.std.proofs.lemmas.List.{append-nil}
 use Rattle.std.specs.Prelude.{if◌then◌else◌, ◌==◌, ◌^◌}
-use Rattle.containers.proofs.Choices.{chosen, or_right}
+use Rattle.containers.proofs.Choices.{by_test, chosen, not_both, or_right}
 use Rattle.connection_info.specs.declared.address.ConnectionInfo.{ConnectionInfo}
 use Rattle.redis_error.specs.declared.redis_error.RedisError.TheVariants as error
 use Rattle.driver_model.specs.Request.{packed_bytes, lacks_resp3}
@@ -24,14 +24,14 @@ use Rattle.driver_model.specs.declared.event.Submission.{Submission}
 use Rattle.mux_conn.specs.declared.act.LinkAct.{LinkAct}
 use Rattle.mux_conn.specs.declared.act.LinkAct.TheVariants as act
 use Rattle.mux_conn.specs.declared.request.Pending.{Pending}
-use Rattle.shared_session.specs.Replay.{AreGood, AreGoodOn, is_bad_after, opening_core, opening_actions, outcome_at, outcomes_in, run_on, state_after, trace_of, turns_on, IsSound, begun_as, connect_asked, AreUnspent, AreUnspentOn}
+use Rattle.shared_session.specs.Replay.{AreGood, AreGoodOn, as_managed, single_core, is_bad_after, opening_core, opening_actions, outcome_at, outcomes_in, run_on, state_after, trace_of, turns_on, IsSound, begun_as, connect_asked, AreUnspent, AreUnspentOn}
 use Rattle.shared_session.specs.declared.generations.Comeback.{Comeback}
 use Rattle.shared_session.specs.declared.generations.Comeback.TheVariants as comeback
 use Rattle.shared_session.specs.declared.generations.Generations.{Generations}
-use Rattle.shared_session.specs.Generations.{comeback_shown_in, connect_timed, generation_shown}
-use Rattle.shared_session.specs.Turn.{Turning, actions_of, comeback_by, effects_of, last_acts, shown_behind, asked_for, counted, effect, fired_by, heard, is_bad, late_by, left_by, moved_on, refused_with, shown_each, submitted, next_turn, numbered, source_of, timer_of, spends}
-use Rattle.shared_session.proofs.Plain.{plain_after, plain_effects, plain_turn}
-use Rattle.shared_session.proofs.Spent.{room_left}
+use Rattle.shared_session.specs.Generations.{comeback_shown_in, connect_timed, generation_shown, generations_at}
+use Rattle.shared_session.specs.Turn.{Turning, actions_of, comeback_by, effects_of, last_acts, shown_behind, asked_for, counted, effect, fired_by, heard, is_bad, late_by, left_by, moved_on, refused_with, shown_each, submitted, next_turn, numbered, source_of, timer_of, spends, has_run_out, passed_by}
+use Rattle.shared_session.proofs.Plain.{plain_effects, plain_turn}
+use Rattle.shared_session.proofs.Spent.{passed_same, room_left, spent_next}
 use Rattle.shared_session.proofs.Stays.{turn_plain}
 use Rattle.shared_session.specs.declared.core_state.Core.{Core}
 use Rattle.legal_trace.specs.Book.{book}
@@ -39,7 +39,11 @@ use Rattle.legal_trace.specs.Events.{is_bad_event}
 use Rattle.legal_trace.specs.Legal.{Legal, causes, event_causes}
 use Rattle.session_laws.proofs.Announce.{same_badness}
 use Rattle.session_laws.proofs.Effects.{effect_holds}
-use Rattle.session_laws.proofs.Opening.{opening_between, opening_unasked}
+use Rattle.legal_trace.proofs.Plain.{same_some}
+use Rattle.mux_conn.specs.Connection.{is_used_up}
+use Rattle.session_laws.proofs.Begins.{opened_between}
+use Rattle.session_laws.proofs.Opening.{opening_unasked}
+use Rattle.session_laws.proofs.Turns.{IsUnused, manager_turn, unused_next}
 use Rattle.session_laws.proofs.Outcomes.{last_told}
 use Rattle.session_laws.proofs.Settled.{IsBetween, moved_on_between}
 use Rattle.session_laws.proofs.States.{trace_with}
@@ -116,7 +120,7 @@ turn_between before c e plain h good room =
     let t = effect (counted c) e.kind in
     let still = effect_still c e.kind in
     let acts = (moved_on t).acts in
-    let done = moved_on_between (before ++ a ∷ []) t h.started applied in
+    let done = moved_on_between (before ++ a ∷ []) t h.started (ap is_some (passed_same (counted c) e.kind).manager ∙ plain) applied in
     let next : next_turn c e.kind ≡ numbered (moved_on t) = plain_turn c e.kind plain in
     let shown : effects_of c e ≡ shown_each c.single.link (length c.timers) (length c.sources) acts =
     plain_effects c e plain ∙ ap (λ (u : Turning). shown_each c.single.link (length c.timers) (length c.sources) u.acts) next in
@@ -132,6 +136,11 @@ room_next : (c : Core) (e : Event) → spends c e ≡ false → length (next_tur
 unfolding spends
 room_next c e unspent = room_left (next_turn c e.kind).core (or_right (nat_le (2 ^ 32) c.turns) _ unspent)
 
+-- nor has any number run out
+not_run_out : (c : Core) (e : Event) → spends c e ≡ false → has_run_out (next_turn c e.kind).core ≡ false
+unfolding spends
+not_run_out c e unspent = or_right (nat_le (2 ^ 32) c.turns) _ unspent
+
 -- so they are behind a history
 room_on : (c : Core) (es : List Event) → length c.table < 2 ^ 32 → AreUnspentOn c es → length (run_on c es).table < 2 ^ 32
 room_on c [] room unspent = room
@@ -142,17 +151,63 @@ pub room_behind : (config : Config) (word : ℕ) (events : List Event) → AreUn
 unfolding state_after AreUnspent
 room_behind config word events unspent = room_on (opening_core config word) events (let none = (opening_unasked config word).submitted in omega arith) unspent
 
+-- a session that doesn't come back, or that comes back, of which nothing was asked where its first generation is to begin
+abbrev IsReady : Core → Option Generations → Type 0
+IsReady c None = Unit {0}
+IsReady c (Some g) = IsUnused c g
+
+-- where no number has run out behind a turn, none has behind its passes
+unused_passes : (c : Core) (e : Event) → has_run_out (next_turn c e.kind).core ≡ false → is_used_up (passed_by (counted c) e.kind).core.single.connection ≡ false
+unused_passes c e unspent =
+    by_test (is_used_up (passed_by (counted c) e.kind).core.single.connection) _ (λ used. absurd (not_both (has_run_out (next_turn c e.kind).core) unspent (spent_next c e.kind used))) (λ f. f)
+
+-- one turn of any session that isn't spent leads on
+any_turn : (before : List Action) (c : Core) (e : Event) (m : Option Generations) → c.manager ≡ m → IsBetween before c → is_bad c e.kind ≡ false → has_run_out (next_turn c e.kind).core ≡ false → length c.table < 2 ^ 32 → IsReady c m
+    → IsBetween (before ++ actions_of c e) (next_turn c e.kind).core × ((n : Option Generations) → (next_turn c e.kind).core.manager ≡ n → IsReady (next_turn c e.kind).core n)
+any_turn before c e None is h good unspent room ready =
+    let plain : is_some c.manager ≡ false = ap is_some is in
+    (turn_between before c e plain h good room, λ n next. still n (sym (ap is_some next) ∙ turn_plain c e.kind ∙ plain))
+  where
+    still : (n : Option Generations) → is_some n ≡ false → IsReady (next_turn c e.kind).core n
+    still None f = tt
+    still (Some g) f = cc
+any_turn before c e (Some g) is h good unspent room ready =
+    (manager_turn before c g e is h good (unused_passes c e unspent) ready room, λ n next. later n next)
+  where
+    later : (n : Option Generations) → (next_turn c e.kind).core.manager ≡ n → IsReady (next_turn c e.kind).core n
+    later None next = tt
+    later (Some q) next = unused_next before c g e is h good (unused_passes c e unspent) ready room q next
+
 -- each turn leads on
-turns_between : (before : List Action) (c : Core) (es : List Event) → is_some c.manager ≡ false → IsBetween before c → AreGoodOn c es → AreUnspentOn c es → length c.table < 2 ^ 32 → IsBetween (before ++ turns_on c es) (run_on c es)
-turns_between before c [] plain h good unspent room = subst (λ (x : List Action). IsBetween x c) (sym (append-nil before)) h
-turns_between before c (e ∷ es) plain h good unspent room =
-    subst (λ (x : List Action). IsBetween x (run_on (next_turn c e.kind).core es)) (append_assoc before (actions_of c e) (turns_on (next_turn c e.kind).core es))
-    (turns_between (before ++ actions_of c e) (next_turn c e.kind).core es (turn_plain c e.kind ∙ plain) (turn_between before c e plain h good.0 room) good.1 unspent.1 (room_next c e unspent.0))
+turns_between : (before : List Action) (c : Core) (es : List Event) → IsBetween before c → AreGoodOn c es → AreUnspentOn c es → length c.table < 2 ^ 32 → ((m : Option Generations) → c.manager ≡ m → IsReady c m)
+    → IsBetween (before ++ turns_on c es) (run_on c es) × ((m : Option Generations) → (run_on c es).manager ≡ m → IsReady (run_on c es) m)
+turns_between before c [] h good unspent room ready = (subst (λ (x : List Action). IsBetween x c) (sym (append-nil before)) h, ready)
+turns_between before c (e ∷ es) h good unspent room ready =
+    let one = any_turn before c e c.manager refl h good.0 (not_run_out c e unspent.0) room (ready c.manager refl) in
+    let rest = turns_between (before ++ actions_of c e) (next_turn c e.kind).core es one.0 good.1 unspent.1 (room_next c e unspent.0) one.1 in
+    (subst (λ (x : List Action). IsBetween x (run_on (next_turn c e.kind).core es)) (append_assoc before (actions_of c e) (turns_on (next_turn c e.kind).core es)) rest.0, rest.1)
+
+-- what has just opened is ready
+opened_ready : (m : Option ConnectionManagerConfig) (at : Option ConnectionInfo) (lazy : Bool) (config : Config) (g : Option Generations) → (as_managed m at lazy (single_core config)).manager ≡ g → IsReady (as_managed m at lazy (single_core config)) g
+opened_ready m at lazy config None is = tt
+opened_ready None at lazy config (Some g) is = cc
+opened_ready (Some settings) None lazy config (Some g) is = cc
+opened_ready (Some settings) (Some info) false config (Some g) is = λ none. absurd (let one : 1 ≡ g.number = ap (λ (x : Generations). x.number) (same_some (generations_at settings info 1) g is) in omega (arith, one, none))
+opened_ready (Some settings) (Some info) true config (Some g) is = λ none runs. (
+  record { life = refl; requests = refl; waiting = refl; admitted = refl; fresh = refl; moved = refl; free = refl },
+  ap (λ (x : Generations). x.halted) (sym (same_some (generations_at settings info 0) g is)),
+)
 
 -- the session after a history, and its trace
-pub replay_between : (config : Config) (word : ℕ) (events : List Event) → manager_of config ≡ None → IsSound config → AreGood config word events → AreUnspent config word events → IsBetween (trace_of config word events) (state_after config word events)
+replay_on : (config : Config) (word : ℕ) (events : List Event) → IsSound config → AreGood config word events → AreUnspent config word events
+    → IsBetween (trace_of config word events) (state_after config word events) × ((m : Option Generations) → (state_after config word events).manager ≡ m → IsReady (state_after config word events) m)
 unfolding trace_of state_after AreGood AreUnspent
-replay_between config word events none sound good unspent = turns_between (opening_actions config word) (opening_core config word) events (plain_after config word [] none) (opening_between config word none sound) good unspent (let empty = (opening_unasked config word).submitted in omega arith)
+replay_on config word events sound good unspent =
+    turns_between (opening_actions config word) (opening_core config word) events (opened_between config word sound) good unspent (let empty = (opening_unasked config word).submitted in omega arith)
+    (λ m is. opened_ready (manager_of config) (address config) (is_lazy config) config m is)
+
+pub replay_between : (config : Config) (word : ℕ) (events : List Event) → IsSound config → AreGood config word events → AreUnspent config word events → IsBetween (trace_of config word events) (state_after config word events)
+replay_between config word events sound good unspent = (replay_on config word events sound good unspent).0
 
 -- the causes of its turns
 --
@@ -239,18 +294,18 @@ unfolding trace_of
 replay_causes config word events =
     ap (λ cs. cause.Opening config word ∷ cs) (begun_causes (manager_of config) (is_lazy config) (address config) (connect_timeout config) (turns_on (opening_core config word) events) ∙ turns_causes (opening_core config word) events)
 
--- every replay of what doesn't come back is legal
-pub replay_legal : (config : Config) (word : ℕ) (events : List Event) → manager_of config ≡ None → IsSound config → AreGood config word events → AreUnspent config word events → Legal config word events (trace_of config word events)
-replay_legal config word events none sound good unspent =
-    let h = replay_between config word events none sound good unspent in
+-- every replay is legal
+pub replay_legal : (config : Config) (word : ℕ) (events : List Event) → IsSound config → AreGood config word events → AreUnspent config word events → Legal config word events (trace_of config word events)
+replay_legal config word events sound good unspent =
+    let h = replay_between config word events sound good unspent in
     record { turns = replay_causes config word events; each = h.between.sound.stands; settled = h.between.settled }
 
 -- behind it, the bad events are those of its book
-pub bad_of_the_book : (config : Config) (word : ℕ) (events : List Event) (e : Event) → manager_of config ≡ None → IsSound config → AreGood config word events → AreUnspent config word events → is_bad_after config word events e ≡ is_bad_event (book (trace_of config word events)) e.kind
-bad_of_the_book config word events e none sound good unspent =
-    let h = replay_between config word events none sound good unspent in
+pub bad_of_the_book : (config : Config) (word : ℕ) (events : List Event) (e : Event) → IsSound config → AreGood config word events → AreUnspent config word events → is_bad_after config word events e ≡ is_bad_event (book (trace_of config word events)) e.kind
+bad_of_the_book config word events e sound good unspent =
+    let h = replay_between config word events sound good unspent in
     sym (same_badness (book (trace_of config word events)) (state_after config word events) h.started e.kind h.between.sound.tied)
 
 -- and its outcomes are those of its book
-pub replay_outcomes : (config : Config) (word : ℕ) (events : List Event) (n : ℕ) → manager_of config ≡ None → IsSound config → AreGood config word events → AreUnspent config word events → outcome_at (outcomes_in (trace_of config word events)) n ≡ last_outcome ((book (trace_of config word events)).story n).outcomes
-replay_outcomes config word events n none sound good unspent = let h = replay_between config word events none sound good unspent in last_told (trace_of config word events) n h.between.sound.stands
+pub replay_outcomes : (config : Config) (word : ℕ) (events : List Event) (n : ℕ) → IsSound config → AreGood config word events → AreUnspent config word events → outcome_at (outcomes_in (trace_of config word events)) n ≡ last_outcome ((book (trace_of config word events)).story n).outcomes
+replay_outcomes config word events n sound good unspent = let h = replay_between config word events sound good unspent in last_told (trace_of config word events) n h.between.sound.stands

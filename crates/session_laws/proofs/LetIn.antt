@@ -50,7 +50,8 @@ use Rattle.session_laws.proofs.Closing.{one_of}
 use Rattle.session_laws.proofs.Rounded.{SameRounds, rounds_with}
 use Rattle.session_laws.proofs.Said.{carried_tied}
 use Rattle.session_laws.proofs.States.{IsFit}
-use Rattle.session_laws.proofs.Tied.{IsAim, AreAimed, AreQueued, Inner, IsEntry, IsKept, IsOf, IsPacked, IsQueued, IsRequest, Tied, TiedLines, TiedNames, TiedNumbers, TiedPermits, TiedRounds, TiedStory, TiedTries, TiedWaits, link_in, owners_each, queue_ids, setup_owners, shown_wait, waiting_ids, numbers_kept, IsToldIn}
+use Rattle.session_laws.proofs.Server.{setup_owners}
+use Rattle.session_laws.proofs.Tied.{IsAim, AreAimed, AreQueued, Inner, IsEntry, IsKept, IsOf, IsPacked, IsQueued, IsRequest, Tied, TiedLines, TiedNames, TiedNumbers, TiedPermits, TiedRounds, TiedStory, TiedTries, TiedWaits, link_in, owners_each, queue_ids, shown_wait, waiting_ids, numbers_kept, IsToldIn}
 use Rattle.session_laws.proofs.Moves.{or_true}
 
 -- requests of which one holds other permits, and waits still
@@ -231,6 +232,7 @@ waits_let f g requests life fresh moved p count w still h =
     let long = sym (length_with requests p progress.Begun count) in
     record {
       early = λ m v. one_of (shown_wait g ss m) (shown_wait f requests m) (same m) (h.early m (waits m v));
+      backoff = λ m v d. elim (h.backoff m (waits m v) d) [ inl e ↦ inl e | inr e ↦ inr (same m ∙ e) ];
       connect = λ m v d. elim (h.connect m (waits m v) d) [ inl e ↦ inl e | inr e ↦ inr (same m ∙ e) ];
       creds = λ m link v d. elim (h.creds m link (waits m v) d) [ inl e ↦ inl e | inr e ↦ inr (same m ∙ e) ];
       setup = λ m link u v d. elim (h.setup m link u (waits m v) d) [ inl e ↦ inl e | inr e ↦ inr (same m ∙ e) ];
@@ -239,6 +241,7 @@ waits_let f g requests life fresh moved p count w still h =
       room = λ m i. elim (h.room m i) [ inl j ↦ inl j | inr e ↦ inr (same m ∙ e) ];
       newer = subst (Rising 0 fresh) long h.newer;
       rising = subst (Rising 0 moved) long h.rising;
+      no_backoff = λ m i v d. same m ∙ h.no_backoff m i (waits m v) d;
       no_connect = λ m i v d e. h.no_connect m i (waits m v) d (sym (same m) ∙ e);
       no_creds = λ m link i v d e. h.no_creds m link i (waits m v) d (sym (same m) ∙ e);
       no_setup = λ m link u i v d e. h.no_setup m link u i (waits m v) d (sym (same m) ∙ e);
@@ -308,6 +311,8 @@ waits_on_tied b t p count free g noted timers letting ready w eased has numbers 
   others = h.others;
   notices = h.notices;
   life = h.life;
+  course = h.course;
+  calm = h.calm;
   creds = h.creds;
   creation = h.creation;
   uses = h.uses;
@@ -533,12 +538,13 @@ ask_tied b t p number ms ready w begun alone h =
       settings = record { size_is = k.settings.size_is; bound_is = k.settings.bound_is; limit_is = k.settings.limit_is; some = k.settings.some; limited = k.settings.limited };
       kind_is = k.kind_is;
       quiet = k.quiet;
-      plain = k.plain;
-      eager = k.eager;
+      comes_back = k.comes_back;
+      lazy = k.lazy;
       current_is = k.current_is;
       speaks = k.speaks;
-      one = k.one;
-      few_links = k.few_links;
+      address_is = k.address_is;
+      wants = k.wants;
+      alone = k.alone;
     }) h
 
 -- a request is let in by its connection

@@ -1,4 +1,5 @@
 pub mod Numbers
+pub mod Server
 pub mod Tied
 pub mod States
 pub mod Creds
@@ -14,6 +15,10 @@ pub mod Permits
 pub mod InLine
 pub mod Behind
 pub mod Owes
+pub mod Lost
+pub mod Causes
+pub mod Comes
+pub mod Calm
 pub mod Closing
 pub mod Answer
 pub mod Kept
@@ -40,6 +45,7 @@ pub mod Heard
 pub mod Failing
 pub mod End
 pub mod ComeUp
+pub mod Retire
 pub mod Connect
 pub mod Given
 pub mod Renewed
@@ -62,8 +68,21 @@ pub mod Moved
 pub mod Write
 pub mod Waits
 pub mod Settled
+pub mod Reopen
+pub mod Generate
+pub mod Dial
+pub mod Past
+pub mod Regenerate
+pub mod Judge
+pub mod Return
+pub mod Manage
+pub mod Whole
+pub mod First
+pub mod Turns
+pub mod Spending
 pub mod Grown
 pub mod Legality
 pub mod Opening
 pub mod Outcomes
 pub mod RunOut
+pub mod Begins

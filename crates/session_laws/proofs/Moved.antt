@@ -35,16 +35,17 @@ use Rattle.session_laws.proofs.Numbers.{IsIn, Rising, rising_right, requests_in}
 use Rattle.session_laws.proofs.Passes.{IsDone, IsSeated, IsUp, admitted_done, moved_up_seated, moved_up_waits, moving, started_keeps, started_up, found_full, rounds_done}
 use Rattle.session_laws.proofs.Watches.{setting_begun}
 use Rattle.session_laws.proofs.Settle.{Holds, answered_leaves, failed_leaves, seen, trace_of_acts}
-use Rattle.session_laws.proofs.States.{IsFit, IsFitIn, IsStill, AreBegun}
+use Rattle.session_laws.proofs.States.{IsFit, IsFitIn, IsStill, AreBegun, IsStopped}
 use Rattle.session_laws.proofs.Tied.{Inner, Sound, Tied, has_ended, link_in, queue_ids, waiting_ids}
 
--- the event has had its effect, and nothing moves any more
+-- the event has had its effect, and nothing moves any more; where everything is shut down, no link goes on
 pub record HasMoved (before : List Action) (f : Core) (w : Work) : Type 0 where
   pub started : List ℕ
   pub holds : Holds before f w [] started
   pub ended : NoneEnds (book (trace_of_acts before f w.acts))
   pub fit : IsFitIn w.conn
   pub still : IsStill w.conn
+  pub hushed : f.shut ≡ true → IsStopped w.conn.life w.conn.waiting
   pub seats : HasSeats w.conn.moved (in_front w.conn.renewal) (link_in w.conn.life) w.conn.size
 
 -- what an applied event gives: none was moved in its turn
@@ -53,9 +54,17 @@ pub record IsReady (before : List Action) (f : Core) (w : Work) (started : List 
   pub ended : NoneEnds (book (trace_of_acts before f w.acts))
   pub fit : IsFitIn w.conn
   pub moved : w.conn.moved ≡ []
+  pub hushed : f.shut ≡ true → IsStopped w.conn.life w.conn.waiting
 
 -- on a link that is up
 --
+-- not everything is shut down
+up_awake : (life : Life) (waiting : List Waiting) (link : LinkState) → life ≡ Ready link → IsStopped life waiting → ⊥
+up_awake life waiting link e stopped = subst (λ (x : Life). IsStopped x waiting) e stopped
+
+set_awake : (life : Life) (waiting : List Waiting) (link : LinkState) (greeting : Greeting) → life ≡ SettingUp link greeting → IsStopped life waiting → ⊥
+set_awake life waiting link greeting e stopped = subst (λ (x : Life). IsStopped x waiting) e stopped
+
 -- there is one link
 one_link : (life : Life) (link link' : LinkState) → life ≡ Ready link → life ≡ Ready link' → link ≡ link'
 one_link life link link' e k = let both : Ready link ≡ Ready link' = sym e ∙ k in cc
@@ -69,15 +78,15 @@ not_wanting_too : (life : Life) (link link' : LinkState) → life ≡ Ready link
 not_wanting_too life link link' e k = let both : Ready link ≡ Wanting link' = sym e ∙ k in cc
 
 -- nothing moves there any more, where rounds have begun
-up_moved : (before : List Action) (f : Core) (w : Work) → IsDone before f w → AreBegun w.conn.rounds w.conn.life w.conn.requests → HasMoved before f w
-up_moved before f w done begun =
+up_moved : (before : List Action) (f : Core) (w : Work) → (f.shut ≡ true → ⊥) → IsDone before f w → AreBegun w.conn.rounds w.conn.life w.conn.requests → HasMoved before f w
+up_moved before f w awake done begun =
     let h = done.seated.up in
     let c = w.conn in
     record {
       started = h.started;
       holds = h.going.sound;
       ended = h.going.ended;
-      fit = record { wanting = λ link e. absurd (not_wanting_too c.life h.link link h.life e); setup = λ link u e. absurd (not_both_lives c.life h.link link u h.life e); link = λ link e. subst (IsFit c.size c.boundary) (one_link c.life h.link link h.life e) h.fit; none = λ no. absurd (no h.link h.life); lasts = λ x y. (let one : true ≡ false = sym (ap is_ready h.life) ∙ x in cc) };
+      fit = record { wanting = λ link e. absurd (not_wanting_too c.life h.link link h.life e); setup = λ link u e. absurd (not_both_lives c.life h.link link u h.life e); link = λ link e. subst (IsFit c.size c.boundary) (one_link c.life h.link link h.life e) h.fit; none = λ no. absurd (no h.link h.life) };
       still = record {
         setup = λ link u e. absurd (not_both_lives c.life h.link link u h.life e);
         held = λ link e. subst (λ (x : LinkState). (x.queue ≡ []) ⊎ (holds_back x ≡ true)) (one_link c.life h.link link h.life e) h.held;
@@ -87,12 +96,13 @@ up_moved before f w done begun =
         begun = begun;
         none_waits = λ over. absurd (not_both (has_ended c.life) (ap has_ended h.life) over);
       };
+      hushed = λ over. absurd (awake over);
       seats = subst (λ (x : LinkState). HasSeats c.moved (in_front c.renewal) x c.size) (sym (ap link_in h.life)) h.seats;
     }
 
 -- so it is where the rounds of all that go on waiting have begun
-rounds_moved : (before : List Action) (f : Core) (w : Work) → IsDone before f w → HasMoved before f (rounds_begun w)
-rounds_moved before f w done =
+rounds_moved : (before : List Action) (f : Core) (w : Work) → (f.shut ≡ true → ⊥) → IsDone before f w → HasMoved before f (rounds_begun w)
+rounds_moved before f w awake done =
     let h = done.seated.up in
     let up = is_ready w.conn.life in
     let tied = h.going.sound.tied in
@@ -100,12 +110,12 @@ rounds_moved before f w done =
     (λ t.
     let shows = both_left w.conn.rounds up t in
     let all = rounds_done before f w 0 w.conn.fresh (record { done = done; shows = shows; among = λ p u. tied.rounds.new p shows (both_right w.conn.rounds up t) u; rises = tied.waits.newer }) in
-    up_moved before f (rounds_of w w.conn.fresh) all.done (λ x y. all.begun))
-    (λ none. up_moved before f w done (λ shows ready. absurd (not_both (w.conn.rounds && up) none (λ i. shows i && ready i))))
+    up_moved before f (rounds_of w w.conn.fresh) awake all.done (λ x y. all.begun))
+    (λ none. up_moved before f w awake done (λ shows ready. absurd (not_both (w.conn.rounds && up) none (λ i. shows i && ready i))))
 
 -- all are moved there, once new credentials are told
-told_moved : (before : List Action) (f : Core) (w : Work) → HasTold before f w → HasMoved before f (rounds_begun (admitted_all (moved_up_all (started_at w w.conn.life))))
-told_moved before f w h =
+told_moved : (before : List Action) (f : Core) (w : Work) → (f.shut ≡ true → ⊥) → HasTold before f w → HasMoved before f (rounds_begun (admitted_all (moved_up_all (started_at w w.conn.life))))
+told_moved before f w awake h =
     let started = h.started in
     let link = h.link in
     let life = h.life in
@@ -133,14 +143,14 @@ told_moved before f w h =
       full = seated.full;
     } in
     let same : u.conn.waiting ≡ waits = moved_up_waits (still_admitted v []) places ∙ keeps.waiting in
-    let all = rounds_moved before f (admitted_each (still_waiting u []) waits) (admitted_done before f (still_waiting u []) waits second) in
+    let all = rounds_moved before f (admitted_each (still_waiting u []) waits) awake (admitted_done before f (still_waiting u []) waits second) in
     subst (λ (x : Life). HasMoved before f (rounds_begun (admitted_all (moved_up_all (started_at w x))))) (sym life)
     (subst (λ (x : List Waiting). HasMoved before f (rounds_begun (admitted_all (moved_up_each (still_admitted v []) x)))) (sym keeps.admitted)
     (subst (λ (x : List Waiting). HasMoved before f (rounds_begun (admitted_each (still_waiting u []) x))) (sym same) all))
 
 -- and all of it
 pub ready_moved : (before : List Action) (f : Core) (w : Work) (started : List ℕ) (link : LinkState) → w.conn.life ≡ Ready link → IsReady before f w started → HasMoved before f (passed w)
-ready_moved before f w started link life h = told_moved before f (renewals.renewed w) (renewed_told before f w started link life h.holds h.ended (h.fit.link link life) h.moved)
+ready_moved before f w started link life h = told_moved before f (renewals.renewed w) (λ over. up_awake w.conn.life w.conn.waiting link life (h.hushed over)) (renewed_told before f w started link life h.holds h.ended (h.fit.link link life) h.moved)
 
 -- elsewhere no round begins
 no_rounds : (w : Work) → is_ready w.conn.life ≡ false → rounds_begun w ≡ w
@@ -171,14 +181,17 @@ record IsStuck (w : Work) : Type 0 where
   unset : (link : LinkState) (greeting : Greeting) → w.conn.life ≡ SettingUp link greeting → ⊥
   alive : has_ended w.conn.life ≡ false
 
+-- so the passes leave it
+stuck_same : (w : Work) → IsStuck w → w.conn.admitted ≡ [] → passed w ≡ w
+stuck_same w stuck none =
+    ap (λ (x : Work). rounds_begun (admitted_all (moved_up_all (started_at x x.conn.life)))) (unready_renewed w stuck.unready)
+    ∙ ap (λ (x : Work). rounds_begun (admitted_all (moved_up_all x))) stuck.none_starts ∙ ap (λ (x : Work). rounds_begun (admitted_all x)) (none_moved_up w none) ∙ ap rounds_begun (stuck_stays (still_waiting w []) w.conn.waiting stuck.admits)
+    ∙ no_rounds w stuck.unready
+
 -- all stays there
 stuck_moved : (before : List Action) (f : Core) (w : Work) (started : List ℕ) → IsStuck w → IsReady before f w started → HasMoved before f (passed w)
 stuck_moved before f w started stuck h =
-    let same : passed w ≡ w =
-    ap (λ (x : Work). rounds_begun (admitted_all (moved_up_all (started_at x x.conn.life)))) (unready_renewed w stuck.unready)
-    ∙ ap (λ (x : Work). rounds_begun (admitted_all (moved_up_all x))) stuck.none_starts ∙ ap (λ (x : Work). rounds_begun (admitted_all x)) (none_moved_up w (h.fit.none stuck.down)) ∙ ap rounds_begun (stuck_stays (still_waiting w []) w.conn.waiting stuck.admits)
-    ∙ no_rounds w stuck.unready in
-    subst (HasMoved before f) (sym same) (record {
+    subst (HasMoved before f) (sym (stuck_same w stuck (h.fit.none stuck.down))) (record {
       started = started;
       holds = h.holds;
       ended = h.ended;
@@ -192,6 +205,7 @@ stuck_moved before f w started stuck h =
         begun = λ shows up. absurd (not_both (is_ready w.conn.life) stuck.unready up);
         none_waits = λ over. absurd (not_both (has_ended w.conn.life) stuck.alive over);
       };
+      hushed = h.hushed;
       seats = λ p i. absurd (subst (IsIn p) h.moved i);
     })
 
@@ -205,6 +219,10 @@ resting_stuck w life = record {
   unset = λ link u e. (let no : Resting ≡ SettingUp link u = sym life ∙ e in cc);
   alive = ap has_ended life;
 }
+
+-- where nobody waits for a place then, the passes leave it
+pub resting_passed : (w : Work) → w.conn.life ≡ Resting → w.conn.admitted ≡ [] → passed w ≡ w
+resting_passed w rests none = stuck_same w (resting_stuck w rests) none
 
 -- while the connect isn't answered
 dialing_stuck : (w : Work) → w.conn.life ≡ Dialing → IsStuck w
@@ -251,7 +269,6 @@ setting_moved before f w started link greeting life h =
         setup = λ x u e. subst (IsFit c.size c.boundary) (one_setting c.life begun.link x greeting u begun.life e) begun.fit;
         link = λ x e. absurd (down x e);
         none = λ no. begun.admitted;
-        lasts = λ x y. (started_keeps w (SettingUp link greeting)).last ∙ h.fit.lasts (ap is_ready life) (ap has_ended life);
       };
       still = record {
         setup = λ x u e. subst (λ (y : LinkState). (y.queue ≡ []) ⊎ (holds_back y ≡ true)) (one_setting c.life begun.link x greeting u begun.life e) begun.held;
@@ -262,6 +279,7 @@ setting_moved before f w started link greeting life h =
         begun = λ shows up. absurd (not_both (is_ready c.life) (ap is_ready begun.life) up);
         none_waits = λ over. absurd (not_both (has_ended c.life) (ap has_ended begun.life) over);
       };
+      hushed = λ over. absurd (set_awake w.conn.life w.conn.waiting link greeting life (h.hushed over));
       seats = λ p i k. absurd (subst (λ (x : Life). IsIn p (queue_ids (link_in x).queue)) begun.life k);
     })
   where
@@ -337,8 +355,9 @@ over_moved before f w e started over h =
       started = started;
       holds = done.holds;
       ended = ends.0;
-      fit = record { wanting = λ link r. absurd (over_wanting link (sym done.over ∙ r)); setup = λ link u r. absurd (over_setting link u (sym done.over ∙ r)); link = λ link r. absurd (down link r); none = λ no. done.none_admitted; lasts = λ x y. (let one : true ≡ false = sym (ap has_ended done.over) ∙ y in cc) };
+      fit = record { wanting = λ link r. absurd (over_wanting link (sym done.over ∙ r)); setup = λ link u r. absurd (over_setting link u (sym done.over ∙ r)); link = λ link r. absurd (down link r); none = λ no. done.none_admitted };
       still = record { setup = λ link u r. absurd (over_setting link u (sym done.over ∙ r)); held = λ link r. absurd (down link r); full = λ link r. absurd (down link r); renewed = λ link r. absurd (down link r); waiting = λ link r. absurd (down link r); begun = λ shows up. absurd (not_both (is_ready u.conn.life) (ap is_ready done.over) up); none_waits = λ no. done.none_waits };
+      hushed = λ shut. subst (λ (x : Life). IsStopped x u.conn.waiting) (sym done.over) tt;
       seats = λ p i k. absurd (subst (λ (x : Life). IsIn p (queue_ids (link_in x).queue)) done.over k);
     })
   where

@@ -32,13 +32,18 @@ use Rattle.legal_trace.specs.Story.{blank_story}
 use Rattle.session_laws.proofs.Going.{is_moved}
 use Rattle.session_laws.proofs.Settled.{IsBetween, is_settled}
 use Rattle.session_laws.proofs.States.{IsFitIn, IsStill}
-use Rattle.session_laws.proofs.Tied.{AreAimed, IsAim, IsAside, Tied, TiedLines, TiedNames, TiedNumbers, TiedPermits, TiedTries, TiedWaits, inner, no_link, owner_of, owners_of, setup_owners, AreUnrepeated}
+use Rattle.session_laws.proofs.Server.{owners_of, setup_owners}
+use Rattle.session_laws.proofs.Tied.{AreAimed, IsAim, IsAside, Tied, TiedLines, TiedNames, TiedNumbers, TiedPermits, TiedTries, TiedWaits, inner, no_link, owner_of, AreUnrepeated, link_in}
 use Rattle.session_laws.proofs.Unrepeated.{sound_repeats_not}
 use Rattle.session_laws.proofs.Waits.{IsQuiet}
 use Rattle.session_laws.proofs.Write.{is_written}
 use Rattle.driver_model.specs.Hearing.{is_watching}
 use Rattle.driver_model.specs.declared.hearing.Hearing.{Hearing}
 use Rattle.driver_model.proofs.Sound.{has_address, is_roomy}
+use Rattle.session_laws.proofs.Numbers.{IsIn}
+use Rattle.mux_conn.specs.declared.life.Life.{Life}
+use Rattle.link_core.specs.Link.{LinkState}
+use Rattle.link_laws.specs.Settles.{awaited_ids}
 
 -- what timers the opening has asked for
 abbrev asks_timers : List Purpose → Book → Book
@@ -101,7 +106,7 @@ buffer_sized : (size : ℕ) → buffer_fault size ≡ None → 0 < size
 buffer_sized size = chosen (λ (x : Option ConfigName). x ≡ None → 0 < size) (size == 0) (Some name.Buffer) None (λ t e. absurd (no_fault name.Buffer e)) (λ n e. let some = ne_from size 0 n in omega arith)
 
 -- the permits, and then the queue
-room_sized : (limit : Option ℕ) (size : ℕ) → room_fault limit size ≡ None → IsSized limit size
+pub room_sized : (limit : Option ℕ) (size : ℕ) → room_fault limit size ≡ None → IsSized limit size
 room_sized None size = λ e. record { limited = λ x. cc; some = buffer_sized size e }
 room_sized (Some k) size =
     chosen (λ (x : Option ConfigName). x ≡ None → IsSized (Some k) size) (k == 0) (Some name.Limit) (buffer_fault size)
@@ -117,7 +122,7 @@ single_unwatched true w = cc w
 single_unwatched false w = cc w
 
 -- and where the server is, no credentials come of sources
-unwanted_where_watched : (config : Config) → is_watching (hearing_of config) ≡ true → wants_credentials config ≡ false
+pub unwanted_where_watched : (config : Config) → is_watching (hearing_of config) ≡ true → wants_credentials config ≡ false
 unwanted_where_watched (variant.Single address connection) w = absurd (single_unwatched (unwrap_or connection.push false) w)
 unwanted_where_watched (variant.Manager lazy address connection manager) w = absurd (single_unwatched (unwrap_or connection.push false) w)
 unwanted_where_watched (variant.PubSub address) w = refl
@@ -141,30 +146,33 @@ opening_numbers config word info timeout none sound some is = record {
   settings = record { size_is = refl; bound_is = refl; limit_is = refl; some = some.some; limited = some.limited };
   kind_is = refl;
   quiet = λ w. record { none = refl; unwanted = unwanted_where_watched config w; unrenewed = refl };
-  plain = ap is_some (no_settings config none);
-  eager = never_lazy config none;
+  comes_back = (no_settings config none, never_lazy config none);
+  lazy = λ is. absurd (not_both (is_lazy (Some config)) (never_lazy config none) is);
   current_is = refl;
   speaks = refl;
-  one = refl;
-  few_links = omega arith;
+  address_is = refl;
+  wants = refl;
+  alone = λ plain. refl;
 }
 
 -- its lines
-opening_lines : TiedLines (λ n. blank_story) [] no_link [] [] [] []
+pub opening_lines : TiedLines (λ n. blank_story) [] no_link [] [] [] []
 opening_lines = record { line = omega arith; queued = tt; entries = tt; packs = tt; packed_in = tt; there = λ p e. cc }
 
 -- its waits
-opening_waits : TiedWaits (λ n. blank_story) [] Dialing [] []
-opening_waits = record {
+pub opening_waits : (life : Life) → link_in life ≡ no_link → TiedWaits (λ n. blank_story) [] life [] []
+opening_waits life bare = record {
   early = λ p w. cc;
+  backoff = λ p w e. cc;
   connect = λ p w e. cc;
   creds = λ p link w e. cc;
   setup = λ p link u w e. cc;
   permit = λ p link w e. cc;
   place = λ p a. cc;
-  room = λ p i. absurd i;
+  room = λ p i. absurd (subst (λ (x : LinkState). IsIn p (awaited_ids x.queue)) bare i);
   newer = omega arith;
   rising = omega arith;
+  no_backoff = λ p i. absurd i;
   no_connect = λ p i. absurd i;
   no_creds = λ p link i. absurd i;
   no_setup = λ p link u i. absurd i;
@@ -175,7 +183,7 @@ opening_waits = record {
 }
 
 -- all its permits are free
-opening_permits : (limit : Option ℕ) → TiedPermits (λ n. blank_story) 0 [] first_link limit (unwrap_or limit 0) []
+pub opening_permits : (limit : Option ℕ) → TiedPermits (λ n. blank_story) 0 [] first_link limit (unwrap_or limit 0) []
 opening_permits limit = record {
   counted = λ k e. (let all : unwrap_or limit 0 ≡ k = ap (λ (x : Option ℕ). unwrap_or x 0) e in omega arith);
   none = λ p w out. cc;
@@ -183,11 +191,11 @@ opening_permits limit = record {
 }
 
 -- its names
-opening_names : TiedNames [] []
+pub opening_names : TiedNames [] []
 opening_names = record { few = omega arith; named = λ p r e. cc; kept = λ n p e. cc; rising = λ p q r s less e k. cc }
 
 -- its tries
-opening_tries : (l : Ledger) → l.starts ≡ [] → TiedTries l (λ n. blank_story) [] first_link []
+pub opening_tries : (l : Ledger) → l.starts ≡ [] → TiedTries l (λ n. blank_story) [] first_link []
 opening_tries l none = record { greeted = λ w. record { none = refl; greets = λ k s e. (let no : ◌≡◌ {A = Option Start} None (Some s) = sym (ap (λ (ss : List Start). slice_get ss k) none) ∙ e in cc) }; owners = λ plain. ap owners_of none ∙ ap (λ (ss : List Start). setup_owners (setup_count ss) []) (sym none); shapes = λ k p s w e i. cc; tried = λ k p w e. cc; untried = λ p r e out on. cc }
 
 -- no link but the first was asked for
@@ -209,7 +217,9 @@ opening_tied config word info timeout plain sound some is = record {
   numbers = opening_numbers config word info timeout plain sound some is;
   others = λ m other. subst (λ (x : Ledger). IsAside (first_link + 1) m x (hearing_of config) (response_timeout config) 0) (sym (opened_link config word info (connect_timers timeout) m other)) (blank_aside m (hearing_of config) (response_timeout config) other);
   notices = record { heard_is = refl; hearing_is = refl; within = λ y. omega arith; untold_is = λ y. refl; parts = λ y d z. cc; alive = λ z. refl; due = λ z. cc; tame = λ z r. refl };
-  life = (refl, refl, refl, last_first config plain);
+  life = (refl, refl, refl);
+  course = (refl, refl, refl, last_first config plain, refl);
+  calm = λ up awake. refl;
   creds = record { wanted_is = refl; sought = (refl, refl, refl) };
   creation = record { before = λ e. refl; after = λ e. cc };
   uses = λ k what e. cc;
@@ -221,7 +231,7 @@ opening_tied config word info timeout plain sound some is = record {
   tries = opening_tries ((opened config word info (connect_timers timeout)).link first_link) refl;
   lines = opening_lines;
   told = λ e. record { told = λ n is none on. cc; here = λ p i. absurd i };
-  waits = opening_waits;
+  waits = opening_waits Dialing refl;
   permits = opening_permits (permits config);
   rounds = record { rounds_is = ap is_some (no_settings config plain); unbegun = λ p u. cc; begun = λ p r o u. cc; new = λ p r up u. cc };
   early = λ unready alive p o. cc;
@@ -243,11 +253,11 @@ opening_book config word info None = refl
 opening_book config word info (Some ms) = refl
 
 -- what the turn does is shown, where it has asked for no link
-turn_shown : (config : Config) (word : ℕ) → manager_of config ≡ None → IsShown (entered blank_book (action.Turn 0 (cause.Opening config word)))
-turn_shown config word none = record {
+pub turn_shown : (config : Config) (word : ℕ) → is_lazy (Some config) ≡ false → IsShown (entered blank_book (action.Turn 0 (cause.Opening config word)))
+turn_shown config word never = record {
   answered = λ n o. cc;
   ended = λ l. refl;
-  created = record { shown = λ l ready. cc; failed = λ l e fails. cc; lazy = λ is. absurd (not_both (is_lazy (Some config)) (never_lazy config none) is) };
+  created = record { shown = λ l ready. cc; failed = λ l e fails. cc; lazy = λ is. absurd (not_both (is_lazy (Some config)) never is) };
   pushed = λ l heard. refl;
   parted = λ l heard cut. cc;
   sourced = λ l. refl;
@@ -304,7 +314,7 @@ opening_stands config word info timeout none sound at is =
       record { next = refl; is_for = refl },
       (
         record {
-          shown = turn_shown config word none;
+          shown = turn_shown config word (never_lazy config none);
           rested = plain_rested b plain;
           generated = plain_generated b plain;
           due = left_if (has_generations b) _ (b.links == 0) plain;
@@ -330,9 +340,9 @@ opened_between config word info timeout none sound at some is =
     let conn = c.single.connection in
     let t = inner c [] in
     let tied = opening_tied config word info timeout none sound some is in
-    let fit : IsFitIn conn = record { wanting = λ link e. cc; setup = λ link u e. cc; link = λ link e. cc; none = λ no. refl; lasts = λ u a. refl } in
+    let fit : IsFitIn conn = record { wanting = λ link e. cc; setup = λ link u e. cc; link = λ link e. cc; none = λ no. refl } in
     let still : IsStill conn = record { setup = λ link u e. cc; held = λ link e. cc; full = λ link e. cc; waiting = λ link e. cc; begun = λ shows up. cc; none_waits = λ e. refl; renewed = λ link e. cc } in
-    let moved = is_moved b t tied refl (refl, refl) refl (opening_ends config word info timers) fit.link fit.none still.held still.full still.waiting still.none_waits fit.setup still.setup (λ p i. absurd i) still.renewed still.begun in
+    let moved = is_moved b t tied refl (refl, refl) refl (opening_ends config word info timers) fit.link fit.none still.held still.full still.waiting still.none_waits (λ over. cc) (λ x. cc) fit.setup still.setup (λ p i. absurd i) still.renewed still.begun in
     let written = is_written b t tied moved refl in
     let quiet : IsQuiet t = record { seats = λ p i. absurd i; settled = refl; alone = refl; fit = fit.link; none = fit.none; held = still.held; full = still.full; waiting = still.waiting; begun = still.begun; gone = still.none_waits; setup_fit = fit.setup; setup_held = still.setup } in
     let book_is = sym (opening_book config word info timeout) in
@@ -346,6 +356,8 @@ opened_between config word info timeout none sound at some is =
         moved = refl;
         fit = fit;
         still = still;
+        hushed = λ over. cc;
+        heeded = tt;
       };
     }
 

@@ -20,16 +20,17 @@ use Rattle.mux_conn.specs.declared.life.Life.{Life}
 use Rattle.mux_conn.specs.declared.life.Life.TheVariants.{Resting, Dialing, Wanting, SettingUp, Ready, Ended}
 use Rattle.mux_conn.specs.declared.request.Pending.{Pending}
 use Rattle.mux_conn.specs.declared.request.Request.{Request}
+use Rattle.mux_conn.specs.Connection.{is_resting}
 use Rattle.mux_conn.specs.Requests.{name_at, is_open_at}
 use Rattle.legal_trace.specs.Ledger.{full_count, Ledger, Heard, Start, End, failure_in, is_cut, is_of_setup, next_notice, setup_count}
 use Rattle.legal_trace.specs.Story.{Story, bytes_of, shape, last_of, is_open}
 use Rattle.legal_trace.specs.Book.{Book}
 use Rattle.legal_trace.specs.Owed.{owed, owed_to_message, owed_unstarted, owed_to_try, owed_waiting}
-use Rattle.legal_trace.specs.Managers.{is_lazy}
 use Rattle.legal_trace.specs.Legal.{IsOpen, NoneIsOwed, IsCreated, FailuresAreShown, NoticesAreTold, EndsAreTold}
 use Rattle.session_laws.proofs.Numbers.{Rising, IsIn, in_either, rising_in, rising_left, rising_right, rising_apart, requests_in, request_in, request_of}
 use Rattle.session_laws.proofs.Said.{ready_shown}
-use Rattle.session_laws.proofs.Tied.{IsEntry, Inner, carried, link_in, owner_of, setup_owners, whole_link, owners_of, owners_each, queue_ids, IsRequest, TiedStory, TiedLife, Tied, FailureIsShown, has_ended, is_of_greeting}
+use Rattle.session_laws.proofs.Server.{setup_owners, owners_of}
+use Rattle.session_laws.proofs.Tied.{IsEntry, Inner, carried, link_in, owner_of, whole_link, owners_each, queue_ids, IsRequest, TiedStory, TiedLife, Tied, FailureIsShown, has_ended, is_of_greeting}
 use Rattle.session_laws.proofs.Names.{get_some, open_within, name_of_some, name_placed, same_name, owner_no_setup, auth_owner, request_owner, request_not, asked_unwatched}
 use Rattle.session_laws.proofs.InLine.{AtPlaces, IsInLine, wanted_rises, places_rise, row_ids, wanted_in, kept_ids, line_of, open_in_line}
 use Rattle.mux_conn.specs.Renewals.{renewal_id}
@@ -153,23 +154,14 @@ owed_started b t p k of_shape h l in_time place =
     ∙ ap (λ ts. owed_to_try b (b.story n) (last_of ts)) (h.tries.tried e.0 p l e.2 ∙ ap (λ m. record { link = t.link; message = m } ∷ []) (sym e.1))
     ∙ ap (owed_to_message (b.link t.link) k) same
 
--- a link was asked for, however far it has come
-pub is_asked : (l : Ledger) (created : ℕ) (life : Life) → TiedLife l created life → l.asked ≡ true
-is_asked l created Resting h = absurd h.4
-is_asked l created Dialing h = h.0
-is_asked l created (Wanting link) h = h.0
-is_asked l created (SettingUp link greeting) h = h.0
-is_asked l created (Ready link) h = h.0
-is_asked l created (Ended e) h = h.3
-
--- and until it ends no attempt follows
-pub is_last_one : (l : Ledger) (created : ℕ) (life : Life) → TiedLife l created life → has_ended life ≡ false → l.last ≡ true
-is_last_one l created Resting h n = h.3
-is_last_one l created Dialing h n = h.3
-is_last_one l created (Wanting link) h n = h.3
-is_last_one l created (SettingUp link greeting) h n = h.3
-is_last_one l created (Ready link) h n = h.3
-is_last_one l created (Ended e) h n = cc
+-- the link of a connection that has one was asked for
+pub is_asked : (l : Ledger) (created : ℕ) (life : Life) → is_resting life ≡ false → TiedLife l created life → l.asked ≡ true
+is_asked l created Resting there h = cc
+is_asked l created Dialing there h = h.0
+is_asked l created (Wanting link) there h = h.0
+is_asked l created (SettingUp link greeting) there h = h.0
+is_asked l created (Ready link) there h = h.0
+is_asked l created (Ended e) there h = h.3
 
 -- of a link that was asked for it is owed what the end says
 pub owed_asked : (shut : Bool) (l : Ledger) → l.asked ≡ true → owed_waiting shut l ≡ owed_unstarted l.end
@@ -192,8 +184,8 @@ queue_on b t p h i = by_test (has_ended t.life) _ (λ over. absurd (none_over t.
     none_over (Ready link) over j = cc
     none_over (Ended e) over j = j
 
--- what it is owed where it has none
-pub owed_none_started : (b : Book) (t : Inner) (p : ℕ) → Tied b t → is_open_at t.requests p ≡ true → (b.story (name_at t.requests p)).overdue ≡ false → (IsIn p t.started → ⊥) → owed b (name_at t.requests p) ≡ owed_unstarted (b.link t.link).end
+-- what it is owed where it has no message
+pub owed_none_started : (b : Book) (t : Inner) (p : ℕ) → Tied b t → is_open_at t.requests p ≡ true → (b.story (name_at t.requests p)).overdue ≡ false → (IsIn p t.started → ⊥) → owed b (name_at t.requests p) ≡ owed_waiting b.shut (b.link t.link)
 owed_none_started b t p h o in_time not_started =
     let l = open_within t.requests p o in
     let n = name_at t.requests p in
@@ -201,7 +193,7 @@ owed_none_started b t p h o in_time not_started =
     let g = get_some t.requests p l in
     let named : n ≡ g.0.name = name_of_some t.requests p g.0 g.1 in
     let untried : (b.story n).tries ≡ [] = ap (λ m. (b.story m).tries) named ∙ h.tries.untried p g.0 g.1 not_started (sym (ap (λ m. (b.story m).link) named) ∙ r.on o) in
-    owed_by_try b n r.in_time r.spoken r.some in_time ∙ ap (λ ts. owed_to_try b (b.story n) (last_of ts)) untried ∙ ap (λ m. owed_waiting b.shut (b.link m)) (r.on o) ∙ owed_asked b.shut (b.link t.link) (is_asked (b.link t.link) b.created t.life h.life)
+    owed_by_try b n r.in_time r.spoken r.some in_time ∙ ap (λ ts. owed_to_try b (b.story n) (last_of ts)) untried ∙ ap (λ m. owed_waiting b.shut (b.link m)) (r.on o)
 
 -- what a link has settled is what its submissions are owed
 pub settled_owed : (b : Book) (t : Inner) (s : Settled) → Tied b t → s.id < length t.requests → (b.story (name_at t.requests s.id)).overdue ≡ false → IsOwed (owner_of t.requests) (b.link t.link) s → owed b (name_at t.requests s.id) ≡ Some (outcome_of s.verdict)
@@ -257,15 +249,29 @@ row_unowed b t p h n l in_time i =
     let place = subst (λ m. StandsAs ledger.starts (owner_of t.requests m) w.entry.shape w.number) w.is w.open_as.place in
     owed_started b t p w.number w.entry.shape h l in_time place ∙ open_unowed (owner_of t.requests) ledger w.number w.entry alive w.open_as
 
--- nor to one that waits
-later_unowed : (b : Book) (t : Inner) (p : ℕ) → Tied b t → has_ended t.life ≡ false → is_open_at t.requests p ≡ true → (b.story (name_at t.requests p)).overdue ≡ false → IsIn p (queue_ids (link_in t.life).queue ++ kept_ids t.admitted t.waiting) → owed b (name_at t.requests p) ≡ None
-later_unowed b t p h n o in_time i = owed_none_started b t p h o in_time (later_unstarted b t p h i) ∙ ap owed_unstarted (lives (b.link t.link) b.created t.life h.life n)
+-- nor to one that waits, unless everything was shut down while the connection has no link
+--
+abbrev pub IsAwake : Inner → Type 0
+IsAwake t = is_resting t.life ≡ true → t.shut ≡ false
+
+-- so nothing is owed to who has no message
+waiting_unowed : (b : Book) (t : Inner) → Tied b t → IsAwake t → has_ended t.life ≡ false → owed_waiting b.shut (b.link t.link) ≡ None
+waiting_unowed b t h awake n = by_test (is_resting t.life) _ (λ rests. ap (λ s. owed_waiting s l) (h.numbers.shut ∙ awake rests) ∙ alive) (λ there. owed_asked b.shut l (is_asked l b.created t.life there h.life) ∙ alive)
+  where
+    l : Ledger
+    l = b.link t.link
+
+    alive : owed_unstarted l.end ≡ None
+    alive = ap owed_unstarted (lives l b.created t.life h.life n)
+
+later_unowed : (b : Book) (t : Inner) (p : ℕ) → Tied b t → IsAwake t → has_ended t.life ≡ false → is_open_at t.requests p ≡ true → (b.story (name_at t.requests p)).overdue ≡ false → IsIn p (queue_ids (link_in t.life).queue ++ kept_ids t.admitted t.waiting) → owed b (name_at t.requests p) ≡ None
+later_unowed b t p h awake n o in_time i = owed_none_started b t p h o in_time (later_unstarted b t p h i) ∙ waiting_unowed b t h awake n
 
 -- and so to none of the line
-pub line_unowed : (b : Book) (t : Inner) (p : ℕ) → Tied b t → has_ended t.life ≡ false → is_open_at t.requests p ≡ true → (b.story (name_at t.requests p)).overdue ≡ false → IsIn p (line_of (link_in t.life) t.admitted t.waiting) → owed b (name_at t.requests p) ≡ None
-line_unowed b t p h n o in_time i = elim (in_either p (requests_in (wanted (link_in t.life).row)) (queue_ids (link_in t.life).queue ++ kept_ids t.admitted t.waiting) i) [
+pub line_unowed : (b : Book) (t : Inner) (p : ℕ) → Tied b t → IsAwake t → has_ended t.life ≡ false → is_open_at t.requests p ≡ true → (b.story (name_at t.requests p)).overdue ≡ false → IsIn p (line_of (link_in t.life) t.admitted t.waiting) → owed b (name_at t.requests p) ≡ None
+line_unowed b t p h awake n o in_time i = elim (in_either p (requests_in (wanted (link_in t.life).row)) (queue_ids (link_in t.life).queue ++ kept_ids t.admitted t.waiting) i) [
   | inl j ↦ row_unowed b t p h n (open_within t.requests p o) in_time (wanted_in p (link_in t.life).row (request_of p (wanted (link_in t.life).row) j))
-  | inr j ↦ later_unowed b t p h n o in_time j
+  | inr j ↦ later_unowed b t p h awake n o in_time j
 ]
 
 -- an open request that is not to be answered is in time
@@ -273,21 +279,21 @@ pub in_time : (b : Book) (t : Inner) (p : ℕ) → Tied b t → is_open_at t.req
 in_time b t p h o apart = by_test (b.story (name_at t.requests p)).overdue _ (λ late. absurd (apart (h.late p o late))) (λ f. f)
 
 -- where nothing is to be answered, no open submission is owed an outcome
-pub none_owed : (b : Book) (t : Inner) → Tied b t → t.pending ≡ [] → has_ended t.life ≡ false → NoneIsOwed b
-none_owed b t h none n m o =
+pub none_owed : (b : Book) (t : Inner) → Tied b t → IsAwake t → t.pending ≡ [] → has_ended t.life ≡ false → NoneIsOwed b
+none_owed b t h awake none n m o =
     let r = open_request b t m h o in
     let i = open_in_line b.story t.requests (link_in t.life) t.waiting t.admitted t.pending t.started r.number h.lines r.open_at in
     let j = subst (λ ns. IsIn r.number (ns ++ line_of (link_in t.life) t.admitted t.waiting)) none i in
-    ap (owed b) (sym r.named) ∙ line_unowed b t r.number h n r.open_at (in_time b t r.number h r.open_at (λ k. subst (IsIn r.number) none k)) j
+    ap (owed b) (sym r.named) ∙ line_unowed b t r.number h awake n r.open_at (in_time b t r.number h r.open_at (λ k. subst (IsIn r.number) none k)) j
 
--- on a link that has ended, where none waits, none is open
-pub none_open : (b : Book) (t : Inner) (e : RedisError) (n : ℕ) → Tied b t → t.pending ≡ [] → t.life ≡ Ended e → kept_ids t.admitted t.waiting ≡ [] → IsOpen b n → ⊥
-none_open b t e m h none over empty o =
+-- without a link, or on one that has ended, where none waits, none is open
+pub none_open : (b : Book) (t : Inner) (life : Life) (n : ℕ) → line_of (link_in life) t.admitted t.waiting ≡ kept_ids t.admitted t.waiting → Tied b t → t.pending ≡ [] → t.life ≡ life → kept_ids t.admitted t.waiting ≡ [] → IsOpen b n → ⊥
+none_open b t life m bare h none over empty o =
     let r = open_request b t m h o in
     let i = open_in_line b.story t.requests (link_in t.life) t.waiting t.admitted t.pending t.started r.number h.lines r.open_at in
     let j = subst (λ ns. IsIn r.number (ns ++ line_of (link_in t.life) t.admitted t.waiting)) none i in
     let k = subst (λ life. IsIn r.number (line_of (link_in life) t.admitted t.waiting)) over j in
-    subst (IsIn r.number) empty k
+    subst (IsIn r.number) (bare ∙ empty) k
 
 -- where the opening of a link failed, this was shown
 --
@@ -315,7 +321,7 @@ pub created_is : (b : Book) (t : Inner) → Tied b t → IsCreated b
 created_is b t h = record {
   shown = ready_shown b t h;
   failed = failures_shown b t h;
-  lazy = λ is. absurd (not_both (is_lazy b.config) h.numbers.eager is);
+  lazy = h.numbers.lazy;
 }
 
 -- nothing comes behind all of a list

@@ -36,9 +36,11 @@ use Rattle.session_laws.proofs.Numbers.{IsIn, Rising, in_either, in_left, in_rig
 use Rattle.session_laws.proofs.Owes.{in_line, request_story, open_on}
 use Rattle.session_laws.proofs.Permits.{permits_closed, permits_further, permits_let}
 use Rattle.session_laws.proofs.Rounded.{admitted_begun, rounds_closed, rounds_with}
-use Rattle.session_laws.proofs.Start.{not_dialing, not_setting, not_wanting, on_link}
-use Rattle.session_laws.proofs.Tied.{AreLate, AreQueued, Inner, IsEntry, IsKept, IsOf, IsPacked, IsQueued, Tied, TiedLines, TiedStory, TiedTries, TiedWaits, owner_of, owners_each, queue_ids, setup_owners, relined, shown_wait, waiting_ids, numbers_kept}
+use Rattle.session_laws.proofs.Start.{not_dialing, not_setting, not_wanting, on_link, not_resting}
+use Rattle.session_laws.proofs.Server.{setup_owners}
+use Rattle.session_laws.proofs.Tied.{AreLate, AreQueued, Inner, IsEntry, IsKept, IsOf, IsPacked, IsQueued, Tied, TiedLines, TiedStory, TiedTries, TiedWaits, owner_of, owners_each, queue_ids, relined, shown_wait, waiting_ids, numbers_kept}
 use Rattle.session_laws.proofs.Ahead.{admitted_open, early_open, waiting_open}
+use Rattle.session_laws.proofs.Calm.{calm_more}
 
 -- those that wait no longer are passed over
 --
@@ -237,10 +239,11 @@ other_wait x one other e apart r = apart (some_same one other (sym e ∙ r))
 -- one that waits for the connection, or for a permit, has shown nothing, or one of these waits
 shown_early : (x : Option WaitKind) → IsOneOf x → (x ≢ Some wait.Place) × (x ≢ Some wait.Room)
 shown_early x (inl e) = (λ r. (let no : ◌≡◌ {A = Option WaitKind} None (Some wait.Place) = sym e ∙ r in cc), λ r. (let no : ◌≡◌ {A = Option WaitKind} None (Some wait.Room) = sym e ∙ r in cc))
-shown_early x (inr (inl e)) = (other_wait x wait.Connect wait.Place e (λ r. cc), other_wait x wait.Connect wait.Room e (λ r. cc))
-shown_early x (inr (inr (inl e))) = (other_wait x wait.Creds wait.Place e (λ r. cc), other_wait x wait.Creds wait.Room e (λ r. cc))
-shown_early x (inr (inr (inr (inl e)))) = (other_wait x wait.Setup wait.Place e (λ r. cc), other_wait x wait.Setup wait.Room e (λ r. cc))
-shown_early x (inr (inr (inr (inr e)))) = (other_wait x wait.Permit wait.Place e (λ r. cc), other_wait x wait.Permit wait.Room e (λ r. cc))
+shown_early x (inr (inl e)) = (other_wait x wait.Backoff wait.Place e (λ r. cc), other_wait x wait.Backoff wait.Room e (λ r. cc))
+shown_early x (inr (inr (inl e))) = (other_wait x wait.Connect wait.Place e (λ r. cc), other_wait x wait.Connect wait.Room e (λ r. cc))
+shown_early x (inr (inr (inr (inl e)))) = (other_wait x wait.Creds wait.Place e (λ r. cc), other_wait x wait.Creds wait.Room e (λ r. cc))
+shown_early x (inr (inr (inr (inr (inl e))))) = (other_wait x wait.Setup wait.Place e (λ r. cc), other_wait x wait.Setup wait.Room e (λ r. cc))
+shown_early x (inr (inr (inr (inr (inr e))))) = (other_wait x wait.Permit wait.Place e (λ r. cc), other_wait x wait.Permit wait.Room e (λ r. cc))
 
 -- or of those that wait for the connection, where none waits for a place, and it is being let in
 pub next_waiting : (b : Book) (t : Inner) (link : LinkState) (q : Waiting) (qs : List Waiting) → is_waiting_at t.requests q.number ≡ true → is_unbegun_at t.requests q.number ≡ false → is_let_in t.limit (b.story (name_at t.requests q.number)) ≡ true → Rising 0 (t.moved ++ q.number ∷ []) (length t.requests)
@@ -368,6 +371,7 @@ waits_placed story requests p life fresh moved l h =
     let long = sym (length_still requests p progress.Placed) in
     record {
       early = λ m w. let k = there_then is_waiting requests p m progress.Placed refl l w in one_of (shown_wait story (at_progress requests p progress.Placed) m) (shown_wait story requests m) (same m) (h.early m k.1);
+      backoff = λ m w d. let k = there_then is_waiting requests p m progress.Placed refl l w in elim (h.backoff m k.1 d) [ inl e ↦ inl e | inr e ↦ inr (same m ∙ e) ];
       connect = λ m w d. let k = there_then is_waiting requests p m progress.Placed refl l w in elim (h.connect m k.1 d) [ inl e ↦ inl e | inr e ↦ inr (same m ∙ e) ];
       creds = λ m link w d. let k = there_then is_waiting requests p m progress.Placed refl l w in elim (h.creds m link k.1 d) [ inl e ↦ inl e | inr e ↦ inr (same m ∙ e) ];
       setup = λ m link u w d. let k = there_then is_waiting requests p m progress.Placed refl l w in elim (h.setup m link u k.1 d) [ inl e ↦ inl e | inr e ↦ inr (same m ∙ e) ];
@@ -376,6 +380,7 @@ waits_placed story requests p life fresh moved l h =
       room = λ m i. elim (h.room m i) [ inl j ↦ inl j | inr e ↦ inr (same m ∙ e) ];
       newer = subst (Rising 0 fresh) long h.newer;
       rising = subst (Rising 0 moved) long h.rising;
+      no_backoff = λ m i w d. let k = there_then is_waiting requests p m progress.Placed refl l w in same m ∙ h.no_backoff m i k.1 d;
       no_connect = λ m i w d e. let k = there_then is_waiting requests p m progress.Placed refl l w in h.no_connect m i k.1 d (sym (same m) ∙ e);
       no_creds = λ m link i w d e. let k = there_then is_waiting requests p m progress.Placed refl l w in h.no_creds m link i k.1 d (sym (same m) ∙ e);
       no_setup = λ m link u i w d e. let k = there_then is_waiting requests p m progress.Placed refl l w in h.no_setup m link u i k.1 d (sym (same m) ∙ e);
@@ -393,6 +398,7 @@ waits_enqueued story requests link m fresh moved last placed shown h =
     let earlier : (n : ℕ) → p ≢ n → IsIn n (moved ++ p ∷ []) → IsIn n moved = λ n other i. elim (in_either n moved (p ∷ []) i) [ inl j ↦ j | inr j ↦ elim j [ inl same ↦ absurd (other same) | inr k ↦ absurd k ] ] in
     record {
       early = h.early;
+      backoff = λ n w e. absurd (not_resting (enqueued link m) e);
       connect = λ n w e. absurd (not_dialing (enqueued link m) e);
       creds = λ n l w e. absurd (not_wanting (enqueued link m) l e);
       setup = λ n l u w e. absurd (not_setting (enqueued link m) l u e);
@@ -404,6 +410,7 @@ waits_enqueued story requests link m fresh moved last placed shown h =
       ];
       newer = h.newer;
       rising = last;
+      no_backoff = λ n i w e. absurd (not_resting (enqueued link m) e);
       no_connect = λ n i w e. absurd (not_dialing (enqueued link m) e);
       no_creds = λ n l i w e. absurd (not_wanting (enqueued link m) l e);
       no_setup = λ n l u i w e. absurd (not_setting (enqueued link m) l u e);
@@ -425,6 +432,7 @@ waits_admitted story requests link p fresh moved w last h =
     let earlier : (n : ℕ) → p ≢ n → IsIn n (moved ++ p ∷ []) → IsIn n moved = λ n other i. elim (in_either n moved (p ∷ []) i) [ inl j ↦ j | inr j ↦ elim j [ inl same ↦ absurd (other same) | inr k ↦ absurd k ] ] in
     record {
       early = λ m v. let k = there_then is_waiting requests p m progress.Admitted refl l v in one_of (shown_wait story (at_progress requests p progress.Admitted) m) (shown_wait story requests m) (same m) (h.early m k.1);
+      backoff = λ m v d. absurd (not_resting link d);
       connect = λ m v d. absurd (not_dialing link d);
       creds = λ m x v d. absurd (not_wanting link x d);
       setup = λ m x u v d. absurd (not_setting link x u d);
@@ -435,6 +443,7 @@ waits_admitted story requests link p fresh moved w last h =
       room = λ m i. elim (h.room m i) [ inl j ↦ inl (in_left m moved (p ∷ []) j) | inr e ↦ inr (same m ∙ e) ];
       newer = subst (Rising 0 fresh) (sym (length_still requests p progress.Admitted)) h.newer;
       rising = subst (Rising 0 (moved ++ p ∷ [])) (sym (length_still requests p progress.Admitted)) last;
+      no_backoff = λ m i v d. absurd (not_resting link d);
       no_connect = λ m i v d. absurd (not_dialing link d);
       no_creds = λ m x i v d. absurd (not_wanting link x d);
       no_setup = λ m x u i v d. absurd (not_setting link x u d);
@@ -498,6 +507,8 @@ place_tied b t link q waiting admitted yes_awaited next h =
       others = h.others;
       notices = h.notices;
       life = h.life;
+      course = h.course;
+      calm = h.calm;
       creds = record { wanted_is = h.creds.wanted_is; sought = h.creds.sought };
       creation = h.creation;
       uses = h.uses;
@@ -578,6 +589,8 @@ tell_tied b t link q waiting admitted not_awaited next h =
       others = h.others;
       notices = h.notices;
       life = h.life;
+      course = h.course;
+      calm = calm_more b.errors nil t.shut (Ready link) (λ up awake. refl) h.calm;
       creds = record { wanted_is = h.creds.wanted_is; sought = h.creds.sought };
       creation = h.creation;
       uses = h.uses;
@@ -606,7 +619,7 @@ tell_tied b t link q waiting admitted not_awaited next h =
           };
       waits = waits_enqueued after closed link (message_of q) t.fresh t.moved (subst (Rising 0 (t.moved ++ p ∷ [])) (sym still) next.last) (with_same is_admitted t.requests p progress.Closed 0 within)
           (λ e. (let gone : ◌≡◌ {A = Option WaitKind} None (Some wait.Room) = ap (λ (s : Story). s.waiting) same ∙ ap (λ x. (after x).waiting) (sym named) ∙ e in cc))
-          (waits_closed t.table b.story t.requests p done (Ready link) (Ready link) t.fresh t.moved h.names within (λ e. e) (λ l e. absurd (not_wanting link l e)) (λ l u e. absurd (not_setting link l u e)) (λ l e. (link, refl))
+          (waits_closed t.table b.story t.requests p done (Ready link) (Ready link) t.fresh t.moved h.names within (λ e. e) (λ e. e) (λ l e. absurd (not_wanting link l e)) (λ l u e. absurd (not_setting link l u e)) (λ l e. (link, refl))
           (λ m i.
           let queue = queue_ids link.queue in
           let kept = kept_ids t.admitted t.waiting in
@@ -641,6 +654,8 @@ admit_tied b t link q qs w begun is last h =
       others = h.others;
       notices = h.notices;
       life = h.life;
+      course = h.course;
+      calm = h.calm;
       creds = record { wanted_is = h.creds.wanted_is; sought = h.creds.sought };
       creation = h.creation;
       uses = h.uses;

@@ -18,7 +18,8 @@ use Rattle.legal_trace.proofs.Renewals.{taken_begins}
 use Rattle.session_laws.proofs.Names.{get_more}
 use Rattle.containers.proofs.Places.{get_within}
 use Rattle.legal_trace.specs.Book.{Book}
-use Rattle.session_laws.proofs.Tied.{AreFullBefore, AreRenewed, Inner, Tied, TiedLife, IsLost, IsTold, NoneRenewed, TiedRenewal, timed_of, has_ended}
+use Rattle.session_laws.proofs.Server.{AreFullBefore, AreRenewed, IsLost, IsTold, NoneRenewed, TiedRenewal, timed_of}
+use Rattle.session_laws.proofs.Tied.{Inner, Tied, TiedLife, has_ended}
 use Rattle.session_laws.proofs.SetUp.{begun_open}
 
 -- what is told next

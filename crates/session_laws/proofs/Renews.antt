@@ -46,7 +46,8 @@ use Rattle.session_laws.proofs.Settle.{Holds, book_of_more, renewal_tied, seen, 
 use Rattle.session_laws.proofs.Start.{not_setting, on_link, owners-append, owners_each-append, owners_length, setup_owners-append}
 use Rattle.session_laws.proofs.Starts.{begins_ends_none}
 use Rattle.session_laws.proofs.States.{IsFit}
-use Rattle.session_laws.proofs.Tied.{AreAimed, AreRenewed, Inner, IsAim, IsEntry, Tied, TiedRenewal, TiedTries, numbers_kept, owner_of, owners_each, queue_ids, setup_owners, timed_of}
+use Rattle.session_laws.proofs.Server.{AreRenewed, TiedRenewal, setup_owners, timed_of}
+use Rattle.session_laws.proofs.Tied.{AreAimed, Inner, IsAim, IsEntry, Tied, TiedTries, numbers_kept, owner_of, owners_each, queue_ids}
 use Rattle.session_laws.proofs.Unrepeated.{repeats_started, repeats_timed, unrepeated_lined}
 use Rattle.session_laws.proofs.Took.{queue_waits}
 use Rattle.mux_conn.specs.declared.life.Greeting.TheVariants as greet
@@ -81,7 +82,7 @@ may_time_renewal b t link number ms counted none due within h ended =
     let unasked : pending ≡ 0 = left_if r.pending 1 0 none in
     let one : renewals_asked l ≡ renewal_count l.starts + 1 = ap (λ x. renewal_count l.starts + (if x then 1 else 0)) (due_is l r h.life.1 h.renewal ∙ due) in
     record {
-      applied = applied_up b was h refl (refl, refl) refl ended;
+      applied = applied_up b was h refl (refl, refl) refl refl ended;
       setups = setups_started b was h (λ x u e. absurd (not_setting link x u e));
       monitors = monitors_started b was h (λ x e. absurd (not_setting link x greet.Monitor e));
       repeats_timed = repeats_timed b h.numbers.unrepeated;
@@ -119,16 +120,19 @@ time_tied b t link number ms none due within h =
         settings = record { size_is = k.settings.size_is; bound_is = k.settings.bound_is; limit_is = k.settings.limit_is; some = k.settings.some; limited = k.settings.limited };
         kind_is = k.kind_is;
         quiet = λ w. let q = h.numbers.quiet w in record { none = q.none; unwanted = q.unwanted; unrenewed = q.unrenewed };
-        plain = k.plain;
-        eager = k.eager;
+        comes_back = k.comes_back;
+        lazy = k.lazy;
         current_is = k.current_is;
         speaks = k.speaks;
-        one = k.one;
-        few_links = k.few_links;
+        address_is = k.address_is;
+        wants = k.wants;
+        alone = k.alone;
       };
       others = others_kept b t.link times h.others;
       notices = h.notices;
       life = h.life;
+      course = h.course;
+      calm = h.calm;
       creds = record { wanted_is = h.creds.wanted_is; sought = h.creds.sought };
       creation = h.creation;
       uses = h.uses;
@@ -204,7 +208,7 @@ may_renew b t link c cs due pending waits fit free h ended =
     let was = on_link t link in
     let l = b.link t.link in
     record {
-      applied = applied_up b was h refl (refl, refl) refl ended;
+      applied = applied_up b was h refl (refl, refl) refl refl ended;
       setups = setups_started b was h (λ x u e. absurd (not_setting link x u e));
       monitors = monitors_started b was h (λ x e. absurd (not_setting link x greet.Monitor e));
       repeats_timed = repeats_timed b h.numbers.unrepeated;
@@ -253,16 +257,19 @@ auth_tied b t link c cs due pending waits h =
         settings = record { size_is = k.settings.size_is; bound_is = k.settings.bound_is; limit_is = k.settings.limit_is; some = k.settings.some; limited = k.settings.limited };
         kind_is = k.kind_is;
         quiet = λ w. absurd (plain w);
-        plain = k.plain;
-        eager = k.eager;
+        comes_back = k.comes_back;
+        lazy = k.lazy;
         current_is = k.current_is;
         speaks = k.speaks;
-        one = k.one;
-        few_links = k.few_links;
+        address_is = k.address_is;
+        wants = k.wants;
+        alone = k.alone;
       };
       others = others_kept b t.link (begins (message_of b t.link owner.Auth)) h.others;
       notices = h.notices;
       life = h.life;
+      course = h.course;
+      calm = h.calm;
       creds = record { wanted_is = h.creds.wanted_is; sought = h.creds.sought };
       creation = h.creation;
       uses = h.uses;

@@ -89,6 +89,7 @@ round_waits b t p h ready u anew =
       early = λ m v. by_test (p == m) _
           (λ t1. inl (ap (shown_wait after begun) (sym (eq_from p m t1)) ∙ own_shown b.story requests p))
           (λ f. one_of (shown_wait after begun m) (shown_wait b.story requests m) (waiting_is m v (ne_from p m f)) (h.waits.early m (waits m v)));
+      backoff = λ m v d. absurd (off _ refl d);
       connect = λ m v d. absurd (off _ refl d);
       creds = λ m link v d. absurd (off _ refl d);
       setup = λ m link greeting v d. absurd (off _ refl d);
@@ -99,6 +100,7 @@ round_waits b t p h ready u anew =
       room = λ m i. elim (h.waits.room m i) [ inl j ↦ inl j | inr e ↦ inr (queued_is m i ∙ e) ];
       newer = subst (Rising 0 t.fresh) long h.waits.newer;
       rising = subst (Rising 0 t.moved) long h.waits.rising;
+      no_backoff = λ m i v d. absurd (off _ refl d);
       no_connect = λ m i v d. absurd (off _ refl d);
       no_creds = λ m link i v d. absurd (off _ refl d);
       no_setup = λ m link greeting i v d. absurd (off _ refl d);

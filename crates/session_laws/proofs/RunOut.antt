@@ -13,17 +13,18 @@ use Rattle.mux_conn.specs.Connection.{is_spent_in, started_in, is_due, is_ready,
 use Rattle.mux_conn.specs.declared.life.Life.{Life}
 use Rattle.mux_conn.specs.declared.life.Life.TheVariants.{Resting, Dialing, Ended, Ready, Wanting, SettingUp}
 use Rattle.shared_session.specs.Replay.{AreGood, AreGoodOn, is_bad_after, is_spent_after, opening_core, run_on, state_after, trace_of, IsSound, AreUnspent, AreUnspentOn}
-use Rattle.shared_session.specs.Turn.{Turning, is_bad, has_run_out, spends, next_turn, numbered, moved_on, effect, counted}
-use Rattle.shared_session.proofs.Plain.{plain_after, plain_turn}
+use Rattle.shared_session.specs.Turn.{is_bad, has_run_out, spends, next_turn}
+use Rattle.shared_session.proofs.Plain.{plain_after}
 use Rattle.shared_session.specs.declared.core_state.Core.{Core}
 use Rattle.legal_trace.specs.Book.{Book, book}
 use Rattle.legal_trace.specs.Events.{HasRunOut}
 use Rattle.shared_session.proofs.Replays.{state_after-more, trace_of-more, turns_after}
 use Rattle.session_laws.proofs.Legality.{replay_between, turn_between, room_behind}
 use Rattle.session_laws.proofs.Opening.{opening_unasked}
-use Rattle.session_laws.proofs.Tied.{Inner, Tied, TiedLife, carried, has_ended, inner, whole_link, AreRenewed, NoneRenewed, TiedRenewal}
+use Rattle.session_laws.proofs.Server.{AreRenewed, NoneRenewed, TiedRenewal}
+use Rattle.session_laws.proofs.Tied.{Inner, Tied, TiedLife, carried, has_ended, inner, whole_link}
 use Rattle.driver_model.specs.declared.action.Action.{Action}
-use Rattle.session_laws.proofs.Grown.{HasGrown, turn_grown}
+use Rattle.session_laws.proofs.Grown.{IsGrown, turn_grown}
 use Rattle.session_laws.proofs.Renewals.{due_is, down_renewed_due, none_renewed_due}
 use Rattle.legal_trace.specs.Ledger.{Ledger, renewal_count, renewal_due, renewals_asked}
 use Rattle.credentials.specs.Credentials.{Credentials}
@@ -234,9 +235,10 @@ unfolding state_after AreUnspent
 asked_behind config word events unspent = asked_on (opening_core config word) events (let none = (opening_unasked config word).told in omega arith) unspent
 
 -- so where they have, they have in its book
-last_asked : (b : Book) (t : Inner) (n : ℕ) (conn : MultiplexedConnection) → t.life ≡ conn.life → t.renewal ≡ conn.renewal → Tied b t → n < 2 ^ 32 → HasGrown n conn → 2 ^ 32 ≤ t.renewal.asked → 2 ^ 32 ≤ renewals_asked (b.link t.link)
-last_asked b t n conn life renewal h few (inl same) many = absurd (let so = ap (λ (r : Renewal). r.asked) renewal in omega (arith, few, so, same, many))
-last_asked b t n conn life renewal h few (inr more) many = by_life t.life refl
+last_asked : (b : Book) (t : Inner) (n : ℕ) (conn : MultiplexedConnection) → t.life ≡ conn.life → t.renewal ≡ conn.renewal → Tied b t → n < 2 ^ 32 → IsGrown n conn → 2 ^ 32 ≤ t.renewal.asked → 2 ^ 32 ≤ renewals_asked (b.link t.link)
+last_asked b t n conn life renewal h few (inr dialing) many = absurd (let none = (subst (TiedRenewal (b.link t.link) t.renewal) (life ∙ dialing) h.renewal).unasked in omega (arith, many, none))
+last_asked b t n conn life renewal h few (inl (inl same)) many = absurd (let so = ap (λ (r : Renewal). r.asked) renewal in omega (arith, few, so, same, many))
+last_asked b t n conn life renewal h few (inl (inr more)) many = by_life t.life refl
   where
     ready : is_ready t.life ≡ true
     ready = ap is_ready life ∙ more.0
@@ -312,9 +314,8 @@ spent_run_out config word events e none sound good unspent fine spent =
     let h = next_between config word events e none sound good unspent fine in
     let b = book (trace_of config word (events ++ e ∷ [])) in
     let t = inner (next_turn c e.kind).core h.0 in
-    let next : next_turn c e.kind ≡ numbered (moved_on (effect (counted c) e.kind)) = plain_turn c e.kind (plain_after config word events none) in
     run_out_of b t c.turns h.1 (turn_counted config word events e)
-    (last_asked b t c.single.connection.renewal.asked (moved_on (effect (counted c) e.kind)).core.single.connection (ap (λ (u : Turning). u.core.single.connection.life) next) (ap (λ (u : Turning). u.core.single.connection.renewal) next) h.1 (asked_behind config word events unspent) (turn_grown c e.kind)) spent
+    (last_asked b t c.single.connection.renewal.asked (next_turn c e.kind).core.single.connection refl refl h.1 (asked_behind config word events unspent) (turn_grown c e.kind)) spent
 
 -- and one that gives it out is spent
 pub run_out_spent : (config : Config) (word : ℕ) (events : List Event) (e : Event) → manager_of config ≡ None → IsSound config → AreGood config word events → AreUnspent config word events → is_bad_after config word events e ≡ false → HasRunOut (book (trace_of config word (events ++ e ∷ [])))

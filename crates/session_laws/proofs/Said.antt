@@ -20,7 +20,8 @@ use Rattle.legal_trace.specs.Legal.{ReadyIsShown, SourcesAreAsked}
 use Rattle.legal_trace.proofs.Endings.{lasting_is_fault}
 use Rattle.session_laws.proofs.Creds.{down_unawaited, unawaited_is, wanting_lacks, down_may_renew, down_sourced, asked_sourced, has_sourced, ready_sourced}
 use Rattle.session_laws.proofs.SetUp.{not_set_up, lacking_unset, IsUnset}
-use Rattle.session_laws.proofs.Tied.{AreSought, Inner, HasSaid, Tied, TiedLife, TiedSetup, carried, owner_of, whole_link, TiedNotices, IsGreeting, greeter, is_reading, brings_bytes}
+use Rattle.session_laws.proofs.Server.{AreSought, HasSaid, TiedSetup, IsGreeting, hearing_at}
+use Rattle.session_laws.proofs.Tied.{Inner, Tied, TiedLife, carried, owner_of, whole_link, TiedNotices, greeter, is_reading, brings_bytes}
 use Rattle.credentials.specs.Credentials.{Credentials}
 use Rattle.session_laws.proofs.SameSaid.{SameSaid, after_alike, greeting_link, said_alike, set_alike, setup_alike}
 use Rattle.driver_model.specs.declared.hearing.Hearing.{Hearing}
@@ -197,6 +198,14 @@ setup_unheard l turn shut info started life down h = setup_hears l turn shut inf
 abbrev pub PushesOf : Hearing → Hearing → Ledger → Type 0
 PushesOf heard mine l = TiedNotices heard mine l.hearing l.notices l.told l.end l.parted l.strange (is_reading l) [] false
 
+-- by how far the link has come
+abbrev pub PushesAt : Life → Hearing → Hearing → Ledger → Type 0
+PushesAt life heard mine l = TiedNotices heard mine (hearing_at life mine l.hearing) l.notices l.told l.end l.parted l.strange (is_reading l) [] false
+
+-- where there is one
+pub pushes_there : (life now : Life) (heard mine : Hearing) (l : Ledger) → life ≡ now → PushesAt life heard mine l → PushesAt now heard mine l
+pushes_there life now heard mine l e h = subst (λ (x : Life). PushesAt x heard mine l) e h
+
 -- another turn brings it, where no value came that ends the link
 pub renoticed : {heard hears hearing : Hearing} {notices : List Heard} {told : ℕ} {end : Option End} {parted strange was now : Bool} {untold : List Heard} {parting : Bool} → (end ≡ None → strange ≡ false)
     → TiedNotices heard hears hearing notices told end parted strange was untold parting → TiedNotices heard hears hearing notices told end parted strange now untold parting
@@ -207,29 +216,29 @@ abbrev pub IsTame : Ledger → Type 0
 IsTame l = l.end ≡ None → l.strange ≡ false
 
 -- so it does whatever news come that bring a link that is up nothing
-pub pushes_hear : (l : Ledger) (turn : ℕ) (n : News) (heard mine : Hearing) → IsTame l → BringsNothing n ⊎ (l.up ≡ false) → PushesOf heard mine l → PushesOf heard mine (noted l (hears turn n))
-pushes_hear l turn silence heard mine tame k h = renoticed tame h
-pushes_hear l turn overdue heard mine tame k h = renoticed tame h
-pushes_hear l turn (refused f) heard mine tame k h =
-    chosen (λ (x : Ledger). PushesOf heard mine (record x { heard = refused f })) (dials l) (refused_in l turn (error.Io f)) l
+pub pushes_hear : (life : Life) (l : Ledger) (turn : ℕ) (n : News) (heard mine : Hearing) → IsTame l → BringsNothing n ⊎ (l.up ≡ false) → PushesAt life heard mine l → PushesAt life heard mine (noted l (hears turn n))
+pushes_hear life l turn silence heard mine tame k h = renoticed tame h
+pushes_hear life l turn overdue heard mine tame k h = renoticed tame h
+pushes_hear life l turn (refused f) heard mine tame k h =
+    chosen (λ (x : Ledger). PushesAt life heard mine (record x { heard = refused f })) (dials l) (refused_in l turn (error.Io f)) l
     (λ t. record { heard_is = h.heard_is; hearing_is = h.hearing_is; within = h.within; untold_is = h.untold_is; parts = λ y d cut. absurd (not_both (is_fault (lasting l.last (by_opening (error.Io f)))) (lasting_is_fault l.last (by_opening (error.Io f))) cut); alive = λ e. cc; due = h.due; tame = λ e. cc })
     (λ t. renoticed tame h)
-pushes_hear l turn connected heard mine tame k h = chosen (λ (x : Ledger). PushesOf heard mine (record x { heard = connected })) (is_over l) l (record l { up = true }) (λ t. renoticed tame h) (λ f. renoticed tame h)
-pushes_hear l turn (took count) heard mine tame k h = chosen (λ (x : Ledger). PushesOf heard mine (record x { heard = took count })) l.up (record l { taken = l.taken ++ take count l.offer; offer = [] }) l (λ t. renoticed tame h) (λ f. renoticed tame h)
-pushes_hear l turn (came piece) heard mine tame k h = elim k [
+pushes_hear life l turn connected heard mine tame k h = chosen (λ (x : Ledger). PushesAt life heard mine (record x { heard = connected })) (is_over l) l (record l { up = true }) (λ t. renoticed tame h) (λ f. renoticed tame h)
+pushes_hear life l turn (took count) heard mine tame k h = chosen (λ (x : Ledger). PushesAt life heard mine (record x { heard = took count })) l.up (record l { taken = l.taken ++ take count l.offer; offer = [] }) l (λ t. renoticed tame h) (λ f. renoticed tame h)
+pushes_hear life l turn (came piece) heard mine tame k h = elim k [
   | inl piece_is ↦ absurd piece_is
-  | inr down ↦ if_false (λ (x : Ledger). PushesOf heard mine (record x { heard = came piece })) l.up (bytes_came l piece) l down (renoticed tame h)
+  | inr down ↦ if_false (λ (x : Ledger). PushesAt life heard mine (record x { heard = came piece })) l.up (bytes_came l piece) l down (renoticed tame h)
 ]
-pushes_hear l turn (failed f) heard mine tame k h = renoticed tame h
-pushes_hear l turn (authorized c) heard mine tame k h = chosen (λ (x : Ledger). PushesOf heard mine (record x { heard = authorized c })) (awaits_credentials l) (authorized_by l c) l (λ t. renoticed tame h) (λ f. renoticed tame h)
-pushes_hear l turn (renewed c) heard mine tame k h = chosen (λ (x : Ledger). PushesOf heard mine (record x { heard = renewed c })) (may_renew l) (renewed_by l c) l (λ t. renoticed tame h) (λ f. renoticed tame h)
-pushes_hear l turn unrenewed heard mine tame k h = chosen (λ (x : Ledger). PushesOf heard mine (record x { heard = unrenewed })) l.up (unrenewed_by l) l (λ t. renoticed tame h) (λ f. renoticed tame h)
-pushes_hear l turn (late m) heard mine tame k h = chosen (λ (x : Ledger). PushesOf heard mine (record x { heard = late m })) (l.up && is_renewal_open l m) (lost_by l) l (λ t. renoticed tame h) (λ f. renoticed tame h)
-pushes_hear l turn unrepeated heard mine tame k h = chosen (λ (x : Ledger). PushesOf heard mine (record x { heard = unrepeated })) (is_repeating l) (unrepeated_by l) l (λ t. renoticed tame h) (λ f. renoticed tame h)
-pushes_hear l turn (denied text) heard mine tame k h = renoticed tame h
-pushes_hear l turn deserted heard mine tame k h = renoticed tame h
-pushes_hear l turn dropped heard mine tame k h = renoticed tame h
-pushes_hear l turn shut heard mine tame k h = renoticed tame h
+pushes_hear life l turn (failed f) heard mine tame k h = renoticed tame h
+pushes_hear life l turn (authorized c) heard mine tame k h = chosen (λ (x : Ledger). PushesAt life heard mine (record x { heard = authorized c })) (awaits_credentials l) (authorized_by l c) l (λ t. renoticed tame h) (λ f. renoticed tame h)
+pushes_hear life l turn (renewed c) heard mine tame k h = chosen (λ (x : Ledger). PushesAt life heard mine (record x { heard = renewed c })) (may_renew l) (renewed_by l c) l (λ t. renoticed tame h) (λ f. renoticed tame h)
+pushes_hear life l turn unrenewed heard mine tame k h = chosen (λ (x : Ledger). PushesAt life heard mine (record x { heard = unrenewed })) l.up (unrenewed_by l) l (λ t. renoticed tame h) (λ f. renoticed tame h)
+pushes_hear life l turn (late m) heard mine tame k h = chosen (λ (x : Ledger). PushesAt life heard mine (record x { heard = late m })) (l.up && is_renewal_open l m) (lost_by l) l (λ t. renoticed tame h) (λ f. renoticed tame h)
+pushes_hear life l turn unrepeated heard mine tame k h = chosen (λ (x : Ledger). PushesAt life heard mine (record x { heard = unrepeated })) (is_repeating l) (unrepeated_by l) l (λ t. renoticed tame h) (λ f. renoticed tame h)
+pushes_hear life l turn (denied text) heard mine tame k h = renoticed tame h
+pushes_hear life l turn deserted heard mine tame k h = renoticed tame h
+pushes_hear life l turn dropped heard mine tame k h = renoticed tame h
+pushes_hear life l turn shut heard mine tame k h = renoticed tame h
 
 -- what ends by an error, or by this, by nothing ends
 both_none : (x : Option RedisError) (y : Option Ending) → ending_by x y ≡ None → y ≡ None
@@ -377,7 +386,7 @@ ready_by l created info started Resting h c s r = absurd (not_both l.up h.1 (bot
 ready_by l created info started Dialing h c s r = absurd (not_both l.up h.1 (both_left l.up (is_set_up l) r))
 ready_by l created info started (Wanting link) h c s r = absurd (not_both (is_set_up l) (lacking_unset l (wanting_lacks l.creds link c)).unset (both_right l.up (is_set_up l) r))
 ready_by l created info started (SettingUp link greeting) h c s r = absurd (not_both (is_set_up l) (not_set_up l link greeting s.said.1).unset (both_right l.up (is_set_up l) r))
-ready_by l created info started (Ready link) h c s r = h.4
+ready_by l created info started (Ready link) h c s r = h.3
 ready_by l created info started (Ended e) h c s r = absurd (not_both l.up h.0 (both_left l.up (is_set_up l) r))
 
 -- the creation was shown

@@ -13,7 +13,8 @@ use Rattle.mux_conn.specs.declared.life.Life.{Life}
 use Rattle.mux_conn.specs.declared.life.Life.TheVariants.{Resting, Dialing, Wanting, SettingUp, Ready, Ended}
 use Rattle.mux_conn.specs.Effects.{setup_id, setup_queued}
 use Rattle.legal_trace.specs.Ledger.{Ledger, Start, is_answered, is_full, is_greeted, is_set_up, is_well, lacks_credentials, last_result, monitor_among, monitor_of, repeats, result_of, setup_after, setup_count, setup_result, setup_steps}
-use Rattle.session_laws.proofs.Tied.{HasSaid, IsGreeting, IsSettingUp, IsWatching, greeting_at, owners_of, setup_owners, greeter}
+use Rattle.session_laws.proofs.Server.{HasSaid, IsGreeting, IsSettingUp, IsWatching, greeting_at, owners_of, setup_owners}
+use Rattle.session_laws.proofs.Tied.{greeter}
 use Rattle.driver_model.specs.declared.action.Owner.TheVariants as owner
 
 -- of the second ledger the same is known of what is said to its server as of the first

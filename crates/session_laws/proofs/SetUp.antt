@@ -15,7 +15,7 @@ use Rattle.link_core.specs.Link.{LinkState}
 use Rattle.link_laws.proofs.TiedLink.{has_heard}
 use Rattle.session_laws.proofs.Creds.{lacking_undecided}
 use Rattle.mux_conn.specs.declared.life.Greeting.{Greeting}
-use Rattle.session_laws.proofs.Tied.{AreSetups, IsSetUp, IsSettingUp, IsSetupSent, owners_of, setup_owners, IsGreeting, IsWatching}
+use Rattle.session_laws.proofs.Server.{AreSetups, IsSetUp, IsSettingUp, IsSetupSent, owners_of, setup_owners, IsGreeting, IsWatching}
 use Rattle.legal_trace.proofs.Came.{holds_bytes}
 use Rattle.legal_trace.proofs.Watching.{unanswered_is_unset}
 use Rattle.mux_conn.specs.declared.life.Greeting.TheVariants as greet

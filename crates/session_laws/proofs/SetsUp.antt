@@ -40,7 +40,8 @@ use Rattle.session_laws.proofs.SetUp.{begun_open, count_length, count_next, down
 use Rattle.session_laws.proofs.Settle.{quiet_asks, seen, trace_of_acts}
 use Rattle.session_laws.proofs.Start.{owners-append, with_queue}
 use Rattle.session_laws.proofs.States.{IsFit}
-use Rattle.session_laws.proofs.Tied.{AreSetups, Inner, IsSettingUp, Tied, TiedTries, numbers_kept, owners_of, setup_owners, AreSetupsAlone, HasGreetedAlone, greeter, greeting_at, is_of_greeting}
+use Rattle.session_laws.proofs.Server.{AreSetups, IsSettingUp, owners_of, setup_owners, AreSetupsAlone, greeting_at}
+use Rattle.session_laws.proofs.Tied.{Inner, Tied, TiedTries, numbers_kept, HasGreetedAlone, greeter, is_of_greeting}
 use Rattle.session_laws.proofs.Unrepeated.{unrepeated_lined}
 use Rattle.session_laws.proofs.Renewals.{none_begins, full_begins}
 use Rattle.session_laws.proofs.SameSaid.{greeter_at, greeting_of, setting_of}
@@ -175,7 +176,7 @@ set_up_may b t link greeting due fit free h ended =
     let q = due_queued l greeting in
     let was = setting_on t (with_queue link (q ∷ [])) greeting in
     record {
-      applied = applied_up b was h refl (refl, refl) refl ended;
+      applied = applied_up b was h refl (refl, refl) refl refl ended;
       k = c;
       due = taken_if l.up (setup_after l c) None h.life.1 ∙ due;
       free = held_by b was (λ (p : ℕ). greeter greeting) (with_queue link (q ∷ [])) h.numbers fit.bound_is (h.link refl) ∙ free;
@@ -208,6 +209,8 @@ set_up_tied b t link greeting due user h =
       others = others_kept b t.link (begins s) h.others;
       notices = h.notices;
       life = h.life;
+      course = h.course;
+      calm = h.calm;
       creds = record { wanted_is = h.creds.wanted_is; sought = h.creds.sought };
       creation = h.creation;
       uses = h.uses;

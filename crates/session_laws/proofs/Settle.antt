@@ -31,7 +31,8 @@ use Rattle.legal_trace.specs.Book.{Book, blank_book, book, entered}
 use Rattle.legal_trace.specs.Owed.{owed}
 use Rattle.legal_trace.specs.Legal.{AllStand, MayStand, MayAnswer, IsBefore, is_heard}
 use Rattle.session_laws.proofs.Numbers.{Rising, requests_in, rising_from}
-use Rattle.session_laws.proofs.Tied.{Inner, link_in, TiedLife, Tied, Sound, waiting_ids, has_ended, TiedRenewal, AreAside}
+use Rattle.session_laws.proofs.Server.{OnLink, TiedRenewal}
+use Rattle.session_laws.proofs.Tied.{Inner, link_in, TiedLife, Tied, Sound, waiting_ids, has_ended, AreAside}
 use Rattle.session_laws.proofs.Entered.{book_more, quiet_sources, quiet_timers, sound_more, shown_more, sources_more, timers_more}
 use Rattle.session_laws.proofs.Names.{open_within, name_with, length_with, with_then}
 use Rattle.session_laws.proofs.InLine.{line_of, IsInLine, open_in_line, first_is_least}
@@ -41,6 +42,7 @@ use Rattle.session_laws.proofs.Answer.{may_answer, after_closes, none_before, ow
 -- credentials
 abbrev pub seen : Core → List LinkAct → MultiplexedConnection → List ℕ → List ℕ → Inner
 seen f acts conn pending started = record {
+  manager = f.manager;
   turns = f.turns;
   links = f.links;
   link = f.single.link;
@@ -58,9 +60,12 @@ seen f acts conn pending started = record {
   untold = [];
   parting = false;
   info = conn.info;
+  address = conn.address;
   renewal = conn.renewal;
   life = conn.life;
+  last = conn.last;
   told = conn.told;
+  opened = conn.opened;
   requests = conn.requests;
   waiting = conn.waiting;
   admitted = conn.admitted;
@@ -278,17 +283,20 @@ renewal_tied b t r within wanted waiting tied h = record {
     settings = record { size_is = h.numbers.settings.size_is; bound_is = h.numbers.settings.bound_is; limit_is = h.numbers.settings.limit_is; some = h.numbers.settings.some; limited = h.numbers.settings.limited };
     kind_is = h.numbers.kind_is;
     quiet = λ w. let q = h.numbers.quiet w in record { none = q.none; unwanted = wanted ∙ q.unwanted; unrenewed = waiting ∙ q.unrenewed };
-    plain = h.numbers.plain;
-    eager = h.numbers.eager;
+    comes_back = h.numbers.comes_back;
+    lazy = h.numbers.lazy;
     current_is = h.numbers.current_is;
     speaks = h.numbers.speaks;
-    one = h.numbers.one;
-    few_links = h.numbers.few_links;
+    address_is = h.numbers.address_is;
+    wants = h.numbers.wants ∙ sym wanted;
+    alone = h.numbers.alone;
   };
   others = subst (λ o. AreAside t.link t.links b.link t.hears o b.created) (sym within) h.others;
   notices = h.notices;
   life = h.life;
-  creds = record { wanted_is = h.creds.wanted_is ∙ sym wanted; sought = h.creds.sought };
+  course = h.course;
+  calm = h.calm;
+  creds = record { wanted_is = subst (λ (x : Bool). OnLink t.life ((b.link t.link).creds.wanted ≡ x)) (sym wanted) h.creds.wanted_is; sought = h.creds.sought };
   creation = h.creation;
   uses = h.uses;
   renewal = tied;

@@ -19,7 +19,7 @@ use Rattle.link_laws.specs.Settles.{awaited_ids, wanted}
 use Rattle.link_laws.specs.Starts.{begun, start_from}
 use Rattle.mux_conn.specs.Requests.{is_admitted_at, is_open_at, is_placed_at, is_waiting_at, name_at}
 use Rattle.mux_conn.specs.declared.life.Greeting.{Greeting}
-use Rattle.mux_conn.specs.declared.life.Life.TheVariants.{Dialing, Ready, Wanting, SettingUp}
+use Rattle.mux_conn.specs.declared.life.Life.TheVariants.{Dialing, Ready, Wanting, SettingUp, Resting}
 use Rattle.mux_conn.specs.declared.request.Request.{Request}
 use Rattle.mux_conn.specs.declared.request.Waiting.{Waiting}
 use Rattle.legal_trace.specs.Book.{Book, entered, if_own, message_of}
@@ -38,7 +38,8 @@ use Rattle.legal_trace.proofs.Setups.{count_more}
 use Rattle.session_laws.proofs.SetUp.{set_up_begins, setups_begins}
 use Rattle.mux_conn.specs.Renewals.{renewal_id}
 use Rattle.session_laws.proofs.Renewals.{begins_renewed}
-use Rattle.session_laws.proofs.Tied.{AreQueued, Inner, IsEntry, IsQueued, IsRequest, Tied, TiedLines, TiedTries, TiedWaits, owner_of, owners_each, owners_of, queue_ids, setup_owners, shown_wait, numbers_kept}
+use Rattle.session_laws.proofs.Server.{owners_of, setup_owners}
+use Rattle.session_laws.proofs.Tied.{AreQueued, Inner, IsEntry, IsQueued, IsRequest, Tied, TiedLines, TiedTries, TiedWaits, owner_of, owners_each, queue_ids, shown_wait, numbers_kept}
 use Rattle.session_laws.proofs.Unrepeated.{unrepeated_lined}
 use Rattle.driver_model.specs.Hearing.{is_watching}
 
@@ -216,6 +217,9 @@ lines_started story requests link waiting admitted started q qs k l other h = re
 }
 
 -- a link that is up is not dialing
+pub not_resting : (link : LinkState) → Ready link ≡ Resting → ⊥
+not_resting link e = cc
+
 pub not_dialing : (link : LinkState) → Ready link ≡ Dialing → ⊥
 not_dialing link e = cc
 
@@ -238,7 +242,8 @@ pub waits_up : (f g : ℕ → Story) (requests : List Request) (link link' : Lin
     → ((p : ℕ) → IsIn p (awaited_ids link'.queue) → IsIn p (awaited_ids link.queue) × (shown_wait g requests p ≡ shown_wait f requests p))
     → TiedWaits f requests (Ready link) fresh moved → TiedWaits g requests (Ready link') fresh moved
 waits_up f g requests link link' fresh moved lost waiting admitted queued h = record {
-  early = λ p w. elim (h.early p w) [ inl k ↦ inl (waiting p w ∙ k) | inr k ↦ inr (elim k [ inl x ↦ inl (waiting p w ∙ x) | inr x ↦ inr (elim x [ inl y ↦ inl (waiting p w ∙ y) | inr y ↦ inr (elim y [ inl z ↦ inl (waiting p w ∙ z) | inr z ↦ inr (waiting p w ∙ z) ]) ]) ]) ];
+  early = λ p w. elim (h.early p w) [ inl k ↦ inl (waiting p w ∙ k) | inr k ↦ inr (elim k [ inl x ↦ inl (waiting p w ∙ x) | inr x ↦ inr (elim x [ inl y ↦ inl (waiting p w ∙ y) | inr y ↦ inr (elim y [ inl z ↦ inl (waiting p w ∙ z) | inr z ↦ inr (elim z [ inl v ↦ inl (waiting p w ∙ v) | inr v ↦ inr (waiting p w ∙ v) ]) ]) ]) ]) ];
+  backoff = λ p w e. absurd (not_resting link' e);
   connect = λ p w e. absurd (not_dialing link' e);
   creds = λ p l w e. absurd (not_wanting link' l e);
   setup = λ p l u w e. absurd (not_setting link' l u e);
@@ -247,6 +252,7 @@ waits_up f g requests link link' fresh moved lost waiting admitted queued h = re
   room = λ p i. let q = queued p i in elim (h.room p q.0) [ inl j ↦ inl j | inr k ↦ inr (q.1 ∙ k) ];
   newer = h.newer;
   rising = h.rising;
+  no_backoff = λ p i w e. absurd (not_resting link' e);
   no_connect = λ p i w e. absurd (not_dialing link' e);
   no_creds = λ p l i w e. absurd (not_wanting link' l e);
   no_setup = λ p l u i w e. absurd (not_setting link' l u e);
@@ -337,6 +343,8 @@ start_tied b t link q qs h =
       others = others_kept b t.link (begins (message_of b t.link (owner.Try n 0))) h.others;
       notices = h.notices;
       life = h.life;
+      course = h.course;
+      calm = h.calm;
       creds = record { wanted_is = h.creds.wanted_is; sought = h.creds.sought };
       creation = h.creation;
       uses = h.uses;

@@ -29,7 +29,8 @@ use Rattle.legal_trace.proofs.Setups.{ends_where_set}
 use Rattle.session_laws.proofs.SetUp.{ending_up_same, set_up_begins}
 use Rattle.session_laws.proofs.Start.{after_start, on_link, start_action, start_tied, with_queue}
 use Rattle.session_laws.proofs.States.{IsFit}
-use Rattle.session_laws.proofs.Tied.{Inner, IsSetUp, Tied, queue_ids}
+use Rattle.session_laws.proofs.Server.{IsSetUp}
+use Rattle.session_laws.proofs.Tied.{Inner, Tied, queue_ids}
 
 -- a session on a link that is up, with this queue
 pub running_on : (t : Inner) (link : LinkState) (qs : List Queued) → IsFit t.size t.bound (with_queue link qs) → HasSeats t.moved (in_front t.renewal) (with_queue link qs) t.size → IsRunning (on_link t (with_queue link qs))

@@ -3,7 +3,7 @@ use Rattle.std.proofs.lemmas.List.{append-nil}
 use Rattle.std.specs.Prelude.{max}
 use Rattle.std.proofs.Common.{slice_get, ◌≤◌, ◌≡◌, ◌≢◌, ◌⊎◌, inl, inr, ℕ, ◌+◌, ◌<◌, ◌==◌, Bool, true, false, ◌||◌, ◌&&◌, not, List, [], ◌∷◌, ◌++◌, length, Option, Some, None, if◌then◌else◌, refl, sym, ap, ◌∙◌, subst, arith, length-append, ◌^◌}
 use Rattle.containers.proofs.Places.{get_within}
-use Rattle.containers.proofs.Choices.{by_test, taken_if, left_if, eq_from, eq_test, ne_from, ne_test, not_both}
+use Rattle.containers.proofs.Choices.{by_test, taken_if, left_if, eq_from, eq_test, ne_from, ne_test, not_both, or_left}
 use Rattle.redis_error.specs.declared.fault_kind.FaultKind.TheVariants as kinds
 use Rattle.redis_error.specs.declared.redis_error.RedisError.{RedisError}
 use Rattle.redis_error.specs.declared.redis_error.RedisError.TheVariants as error
@@ -27,7 +27,7 @@ use Rattle.session_laws.proofs.Rounded.{rounds_longer}
 use Rattle.session_laws.proofs.Aside.{aside_silent}
 use Rattle.session_laws.proofs.Renewals.{renewal_alike}
 use Rattle.session_laws.proofs.Numbers.{IsIn, in_left, in_right, Rising, rising_in, requests_in, request_in}
-use Rattle.session_laws.proofs.Tied.{carried, inner, link_in, queue_ids, waiting_ids, whole_link, IsRefused, TiedStory, Tied}
+use Rattle.session_laws.proofs.Tied.{carried, inner, link_in, queue_ids, waiting_ids, whole_link, IsRefused, TiedStory, Tied, AreCalm}
 use Rattle.session_laws.proofs.Names.{there_within, names_refused, submits_unwatched}
 use Rattle.session_laws.proofs.Owes.{started_within, ends_told, notices_told}
 use Rattle.session_laws.proofs.Answer.{owed_in, no_push}
@@ -37,6 +37,7 @@ use Rattle.session_laws.proofs.Heard.{told_life, silent_no_end}
 use Rattle.session_laws.proofs.Said.{setup_on, sources_asked, IsTame, renoticed}
 use Rattle.session_laws.proofs.Further.{get_beyond, no_longer, SameBefore, further_story, tries_longer, queue_longer, packs_longer, told_longer, IsNext, waits_longer, permits_longer, late_longer}
 use Rattle.session_laws.proofs.InLine.{kept_ids, awaited_in}
+use Rattle.session_laws.proofs.Comes.{course_later}
 
 -- the stories once it is handed in
 abbrev pub stories_with : Book → Submission → ℕ → Story
@@ -98,6 +99,12 @@ IsErrorOf late unspoken what e =
     ⊎ (((late ≡ false) × (unspoken ≡ true) × (e ≡ error.Resp3Required))
     ⊎ ((late ≡ false) × (unspoken ≡ false) × ((length (packed_bytes what) == 0) ≡ true) × (e ≡ error.EmptyCommand)))
 
+-- where nothing was shut down, it is no cause for the next generation
+error_calm : (late unspoken : Bool) (what : Submission) (e : RedisError) → late ≡ false → IsErrorOf late unspoken what e → AreCalm (e ∷ [])
+error_calm late unspoken what e awake (inl h) = absurd (not_both late awake h.0)
+error_calm late unspoken what e awake (inr (inl h)) = subst (λ (x : RedisError). AreCalm (x ∷ [])) (sym h.2) refl
+error_calm late unspoken what e awake (inr (inr h)) = subst (λ (x : RedisError). AreCalm (x ∷ [])) (sym h.3) refl
+
 -- what it is owed then
 new_owed : (b now : Book) (what : Submission) (e : RedisError) → IsErrorOf b.shut (is_unspoken b what) what e → owed_in now (new_story b what) ≡ Some (outcome.Fault e)
 new_owed b now what e (inl h) = taken_if b.shut (Some (outcome.Fault error.Closed)) _ h.0 ∙ ap (λ x. Some (outcome.Fault x)) (sym h.1)
@@ -156,9 +163,9 @@ abbrev pub core_refused : Core → Submission → Core
 core_refused c what = record (turned c (event.Submit what)) { table = c.table ++ None ∷ [] }
 
 -- the session is tied with it
-pub refused_tied : (b : Book) (c : Core) (started : List ℕ) (word : ℕ) (what : Submission) (e : RedisError) → Tied b (inner c started) → IsTame (b.link c.single.link) → has_no_form c.kind what ≡ false → length c.table < 2 ^ 32 → c.single.connection.fresh ≡ []
+pub refused_tied : (b : Book) (c : Core) (started : List ℕ) (word : ℕ) (what : Submission) (e : RedisError) → Tied b (inner c started) → IsTame (b.link c.single.link) → has_no_form c.kind what ≡ false → length c.table < 2 ^ 32 → c.single.connection.fresh ≡ [] → IsErrorOf b.shut (is_unspoken b what) what e
     → Tied (entered (entered b (turn_of c word (event.Submit what))) (action.Outcome (length c.table) (outcome.Fault e))) (seen (core_refused c what) [] c.single.connection [] started)
-refused_tied b c started word what e h tame form few no_fresh =
+refused_tied b c started word what e h tame form few no_fresh why =
     let conn = c.single.connection in
     let ledger = b.link c.single.link in
     let after = stories_refused b (length c.table) what e in
@@ -197,16 +204,19 @@ refused_tied b c started word what e h tame form few no_fresh =
         settings = record { size_is = h.numbers.settings.size_is; bound_is = h.numbers.settings.bound_is; limit_is = h.numbers.settings.limit_is; some = h.numbers.settings.some; limited = h.numbers.settings.limited };
         kind_is = h.numbers.kind_is;
         quiet = λ w. absurd (submits_unwatched b (inner c started) what h form w);
-        plain = h.numbers.plain;
-        eager = h.numbers.eager;
+        comes_back = h.numbers.comes_back;
+        lazy = h.numbers.lazy;
         current_is = h.numbers.current_is;
         speaks = h.numbers.speaks;
-        one = h.numbers.one;
-        few_links = h.numbers.few_links;
+        address_is = h.numbers.address_is;
+        wants = h.numbers.wants;
+        alone = h.numbers.alone;
       };
       others = λ m other. aside_silent (b.link m) c.turns (h.others m other);
       notices = renoticed tame h.notices;
       life = told_life ledger b.created conn.life silence h.life;
+      course = course_later conn.life ledger.last ledger.end c.links c.single.link c.shut (c.shut || false) c.manager conn.last conn.opened conn.info conn.address (or_left c.shut false) h.course;
+      calm = λ up awake. error_calm b.shut (is_unspoken b what) what e (h.numbers.shut ∙ or_left c.shut false awake) why;
       creds = h.creds;
       creation = h.creation;
       uses = uses_on c.sources c.single.link h.uses;

@@ -13,6 +13,7 @@ use Rattle.mux_conn.specs.declared.life.Life.TheVariants.{Resting, Dialing, Want
 use Rattle.legal_trace.specs.Ledger.{Ledger, Heard, noted, is_set_up, Line, tells, parts, noted_each}
 use Rattle.legal_trace.specs.Book.{Book, entered, push_line, hearing_in, if_mine}
 use Rattle.session_laws.proofs.Kept.{mine_noted, others_kept, tied_by}
+use Rattle.session_laws.proofs.Server.{hearing_at}
 use Rattle.session_laws.proofs.Tied.{Inner, Tied, TiedLife, TiedNotices, carried, whole_link, is_reading}
 use Rattle.session_laws.proofs.Unrepeated.{unrepeated_lined}
 use Rattle.session_laws.proofs.Renewals.{renewal_alike}
@@ -70,14 +71,16 @@ lined b n line = record b { link = λ m. noted_each (b.link m) (if_mine (n == m)
 
 -- the session is tied to the book with such a line
 pub line_tied : (b : Book) (t : Inner) (line : Line) (told : ℕ) (parted : Bool) (untold : List Heard) (parting : Bool) → noted (b.link t.link) line ≡ retells (b.link t.link) told parted
-    → (let l = b.link t.link in TiedNotices (hearing_in b.config) t.hears l.hearing l.notices told l.end parted l.strange (is_reading l) untold parting) → Tied b t → Tied (lined b t.link line) (record t { untold = untold; parting = parting })
+    → (let l = b.link t.link in TiedNotices (hearing_in b.config) t.hears (hearing_at t.life t.hears l.hearing) l.notices told l.end parted l.strange (is_reading l) untold parting) → Tied b t → Tied (lined b t.link line) (record t { untold = untold; parting = parting })
 line_tied b t line told parted untold parting is pushed h =
     let l = b.link t.link in
     tied_by (lined b t.link line) (record t { untold = untold; parting = parting }) (retells l told parted) (mine_noted l t.link line ∙ is) (record {
-      numbers = record { turns = h.numbers.turns; links = h.numbers.links; submissions = h.numbers.submissions; timers = h.numbers.timers; sources = h.numbers.sources; aims = h.numbers.aims; timed = h.numbers.timed; timeout = h.numbers.timeout; shut = h.numbers.shut; within = h.numbers.within; few = h.numbers.few; unrepeated = unrepeated_lined b.link t.link line (ap (λ (x : Ledger). x.again.wanted) is) h.numbers.unrepeated; settings = record { size_is = h.numbers.settings.size_is; bound_is = h.numbers.settings.bound_is; limit_is = h.numbers.settings.limit_is; some = h.numbers.settings.some; limited = h.numbers.settings.limited }; kind_is = h.numbers.kind_is; quiet = h.numbers.quiet; plain = h.numbers.plain; eager = h.numbers.eager; current_is = h.numbers.current_is; speaks = h.numbers.speaks; one = h.numbers.one; few_links = h.numbers.few_links };
+      numbers = record { turns = h.numbers.turns; links = h.numbers.links; submissions = h.numbers.submissions; timers = h.numbers.timers; sources = h.numbers.sources; aims = h.numbers.aims; timed = h.numbers.timed; timeout = h.numbers.timeout; shut = h.numbers.shut; within = h.numbers.within; few = h.numbers.few; unrepeated = unrepeated_lined b.link t.link line (ap (λ (x : Ledger). x.again.wanted) is) h.numbers.unrepeated; settings = record { size_is = h.numbers.settings.size_is; bound_is = h.numbers.settings.bound_is; limit_is = h.numbers.settings.limit_is; some = h.numbers.settings.some; limited = h.numbers.settings.limited }; kind_is = h.numbers.kind_is; quiet = h.numbers.quiet; comes_back = h.numbers.comes_back; lazy = h.numbers.lazy; current_is = h.numbers.current_is; speaks = h.numbers.speaks; address_is = h.numbers.address_is; wants = h.numbers.wants; alone = h.numbers.alone };
       others = others_kept b t.link line h.others;
       notices = pushed;
       life = life_told l told parted b.created t.life h.life;
+      course = h.course;
+      calm = h.calm;
       creds = h.creds;
       creation = h.creation;
       uses = h.uses;
@@ -98,7 +101,7 @@ line_tied b t line told parted untold parting is pushed h =
 
 -- so with a push
 pub push_tied : (b : Book) (t : Inner) (info : PushInfo) (told : ℕ) (parted : Bool) (untold : List Heard) (parting : Bool) → noted (b.link t.link) (push_line info.kind) ≡ retells (b.link t.link) told parted
-    → (let l = b.link t.link in TiedNotices (hearing_in b.config) t.hears l.hearing l.notices told l.end parted l.strange (is_reading l) untold parting) → Tied b t → Tied (entered b (action.Push t.link info)) (record t { untold = untold; parting = parting })
+    → (let l = b.link t.link in TiedNotices (hearing_in b.config) t.hears (hearing_at t.life t.hears l.hearing) l.notices told l.end parted l.strange (is_reading l) untold parting) → Tied b t → Tied (entered b (action.Push t.link info)) (record t { untold = untold; parting = parting })
 push_tied b t info told parted untold parting is pushed h = line_tied b t (push_line info.kind) told parted untold parting is pushed h
 
 -- what shows that something is told of a link
@@ -113,7 +116,7 @@ current_is b t h = h.numbers.current_is
 
 -- so with anything that came
 pub notice_tied : (b : Book) (t : Inner) (n : Notice) (untold : List Heard) → IsNoEnd n
-    → (let l = b.link t.link in TiedNotices (hearing_in b.config) t.hears l.hearing l.notices (l.told + 1) l.end l.parted l.strange (is_reading l) untold t.parting) → Tied b t → Tied (entered b (notice_action t.link n)) (record t { untold = untold })
+    → (let l = b.link t.link in TiedNotices (hearing_in b.config) t.hears (hearing_at t.life t.hears l.hearing) l.notices (l.told + 1) l.end l.parted l.strange (is_reading l) untold t.parting) → Tied b t → Tied (entered b (notice_action t.link n)) (record t { untold = untold })
 notice_tied b t (notice.Push info) untold come pushed h =
     push_tied b t info ((b.link t.link).told + 1) (b.link t.link).parted untold t.parting (ap (noted (b.link t.link)) (left_if (is_disconnection info.kind) parts tells come)) pushed h
 notice_tied b t (notice.Message m) untold come pushed h =

@@ -26,7 +26,7 @@ down_repeats_not l down = ap (λ up. up && is_set_up l && not (is_served l)) dow
 -- what a link is told
 --
 -- news leave what is subscribed again on it
-again_hear : (l : Ledger) (turn : ℕ) (n : News) → (noted l (hears turn n)).again.wanted ≡ l.again.wanted
+pub again_hear : (l : Ledger) (turn : ℕ) (n : News) → (noted l (hears turn n)).again.wanted ≡ l.again.wanted
 again_hear l turn silence = refl
 again_hear l turn overdue = refl
 again_hear l turn connected = chosen (λ (x : Ledger). x.again.wanted ≡ l.again.wanted) (is_over l) l (record l { up = true }) (λ t. refl) (λ f. refl)

@@ -27,7 +27,7 @@ use Rattle.legal_trace.specs.Legal.{IsWaiting, IsWritten, MayWait, WaitHolds}
 use Rattle.legal_trace.specs.Steps.{starts_or_waits}
 use Rattle.legal_trace.specs.Story.{Story, awaited_in, is_no_error, is_told, waits as waits_now}
 use Rattle.session_laws.proofs.Rounded.{SameRounds, rounds_new, rounds_same}
-use Rattle.session_laws.proofs.Ahead.{IsRunning, dialing_step, full_step, permit_step, queue_step, queue_within, running_of, setup_step, waiting_open, admitted_open, creds_step, HasSeats}
+use Rattle.session_laws.proofs.Ahead.{IsRunning, dialing_step, full_step, permit_step, queue_step, queue_within, running_of, setup_step, waiting_open, admitted_open, creds_step, HasSeats, resting_step}
 use Rattle.session_laws.proofs.Closing.{one_of}
 use Rattle.session_laws.proofs.InLine.{awaited_in as in_queue, chosen_in, kept_ids, kept_in, row_ids, wanted_in}
 use Rattle.session_laws.proofs.Kept.{SameOutcomes, SameSubmissions, SameTimes, one_changed, packed_same, queued_same, tries_same}
@@ -37,7 +37,7 @@ use Rattle.session_laws.proofs.Numbers.{IsIn, Rising, in_either, in_left, in_rig
 use Rattle.session_laws.proofs.Owes.{later_unstarted, none_open, open_request, request_story, row_in_line, open_on}
 use Rattle.session_laws.proofs.Permits.{IsHolding, permits_same}
 use Rattle.session_laws.proofs.States.{IsFit, AreBegun}
-use Rattle.session_laws.proofs.Tied.{never_rests, AreQueued, Inner, IsEntry, IsKept, IsQueued, IsRequest, Tied, TiedWaits, has_ended, link_in, queue_ids, shown_wait, waiting_ids, numbers_kept}
+use Rattle.session_laws.proofs.Tied.{AreQueued, Inner, IsEntry, IsKept, IsQueued, IsRequest, Tied, TiedWaits, has_ended, link_in, queue_ids, shown_wait, waiting_ids, numbers_kept}
 
 -- how far a request has come
 --
@@ -165,6 +165,8 @@ wait_tied b t p kind moved fresh within h new waits =
       others = h.others;
       notices = h.notices;
       life = h.life;
+      course = h.course;
+      calm = h.calm;
       creds = h.creds;
       creation = h.creation;
       uses = h.uses;
@@ -352,7 +354,13 @@ waiting_is b t p h q o at unmoved old = by_life t.life refl
     as_shown kind shown holds = record { unstarted = there_untried b t p h o at; kind = kind; shown = shown; holds = holds }
 
     by_life : (life : Life) → t.life ≡ life → IsWaiting b n
-    by_life Resting e = absurd (never_rests (b.link t.link) b.created t.life e h.life)
+    by_life Resting e = elim at [
+      | inl i ↦ absurd (subst (λ (x : Life). IsIn p (awaited_ids (link_in x).queue)) e i)
+      | inr k ↦ elim k [
+        | inl a ↦ absurd (subst (λ ws. IsIn p (waiting_ids ws)) (q.none (λ link r. not_ready t.life Resting link refl e r)) a.1)
+        | inr w ↦ as_shown wait.Backoff (elim (h.waits.backoff p w.0 e) [ inl new ↦ absurd (old w.0 new) | inr s ↦ s ]) (resting_step b t p h e (open_on b t p h o))
+      ]
+    ]
     by_life Dialing e = elim at [
       | inl i ↦ absurd (subst (λ (x : Life). IsIn p (awaited_ids (link_in x).queue)) e i)
       | inr k ↦ elim k [
@@ -381,7 +389,7 @@ waiting_is b t p h q o at unmoved old = by_life t.life refl
         | inr w ↦ as_shown wait.Permit (elim (h.waits.permit p link w.0 e) [ inl new ↦ absurd (old w.0 new) | inr s ↦ s ]) (permit_holds b t p link h q e w.0 w.1)
       ]
     ]
-    by_life (Ended x) e = absurd (none_open b t x n h q.settled e (λ i. kept_ids (q.none (λ link r. not_ready t.life (Ended x) link refl e r) i) (q.gone (ap has_ended e) i)) ((request_story b t p h within).open_is ∙ o))
+    by_life (Ended x) e = absurd (none_open b t (Ended x) n refl h q.settled e (λ i. kept_ids (q.none (λ link r. not_ready t.life (Ended x) link refl e r) i) (q.gone (ap has_ended e) i)) ((request_story b t p h within).open_is ∙ o))
 
 -- a wait may be shown
 --
@@ -475,6 +483,7 @@ moved_waits b t p kind ps h is l so =
     let own_place : kind ≡ wait.Place → shown_wait after requests p ≡ Some wait.Room → ⊥ = λ is_place e. (let no : ◌≡◌ {A = Option WaitKind} (Some wait.Place) (Some wait.Room) = ap Some (sym is_place) ∙ sym (shown_own b.story requests p kind) ∙ e in cc) in
     record {
       early = λ q w. one_of (shown_wait after requests q) (shown_wait b.story requests q) (still q w) (h.waits.early q w);
+      backoff = λ q w d. elim (h.waits.backoff q w d) [ inl i ↦ inl i | inr e ↦ inr (still q w ∙ e) ];
       connect = λ q w d. elim (h.waits.connect q w d) [ inl i ↦ inl i | inr e ↦ inr (still q w ∙ e) ];
       creds = λ q link w r. elim (h.waits.creds q link w r) [ inl i ↦ inl i | inr e ↦ inr (still q w ∙ e) ];
       setup = λ q link u w r. elim (h.waits.setup q link u w r) [ inl i ↦ inl i | inr e ↦ inr (still q w ∙ e) ];
@@ -497,6 +506,7 @@ moved_waits b t p kind ps h is l so =
           ]);
       newer = h.waits.newer;
       rising = rest_rises p ps (length requests) line;
+      no_backoff = λ q i w d. still q w ∙ h.waits.no_backoff q i w d;
       no_connect = λ q i w d e. h.waits.no_connect q i w d (sym (still q w) ∙ e);
       no_creds = λ q link i w r e. h.waits.no_creds q link i w r (sym (still q w) ∙ e);
       no_setup = λ q link u i w r e. h.waits.no_setup q link u i w r (sym (still q w) ∙ e);
@@ -515,6 +525,7 @@ passed_waits b t p ps h is gone none =
     let back : (q : ℕ) → IsIn q ps → IsIn q t.moved = λ q i. subst (IsIn q) (sym is) (inr i) in
     record {
       early = h.waits.early;
+      backoff = h.waits.backoff;
       connect = h.waits.connect;
       creds = h.waits.creds;
       setup = h.waits.setup;
@@ -529,6 +540,7 @@ passed_waits b t p ps h is gone none =
       ];
       newer = h.waits.newer;
       rising = rest_rises p ps (length t.requests) line;
+      no_backoff = h.waits.no_backoff;
       no_connect = h.waits.no_connect;
       no_creds = h.waits.no_creds;
       no_setup = h.waits.no_setup;
@@ -548,7 +560,8 @@ down_admits b t p life h q down e = by_test (is_admitted_at t.requests p) _
 --
 -- one of them waits for the connect, for credentials, for the setup, or for a permit
 pub record IsEarly (t : Inner) (kind : WaitKind) : Type 0 where
-  pub either : (kind ≡ wait.Connect) ⊎ ((kind ≡ wait.Creds) ⊎ ((kind ≡ wait.Setup) ⊎ (kind ≡ wait.Permit)))
+  pub either : (kind ≡ wait.Backoff) ⊎ ((kind ≡ wait.Connect) ⊎ ((kind ≡ wait.Creds) ⊎ ((kind ≡ wait.Setup) ⊎ (kind ≡ wait.Permit))))
+  pub backoff : t.life ≡ Resting → kind ≡ wait.Backoff
   pub connect : t.life ≡ Dialing → kind ≡ wait.Connect
   pub creds : (link : LinkState) → t.life ≡ Wanting link → kind ≡ wait.Creds
   pub setup : (link : LinkState) (greeting : Greeting) → t.life ≡ SettingUp link greeting → kind ≡ wait.Setup
@@ -576,9 +589,12 @@ fresh_waits b t p kind ps h is w so =
           let shown = own q (eq_from p q t1) in
           inr (elim so.either [
             | inl e ↦ inl (shown ∙ ap Some e)
-            | inr k ↦ inr (elim k [ inl e ↦ inl (shown ∙ ap Some e) | inr x ↦ inr (elim x [ inl e ↦ inl (shown ∙ ap Some e) | inr e ↦ inr (shown ∙ ap Some e) ]) ])
+            | inr k ↦ inr (elim k [ inl e ↦ inl (shown ∙ ap Some e) | inr x ↦ inr (elim x [ inl e ↦ inl (shown ∙ ap Some e) | inr y ↦ inr (elim y [ inl e ↦ inl (shown ∙ ap Some e) | inr e ↦ inr (shown ∙ ap Some e) ]) ]) ])
           ]))
           (λ f. one_of (shown_wait after requests q) (shown_wait b.story requests q) (waits q v (ne_from p q f)) (h.waits.early q v));
+      backoff = λ q v d. by_test (p == q) _
+          (λ t1. inr (own q (eq_from p q t1) ∙ ap Some (so.backoff d)))
+          (λ f. let other = ne_from p q f in elim (h.waits.backoff q v d) [ inl i ↦ inl (rest_in p q ps other (subst (IsIn q) is i)) | inr e ↦ inr (waits q v other ∙ e) ]);
       connect = λ q v d. by_test (p == q) _
           (λ t1. inr (own q (eq_from p q t1) ∙ ap Some (so.connect d)))
           (λ f. let other = ne_from p q f in elim (h.waits.connect q v d) [ inl i ↦ inl (rest_in p q ps other (subst (IsIn q) is i)) | inr e ↦ inr (waits q v other ∙ e) ]);
@@ -595,6 +611,7 @@ fresh_waits b t p kind ps h is w so =
       room = λ q r. elim (h.waits.room q r) [ inl i ↦ inl i | inr e ↦ inr (queued q r ∙ e) ];
       newer = rest_rises p ps (length requests) line;
       rising = h.waits.rising;
+      no_backoff = λ q i v d. waits q v (rest_other p q ps (length requests) line i) ∙ h.waits.no_backoff q (back q i) v d;
       no_connect = λ q i v d e. h.waits.no_connect q (back q i) v d (sym (waits q v (rest_other p q ps (length requests) line i)) ∙ e);
       no_creds = λ q link i v r e. h.waits.no_creds q link (back q i) v r (sym (waits q v (rest_other p q ps (length requests) line i)) ∙ e);
       no_setup = λ q link u i v r e. h.waits.no_setup q link u (back q i) v r (sym (waits q v (rest_other p q ps (length requests) line i)) ∙ e);
@@ -612,6 +629,7 @@ stale_waits b t p ps h is gone =
     let other : (q : ℕ) → is_waiting_at t.requests q ≡ true → p ≢ q = λ q w same. not_both (is_waiting_at t.requests q) (ap (is_waiting_at t.requests) (sym same) ∙ gone) w in
     record {
       early = h.waits.early;
+      backoff = λ q w d. elim (h.waits.backoff q w d) [ inl i ↦ inl (rest_in p q ps (other q w) (subst (IsIn q) is i)) | inr e ↦ inr e ];
       connect = λ q w d. elim (h.waits.connect q w d) [ inl i ↦ inl (rest_in p q ps (other q w) (subst (IsIn q) is i)) | inr e ↦ inr e ];
       creds = λ q link w r. elim (h.waits.creds q link w r) [ inl i ↦ inl (rest_in p q ps (other q w) (subst (IsIn q) is i)) | inr e ↦ inr e ];
       setup = λ q link u w r. elim (h.waits.setup q link u w r) [ inl i ↦ inl (rest_in p q ps (other q w) (subst (IsIn q) is i)) | inr e ↦ inr e ];
@@ -620,6 +638,7 @@ stale_waits b t p ps h is gone =
       room = h.waits.room;
       newer = rest_rises p ps (length t.requests) line;
       rising = h.waits.rising;
+      no_backoff = λ q i w d. h.waits.no_backoff q (back q i) w d;
       no_connect = λ q i w d. h.waits.no_connect q (back q i) w d;
       no_creds = λ q link i w r. h.waits.no_creds q link (back q i) w r;
       no_setup = λ q link u i w r. h.waits.no_setup q link u (back q i) w r;

@@ -40,7 +40,8 @@ use Rattle.session_laws.proofs.SetsUp.{HasBegun, greeted_more, none_set_up, sett
 use Rattle.session_laws.proofs.Settle.{quiet_asks, seen, trace_of_acts}
 use Rattle.session_laws.proofs.Start.{with_queue}
 use Rattle.session_laws.proofs.States.{IsFit}
-use Rattle.session_laws.proofs.Tied.{Inner, IsWatchDue, IsWatching, Tied, TiedTries, numbers_kept, watch_queued}
+use Rattle.session_laws.proofs.Server.{IsWatchDue, IsWatching, watch_queued}
+use Rattle.session_laws.proofs.Tied.{Inner, Tied, TiedTries, numbers_kept}
 use Rattle.session_laws.proofs.Unrepeated.{unrepeated_lined}
 
 -- MONITOR is due
@@ -107,7 +108,7 @@ watch_may b t link due fit free h ended =
     let was = setting_on t (queued link) greet.Monitor in
     let said : IsWatching l (queued link) = h.setup.said.1 in
     record {
-      applied = applied_up b was h refl (refl, refl) refl ended;
+      applied = applied_up b was h refl (refl, refl) refl refl ended;
       setups = setups_started b was h (λ x u e. inl (none_given (setup_due l) (λ k d. greeted_is_undue l k said.greeted d)));
       due = watch_due l (queued link) h.life.1 said due;
       free = held_by b was (λ (p : ℕ). owner.Monitor) (queued link) h.numbers fit.bound_is (h.link refl) ∙ free;
@@ -132,6 +133,8 @@ watch_tied b t link due h =
       others = others_kept b t.link (begins s) h.others;
       notices = h.notices;
       life = h.life;
+      course = h.course;
+      calm = h.calm;
       creds = record { wanted_is = h.creds.wanted_is; sought = h.creds.sought };
       creation = h.creation;
       uses = h.uses;
