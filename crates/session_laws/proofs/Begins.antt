@@ -1,9 +1,9 @@
 -- The opening of a session that comes back: its first generation begins at once, or it waits for its first submission.
-use Rattle.std.proofs.Common.{◌≡◌, ◌≢◌, inl, inr, ℕ, ◌==◌, nat_lt, Bool, true, false, ◌&&◌, ◌||◌, not, List, [], ◌∷◌, ◌++◌, Option, Some, None, is_none, is_some, if◌then◌else◌, refl, sym, ap, ◌∙◌, subst, arith}
+use Rattle.std.proofs.Common.{◌≡◌, ◌≢◌, inl, inr, ℕ, Bool, true, false, ◌&&◌, ◌||◌, not, List, [], ◌∷◌, ◌++◌, Option, Some, None, is_some, refl, sym, ap, ◌∙◌, subst, arith}
+use Rattle.std.proofs.Math.Bool.{and-false}
 use Rattle.std.proofs.lemmas.List.{append-nil}
 use Rattle.containers.proofs.Choices.{not_both, taken_if}
 use Rattle.connection_info.specs.declared.address.ConnectionInfo.{ConnectionInfo}
-use Rattle.redis_error.specs.declared.redis_error.RedisError.{RedisError}
 use Rattle.manager_config.specs.declared.config.ConnectionManagerConfig.{ConnectionManagerConfig}
 use Rattle.driver_model.specs.declared.action.Action.{Action}
 use Rattle.driver_model.specs.declared.action.Action.TheVariants as action
@@ -21,21 +21,18 @@ use Rattle.mux_conn.specs.declared.life.Life.TheVariants.{Resting}
 use Rattle.shared_session.specs.Generations.{connect_purposes, connect_timed, dialling, generations_at}
 use Rattle.shared_session.specs.Replay.{IsSound, as_managed, begun_as, connect_asked, connect_timers, first_dialled, first_link, opening_actions, opening_core, single_core, timer_asked}
 use Rattle.shared_session.specs.declared.core_state.Core.{Core}
-use Rattle.shared_session.specs.declared.generations.Generations.{Generations}
 use Rattle.legal_trace.specs.Book.{Book, blank_book, book, entered, has_generations}
 use Rattle.legal_trace.specs.Ledger.{blank_ledger}
-use Rattle.legal_trace.specs.Legal.{AllStand, IsSettled, IsShown, begins_first, generation_due, link_due, NoneEnds}
+use Rattle.legal_trace.specs.Legal.{AllStand, IsSettled, NoneEnds}
 use Rattle.legal_trace.specs.Managers.{is_lazy, settings_in}
-use Rattle.legal_trace.specs.Story.{blank_story}
 use Rattle.session_laws.proofs.Comes.{NoneComes}
 use Rattle.session_laws.proofs.Going.{is_moved}
 use Rattle.session_laws.proofs.Opening.{IsSized, opening_between, opening_lines, opening_names, opening_permits, opening_tries, opening_waits, room_sized, turn_shown, unwanted_where_watched}
 use Rattle.session_laws.proofs.Regenerate.{IsResting, IsHarmless}
-use Rattle.session_laws.proofs.Return as return
 use Rattle.session_laws.proofs.Return.{dials_returned}
 use Rattle.session_laws.proofs.Settled.{IsBetween, is_settled}
 use Rattle.session_laws.proofs.States.{IsFitIn, IsStill}
-use Rattle.session_laws.proofs.Tied.{IsAside, Tied, TiedCreation, TiedNumbers, inner, owner_of, shown_creation, HasHeeded}
+use Rattle.session_laws.proofs.Tied.{Tied, TiedCreation, TiedNumbers, inner, owner_of, shown_creation, HasHeeded}
 use Rattle.session_laws.proofs.Waits.{IsQuiet}
 use Rattle.session_laws.proofs.Whole.{flushed_between}
 use Rattle.session_laws.proofs.Write.{is_written}
@@ -177,13 +174,9 @@ lazy_book config word = refl
 lazy_comes : (config : Config) (word : ℕ) (settings : ConnectionManagerConfig) → manager_of config ≡ Some settings → waits_for_use config ≡ true → NoneComes (idle_book config word 0 1)
 lazy_comes config word settings managed waits =
     let has : has_generations (idle_book config word 0 1) ≡ true = ap is_some (set_so config settings managed) in (
-      ap (λ (w : Bool). has_generations (idle_book config word 0 1) && (not w || false)) (waits_so config ∙ waits) ∙ and_none (has_generations (idle_book config word 0 1)),
+      ap (λ (w : Bool). has_generations (idle_book config word 0 1) && (not w || false)) (waits_so config ∙ waits) ∙ and-false (has_generations (idle_book config word 0 1)),
       taken_if (has_generations (idle_book config word 0 1)) false true has,
     )
-  where
-    and_none : (x : Bool) → (x && false) ≡ false
-    and_none true = refl
-    and_none false = refl
 
 lazy_between : (config : Config) (word : ℕ) (settings : ConnectionManagerConfig) (info : ConnectionInfo) → IsManaged config settings info → waits_for_use config ≡ true → IsBetween (lazy_actions config word) (idle config settings info 0 true)
 lazy_between config word settings info is waits =
@@ -236,17 +229,13 @@ eager_stands config word settings managed eager =
       (
         record {
           shown = turn_shown config word never;
-          rested = and_none (has_generations b);
+          rested = and-false (has_generations b);
           due = (λ i. has i && (not (never i) || false));
           next = refl;
         },
         tt,
       ),
     )
-  where
-    and_none : (x : Bool) → (x && false) ≡ false
-    and_none true = refl
-    and_none false = refl
 
 -- the timer of its connect is the opening's
 purposes_are : (bound : Option ℕ) → connect_purposes first_link bound ≡ connect_timers bound

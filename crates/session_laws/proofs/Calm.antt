@@ -1,5 +1,5 @@
 -- Until a link ends, no outcome is a cause for the next generation.
-use Rattle.std.proofs.Common.{◌≡◌, ◌≢◌, ◌⊎◌, inl, inr, ℕ, zero, suc, ◌<◌, ◌==◌, Bool, true, false, ◌&&◌, ◌||◌, not, List, [], ◌∷◌, ◌++◌, length, Option, Some, None, slice_get, if◌then◌else◌, refl, sym, ap, ◌∙◌, subst, arith}
+use Rattle.std.proofs.Common.{◌≡◌, ◌⊎◌, inl, inr, ℕ, zero, suc, ◌<◌, ◌==◌, Bool, true, false, ◌||◌, List, [], ◌∷◌, ◌++◌, length, Option, Some, None, slice_get, refl, sym, ap, ◌∙◌, subst}
 use Rattle.std.specs.List.{list_any}
 use Rattle.containers.proofs.Choices.{by_test, chosen, eq_from, left_if, ne_from, or_left, or_right}
 use Rattle.redis_error.specs.declared.fault_kind.FaultKind.TheVariants as kinds
@@ -11,7 +11,6 @@ use Rattle.driver_model.specs.declared.outcome.Shape.{Shape}
 use Rattle.driver_model.specs.Shape.{outcome_of, verdict_of}
 use Rattle.mux_conn.specs.Requests.{is_open_at, name_at}
 use Rattle.mux_conn.specs.declared.life.Life.{Life}
-use Rattle.mux_conn.specs.declared.request.Request.{Request}
 use Rattle.legal_trace.proofs.Causes.{verdict_needs_none}
 use Rattle.legal_trace.specs.Book.{Book, faults_in}
 use Rattle.legal_trace.specs.Ledger.{Ledger, cut, is_full}

@@ -1,8 +1,7 @@
 -- An attempt to open the connection's link has failed, and another one follows: the connection is without a link.
-use Rattle.std.proofs.Common.{◌≡◌, ◌≢◌, ◌⊎◌, inl, inr, ℕ, ◌+◌, ◌-◌, ◌==◌, ◌<◌, ◌≤◌, if◌then◌else◌, Bool, true, false, not, ◌&&◌, ◌||◌, List, [], ◌∷◌, ◌++◌, length, Option, Some, None, is_some, unwrap_or, slice_get, refl, sym, ap, ◌∙◌, subst, arith}
+use Rattle.std.proofs.Common.{◌≡◌, ◌≢◌, inl, inr, ℕ, ◌+◌, ◌-◌, ◌==◌, true, false, ◌||◌, List, [], ◌∷◌, ◌++◌, length, Option, Some, None, is_some, slice_get, refl, sym, ap, ◌∙◌, subst, arith}
 use Rattle.std.proofs.lemmas.List.{append-nil}
 use Rattle.containers.proofs.Choices.{by_test, both_left, eq_from, left_if, ne_from, not_both}
-use Rattle.redis_error.specs.declared.fault_kind.FaultKind.{FaultKind}
 use Rattle.redis_error.specs.declared.redis_error.RedisError.{RedisError}
 use Rattle.driver_model.specs.declared.action.Action.{Action}
 use Rattle.driver_model.specs.declared.action.Action.TheVariants as action
@@ -15,20 +14,18 @@ use Rattle.driver_model.specs.News.{News, news_of, shut}
 use Rattle.link_core.specs.Link.{LinkState}
 use Rattle.mux_conn.specs.declared.act.LinkAct.{LinkAct}
 use Rattle.mux_conn.specs.declared.act.LinkAct.TheVariants as act
-use Rattle.mux_conn.specs.declared.life.Life.{Life}
-use Rattle.mux_conn.specs.declared.life.Life.TheVariants.{Resting, Ready}
 use Rattle.mux_conn.specs.declared.request.Progress.{Progress}
 use Rattle.mux_conn.specs.declared.request.Progress.TheVariants as progress
 use Rattle.mux_conn.specs.declared.request.Request.{Request}
 use Rattle.mux_conn.specs.declared.request.Waiting.{Waiting}
-use Rattle.mux_conn.specs.Connection.{is_ready as is_life_ready, is_resting, Work}
+use Rattle.mux_conn.specs.Connection.{is_ready as is_life_ready, Work}
 use Rattle.mux_conn.specs.Effects.{afresh, given_up, opening_failed}
-use Rattle.mux_conn.specs.Requests.{is_open_at, is_unbegun_at, is_waiting_at, name_at, permits_at, is_unbegun, is_waiting, if_there}
+use Rattle.mux_conn.specs.Requests.{is_open_at, is_unbegun_at, is_waiting_at, is_unbegun, is_waiting, if_there}
 use Rattle.shared_session.specs.declared.core_state.Core.{Core}
 use Rattle.shared_session.specs.Turn.{is_bad, is_shutdown, numbered, sources_of, timers_of, with_work}
-use Rattle.legal_trace.specs.Book.{Book, blank_book, book, entered, has_generations, hearing_in, if_mine}
-use Rattle.legal_trace.specs.Ledger.{Ledger, by_attempt, by_opening, ending, ending_or_shutdown, ends, failure_in, is_cut, is_over, is_ready, is_set_up, lasting, next_notice, noted, noted_each, renewal_count, renewal_due, renewals_asked, End, Ending, by_shutdown, by_fault, failure_of, is_fault}
-use Rattle.legal_trace.specs.Legal.{AllStand, IsShown, NoneEnds, is_attempt, is_by_attempt}
+use Rattle.legal_trace.specs.Book.{Book, blank_book, book, entered, hearing_in, if_mine}
+use Rattle.legal_trace.specs.Ledger.{Ledger, by_attempt, by_opening, ending, ending_or_shutdown, ends, failure_in, is_cut, is_over, is_set_up, lasting, next_notice, noted, noted_each, renewal_count, renewals_asked, End, Ending, by_shutdown, by_fault, failure_of, is_fault}
+use Rattle.legal_trace.specs.Legal.{AllStand, IsShown, is_attempt, is_by_attempt}
 use Rattle.legal_trace.specs.Owed.{owed_unstarted, owed_by}
 use Rattle.legal_trace.specs.Story.{Story}
 use Rattle.session_laws.proofs.Announce.{turn_of, turned, IsNewsKind, aims_on, heard_book, uses_on, asked_hear, heard_starts, first_book, heard_is, others_heard, still_unrepeated, uses_hear}
@@ -38,13 +35,11 @@ use Rattle.session_laws.proofs.Comes.{tied_live}
 use Rattle.session_laws.proofs.Creds.{down_sourced}
 use Rattle.session_laws.proofs.Failing.{IsUnready, waiters_owed, Fails, failing_applied, setup_fails, setup_stands}
 use Rattle.session_laws.proofs.Going.{undue_asked}
-use Rattle.session_laws.proofs.InLine.{kept_ids}
-use Rattle.session_laws.proofs.Numbers.{IsIn, Rising, requests_in}
+use Rattle.session_laws.proofs.Numbers.{IsIn}
 use Rattle.session_laws.proofs.Renewals.{down_renewed_due, early_renewal}
-use Rattle.session_laws.proofs.Settle.{seen, trace_of_acts, book_of_more}
-use Rattle.session_laws.proofs.States.{Between, HasRetired, IsFitIn, HasEffect}
-use Rattle.session_laws.proofs.Server.{NoneRenewed}
-use Rattle.session_laws.proofs.Tied.{AreAside, AreUnrepeated, AreUses, Inner, IsAside, IsRetiring, Tied, TiedLines, TiedNumbers, has_ended, inner, link_in, no_link, queue_ids, waiting_ids, AreAimed}
+use Rattle.session_laws.proofs.Settle.{trace_of_acts, book_of_more}
+use Rattle.session_laws.proofs.States.{Between, HasRetired, HasEffect}
+use Rattle.session_laws.proofs.Tied.{AreAside, AreUnrepeated, AreUses, IsAside, IsRetiring, Tied, TiedLines, inner, link_in, no_link, AreAimed}
 use Rattle.legal_trace.specs.Managers.{is_lazy}
 use Rattle.connection_info.specs.declared.address.RedisConnectionInfo.{RedisConnectionInfo}
 use Rattle.session_laws.proofs.Heard.{going_awake, heard_by, book_news, book_kind}

@@ -1,5 +1,5 @@
 -- What is said to the server of a link, beside requests: its credentials, its greeting, and new credentials.
-use Rattle.std.proofs.Common.{refl, subst, ◌≡◌, ◌≢◌, ◌⊎◌, ℕ, zero, suc, ◌+◌, ◌<◌, ◌≤◌, if◌then◌else◌, Bool, true, false, List, [], ◌∷◌, length, drop, Option, Some, None, slice_get, codes, not}
+use Rattle.std.proofs.Common.{refl, subst, ◌≡◌, ◌≢◌, ◌⊎◌, ℕ, zero, suc, ◌+◌, ◌<◌, ◌≤◌, if◌then◌else◌, Bool, true, false, List, [], ◌∷◌, length, drop, Option, Some, None, slice_get, codes}
 use Rattle.std.specs.List.{AllByRecursion}
 use Rattle.connection_info.specs.declared.address.RedisConnectionInfo.{RedisConnectionInfo}
 use Rattle.driver_model.specs.declared.action.Owner.{Owner}

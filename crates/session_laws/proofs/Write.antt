@@ -33,7 +33,7 @@ use Rattle.session_laws.proofs.Start.{on_link}
 use Rattle.session_laws.proofs.Took.{queue_waits}
 use Rattle.session_laws.proofs.States.{IsFit, IsStopped}
 use Rattle.session_laws.proofs.Server.{HasSaid}
-use Rattle.session_laws.proofs.Tied.{Inner, Tied, TiedLife, carried, has_ended, numbers_kept, owner_of, whole_link, link_in, greeter, IsHeeded, HasHeeded}
+use Rattle.session_laws.proofs.Tied.{Inner, Tied, TiedLife, carried, has_ended, numbers_kept, owner_of, whole_link, link_in, greeter, IsHeeded}
 use Rattle.session_laws.proofs.Unrepeated.{unrepeated_lined}
 use Rattle.session_laws.proofs.Comes.{plain_put}
 use Rattle.mux_conn.specs.declared.request.Waiting.{Waiting}
