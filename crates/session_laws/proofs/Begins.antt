@@ -1,5 +1,6 @@
 -- The opening of a session that comes back: its first generation begins at once, or it waits for its first submission.
 use Rattle.std.proofs.Common.{◌≡◌, ◌≢◌, inl, inr, ℕ, Bool, true, false, ◌&&◌, ◌||◌, not, List, [], ◌∷◌, ◌++◌, Option, Some, None, is_some, refl, sym, ap, ◌∙◌, subst, arith}
+use Rattle.std.proofs.Math.Bool.{and-false}
 use Rattle.std.proofs.lemmas.List.{append-nil}
 use Rattle.containers.proofs.Choices.{not_both, taken_if}
 use Rattle.connection_info.specs.declared.address.ConnectionInfo.{ConnectionInfo}
@@ -173,13 +174,9 @@ lazy_book config word = refl
 lazy_comes : (config : Config) (word : ℕ) (settings : ConnectionManagerConfig) → manager_of config ≡ Some settings → waits_for_use config ≡ true → NoneComes (idle_book config word 0 1)
 lazy_comes config word settings managed waits =
     let has : has_generations (idle_book config word 0 1) ≡ true = ap is_some (set_so config settings managed) in (
-      ap (λ (w : Bool). has_generations (idle_book config word 0 1) && (not w || false)) (waits_so config ∙ waits) ∙ and_none (has_generations (idle_book config word 0 1)),
+      ap (λ (w : Bool). has_generations (idle_book config word 0 1) && (not w || false)) (waits_so config ∙ waits) ∙ and-false (has_generations (idle_book config word 0 1)),
       taken_if (has_generations (idle_book config word 0 1)) false true has,
     )
-  where
-    and_none : (x : Bool) → (x && false) ≡ false
-    and_none true = refl
-    and_none false = refl
 
 lazy_between : (config : Config) (word : ℕ) (settings : ConnectionManagerConfig) (info : ConnectionInfo) → IsManaged config settings info → waits_for_use config ≡ true → IsBetween (lazy_actions config word) (idle config settings info 0 true)
 lazy_between config word settings info is waits =
@@ -232,17 +229,13 @@ eager_stands config word settings managed eager =
       (
         record {
           shown = turn_shown config word never;
-          rested = and_none (has_generations b);
+          rested = and-false (has_generations b);
           due = (λ i. has i && (not (never i) || false));
           next = refl;
         },
         tt,
       ),
     )
-  where
-    and_none : (x : Bool) → (x && false) ≡ false
-    and_none true = refl
-    and_none false = refl
 
 -- the timer of its connect is the opening's
 purposes_are : (bound : Option ℕ) → connect_purposes first_link bound ≡ connect_timers bound

@@ -1,5 +1,6 @@
 -- What a session does of its own: while its link goes on, no generation begins, and no link is asked for.
 use Rattle.std.proofs.Common.{◌≡◌, ◌≢◌, ℕ, ◌+◌, ◌-◌, ◌==◌, nat_lt, if◌then◌else◌, Bool, true, false, not, ◌&&◌, ◌||◌, Option, Some, None, is_none, is_some, refl, sym, ap, ◌∙◌, subst, arith}
+use Rattle.std.proofs.Math.Bool.{and-false}
 use Rattle.std.specs.List.{list_any}
 use Rattle.containers.proofs.Choices.{by_test, chosen, left_if, ne_test, not_both, taken_if}
 use Rattle.redis_error.specs.declared.redis_error.RedisError.{RedisError}
@@ -161,21 +162,13 @@ no_attempt l created (Ready link) h = ap is_attempt h.2
 no_attempt l created (Ended e) h = owing_attempt l.end e h.1
 
 pub none_rests : (b : Book) (t : Inner) → Tied b t → rest_due b ≡ false
-none_rests b t h = and_false (has_generations b) (is_attempt (current_link b).end) (ap (λ l. is_attempt (b.link l).end) h.numbers.current_is ∙ no_attempt (b.link t.link) b.created t.life h.life)
-  where
-    and_false : (x y : Bool) → y ≡ false → (x && y) ≡ false
-    and_false true y e = e
-    and_false false y e = refl
+none_rests b t h = ap (λ x. has_generations b && x) (ap (λ l. is_attempt (b.link l).end) h.numbers.current_is ∙ no_attempt (b.link t.link) b.created t.life h.life) ∙ and-false (has_generations b)
 
 -- nothing of this turn is a cause for the next generation
 pub none_caused : (b : Book) → (current_link b).end ≡ None → AreCalm b.errors → is_caused b ≡ false
 none_caused b alive calm =
-    let lost : is_lost b ≡ false = ap (λ (end : Option End). is_resp3 (info_in b.config).protocol && is_lost_in (b.turns - 1) end) alive ∙ and_none (is_resp3 (info_in b.config).protocol) in
+    let lost : is_lost b ≡ false = ap (λ (end : Option End). is_resp3 (info_in b.config).protocol && is_lost_in (b.turns - 1) end) alive ∙ and-false (is_resp3 (info_in b.config).protocol) in
     (λ i. lost i || list_any (is_cause (alive i)) b.errors) ∙ calm
-  where
-    and_none : (x : Bool) → (x && false) ≡ false
-    and_none true = refl
-    and_none false = refl
 
 -- while its link goes on
 pub live_comes : (b : Book) (t : Inner) → Tied b t → is_resting t.life ≡ false → has_ended t.life ≡ false → NoneComes b
@@ -208,12 +201,8 @@ live_comes b t h there up = by_manager t.manager h.numbers.comes_back (has_begun
         not_true true e = cc
         not_true false e = refl
 
-        and_last : (x : Bool) → (x && false) ≡ false
-        and_last true = refl
-        and_last false = refl
-
         and_first : (x y : Bool) → (x && (not (current_link b).asked && y)) ≡ false
-        and_first x y = ap (λ a. x && (not a && y)) asked ∙ and_last x
+        and_first x y = ap (λ a. x && (not a && y)) asked ∙ and-false x
 
 -- what doesn't come back has a link
 pub plain_there : (b : Book) (t : Inner) → Tied b t → is_some t.manager ≡ false → is_resting t.life ≡ false

@@ -43,6 +43,7 @@ use Rattle.legal_trace.proofs.Plain.{same_some}
 use Rattle.mux_conn.specs.Connection.{is_used_up}
 use Rattle.session_laws.proofs.Begins.{opened_between}
 use Rattle.session_laws.proofs.Opening.{opening_unasked}
+use Rattle.session_laws.proofs.Spending.{IsTied, between_tied, spent_turn}
 use Rattle.session_laws.proofs.Turns.{IsUnused, manager_turn, unused_next}
 use Rattle.session_laws.proofs.Outcomes.{last_told}
 use Rattle.session_laws.proofs.Settled.{IsBetween, moved_on_between}
@@ -152,7 +153,7 @@ unfolding state_after AreUnspent
 room_behind config word events unspent = room_on (opening_core config word) events (let none = (opening_unasked config word).submitted in omega arith) unspent
 
 -- a session that doesn't come back, or that comes back, of which nothing was asked where its first generation is to begin
-abbrev IsReady : Core → Option Generations → Type 0
+abbrev pub IsReady : Core → Option Generations → Type 0
 IsReady c None = Unit {0}
 IsReady c (Some g) = IsUnused c g
 
@@ -205,6 +206,26 @@ unfolding trace_of state_after AreGood AreUnspent
 replay_on config word events sound good unspent =
     turns_between (opening_actions config word) (opening_core config word) events (opened_between config word sound) good unspent (let empty = (opening_unasked config word).submitted in omega arith)
     (λ m is. opened_ready (manager_of config) (address config) (is_lazy config) config m is)
+
+-- also where one more event comes, of which it may be spent
+pub turn_behind : (config : Config) (word : ℕ) (events : List Event) (e : Event) → IsSound config → AreGood config word events → AreUnspent config word events → is_bad_after config word events e ≡ false
+    → (let c = state_after config word events in IsTied (trace_of config word events ++ actions_of c e) (next_turn c e.kind).core)
+turn_behind config word events e sound good unspent fine =
+    let all = replay_on config word events sound good unspent in
+    by_manager (state_after config word events).manager refl (all.1 (state_after config word events).manager refl) all.0
+  where
+    room : length (state_after config word events).table < 2 ^ 32
+    room = room_behind config word events unspent
+
+    by_manager : (m : Option Generations) → (state_after config word events).manager ≡ m → IsReady (state_after config word events) m → IsBetween (trace_of config word events) (state_after config word events)
+        → IsTied (trace_of config word events ++ actions_of (state_after config word events) e) (next_turn (state_after config word events) e.kind).core
+    by_manager None is ready h = between_tied _ _ (turn_between (trace_of config word events) (state_after config word events) e (ap is_some is) h fine room)
+    by_manager (Some g) is ready h =
+        let front = trace_of config word events in
+        let now = state_after config word events in
+        by_test (is_used_up (passed_by (counted now) e.kind).core.single.connection) _
+        (λ used. spent_turn front now g e is h fine room used)
+        (λ unused. between_tied _ _ (manager_turn front now g e is h fine unused ready room))
 
 pub replay_between : (config : Config) (word : ℕ) (events : List Event) → IsSound config → AreGood config word events → AreUnspent config word events → IsBetween (trace_of config word events) (state_after config word events)
 replay_between config word events sound good unspent = (replay_on config word events sound good unspent).0

@@ -4,7 +4,6 @@ use Rattle.std.specs.Prelude.{◌==◌, ◌^◌, ◌||◌}
 use Rattle.std.proofs.lemmas.List.{length_push}
 use Rattle.containers.proofs.Choices.{by_test, eq_from, le_from, le_test, ne_from, not_both, not_le_from, or_left, or_right}
 use Rattle.driver_model.specs.declared.config.Config.{Config}
-use Rattle.driver_model.specs.Config.{manager_of}
 use Rattle.driver_model.specs.declared.event.Event.{Event}
 use Rattle.driver_model.specs.declared.action.Purpose.{Purpose}
 use Rattle.driver_model.specs.declared.action.SourceUse.{SourceUse}
@@ -14,12 +13,11 @@ use Rattle.mux_conn.specs.declared.life.Life.{Life}
 use Rattle.mux_conn.specs.declared.life.Life.TheVariants.{Resting, Dialing, Ended, Ready, Wanting, SettingUp}
 use Rattle.shared_session.specs.Replay.{AreGood, AreGoodOn, is_bad_after, is_spent_after, opening_core, run_on, state_after, trace_of, IsSound, AreUnspent, AreUnspentOn}
 use Rattle.shared_session.specs.Turn.{is_bad, has_run_out, spends, next_turn}
-use Rattle.shared_session.proofs.Plain.{plain_after}
 use Rattle.shared_session.specs.declared.core_state.Core.{Core}
 use Rattle.legal_trace.specs.Book.{Book, book}
 use Rattle.legal_trace.specs.Events.{HasRunOut}
 use Rattle.shared_session.proofs.Replays.{state_after-more, trace_of-more, turns_after}
-use Rattle.session_laws.proofs.Legality.{replay_between, turn_between, room_behind}
+use Rattle.session_laws.proofs.Legality.{turn_behind}
 use Rattle.session_laws.proofs.Opening.{opening_unasked}
 use Rattle.session_laws.proofs.Server.{AreRenewed, NoneRenewed, TiedRenewal}
 use Rattle.session_laws.proofs.Tied.{Inner, Tied, TiedLife, carried, has_ended, inner, whole_link}
@@ -209,13 +207,13 @@ spent_of b t turns h count renewals out =
 -- the last number
 --
 -- the session behind one more event, and the book of its trace
-next_between : (config : Config) (word : ℕ) (events : List Event) (e : Event) → manager_of config ≡ None → IsSound config → AreGood config word events → AreUnspent config word events → is_bad_after config word events e ≡ false
+next_between : (config : Config) (word : ℕ) (events : List Event) (e : Event) → IsSound config → AreGood config word events → AreUnspent config word events → is_bad_after config word events e ≡ false
     → (let after = (next_turn (state_after config word events) e.kind).core in
     (started : List ℕ) × Tied (book (trace_of config word (events ++ e ∷ []))) (inner after started) × ((link : LinkState) → after.single.connection.life ≡ Ready link → is_due after.single.connection.renewal ≡ true → after.single.connection.renewal.pending ≡ true))
-next_between config word events e none sound good unspent fine =
-    let c = state_after config word events in
-    let h = turn_between (trace_of config word events) c e (plain_after config word events none) (replay_between config word events none sound good unspent) fine (room_behind config word events unspent) in
-    (h.started, subst (λ (x : List Action). Tied (book x) (inner (next_turn c e.kind).core h.started)) (sym (trace_of-more config word events e)) h.between.sound.tied, λ link is due. (h.between.still.renewed link is due).0)
+next_between config word events e sound good unspent fine =
+    let after = (next_turn (state_after config word events) e.kind).core in
+    let h = turn_behind config word events e sound good unspent fine in
+    (h.started, subst (λ (x : List Action). Tied (book x) (inner after h.started)) (sym (trace_of-more config word events e)) h.tied, h.renewed)
 
 -- new credentials that were to be told have not run out before
 asked_next_few : (c : Core) (e : Event) → spends c e ≡ false → (next_turn c e.kind).core.single.connection.renewal.asked < 2 ^ 32
@@ -306,24 +304,24 @@ book_asked b t h waits many = by_life t.life refl
         omega (arith, all, count, many))
 
 -- a spent step gives out the last number
-pub spent_run_out : (config : Config) (word : ℕ) (events : List Event) (e : Event) → manager_of config ≡ None → IsSound config → AreGood config word events → AreUnspent config word events → is_bad_after config word events e ≡ false → is_spent_after config word events e ≡ true
+pub spent_run_out : (config : Config) (word : ℕ) (events : List Event) (e : Event) → IsSound config → AreGood config word events → AreUnspent config word events → is_bad_after config word events e ≡ false → is_spent_after config word events e ≡ true
     → HasRunOut (book (trace_of config word (events ++ e ∷ [])))
 unfolding spends has_run_out
-spent_run_out config word events e none sound good unspent fine spent =
+spent_run_out config word events e sound good unspent fine spent =
     let c = state_after config word events in
-    let h = next_between config word events e none sound good unspent fine in
+    let h = next_between config word events e sound good unspent fine in
     let b = book (trace_of config word (events ++ e ∷ [])) in
     let t = inner (next_turn c e.kind).core h.0 in
     run_out_of b t c.turns h.1 (turn_counted config word events e)
     (last_asked b t c.single.connection.renewal.asked (next_turn c e.kind).core.single.connection refl refl h.1 (asked_behind config word events unspent) (turn_grown c e.kind)) spent
 
 -- and one that gives it out is spent
-pub run_out_spent : (config : Config) (word : ℕ) (events : List Event) (e : Event) → manager_of config ≡ None → IsSound config → AreGood config word events → AreUnspent config word events → is_bad_after config word events e ≡ false → HasRunOut (book (trace_of config word (events ++ e ∷ [])))
+pub run_out_spent : (config : Config) (word : ℕ) (events : List Event) (e : Event) → IsSound config → AreGood config word events → AreUnspent config word events → is_bad_after config word events e ≡ false → HasRunOut (book (trace_of config word (events ++ e ∷ [])))
     → is_spent_after config word events e ≡ true
 unfolding spends has_run_out
-run_out_spent config word events e none sound good unspent fine out =
+run_out_spent config word events e sound good unspent fine out =
     let c = state_after config word events in
-    let h = next_between config word events e none sound good unspent fine in
+    let h = next_between config word events e sound good unspent fine in
     let b = book (trace_of config word (events ++ e ∷ [])) in
     let t = inner (next_turn c e.kind).core h.0 in
     spent_of b t c.turns h.1 (turn_counted config word events e) (book_asked b t h.1 h.2) out

@@ -32,7 +32,8 @@ use Rattle.session_laws.proofs.Return as return
 use Rattle.session_laws.proofs.Rounded.{rounds_down}
 use Rattle.session_laws.proofs.Settled.{IsBetween, applied_moved, unmoved}
 use Rattle.session_laws.proofs.States.{HasApplied, HasRetired}
-use Rattle.session_laws.proofs.Tied.{NoneRenewed, Tied, TiedRenewal, has_ended, inner, link_in, relined}
+use Rattle.session_laws.proofs.Server.{NoneRenewed, TiedRenewal}
+use Rattle.session_laws.proofs.Tied.{Tied, has_ended, inner, link_in, relined}
 use Rattle.session_laws.proofs.Turns.{heard_so, made, retired_same}
 use Rattle.session_laws.proofs.Whole.{managed_between, managed_core, managed_trace, what_of}
 

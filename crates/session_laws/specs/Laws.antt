@@ -1,7 +1,6 @@
 -- The laws of sessions, each as one statement.
-use Rattle.std.specs.Prelude.{◌≡◌, ℕ, false, true, List, [], ◌∷◌, ◌++◌, None}
+use Rattle.std.specs.Prelude.{◌≡◌, ℕ, false, true, List, [], ◌∷◌, ◌++◌}
 use Rattle.driver_model.specs.declared.config.Config.{Config}
-use Rattle.driver_model.specs.Config.{manager_of}
 use Rattle.driver_model.specs.declared.event.Event.{Event}
 use Rattle.shared_session.specs.Replay.{IsSound, trace_of, outcomes_in, outcome_at}
 use Rattle.shared_session.specs.Replay.{AreGood, AreUnspent, is_bad_after, is_spent_after}
@@ -17,20 +16,20 @@ book_of config word events = book (trace_of config word events)
 -- the trace of each history of a sound configuration without a bad event, and in which no step is spent, is legal
 abbrev pub ReplaysAreLegal : Type 0
 ReplaysAreLegal =
-    (config : Config) (word : ℕ) (events : List Event) → manager_of config ≡ None → IsSound config → AreGood config word events → AreUnspent config word events
+    (config : Config) (word : ℕ) (events : List Event) → IsSound config → AreGood config word events → AreUnspent config word events
     → Legal config word events (trace_of config word events)
 
 -- behind such a history the bad events are those that the book of its trace says are
 abbrev pub BadByTheBook : Type 0
 BadByTheBook =
-    (config : Config) (word : ℕ) (events : List Event) (e : Event) → manager_of config ≡ None → IsSound config
+    (config : Config) (word : ℕ) (events : List Event) (e : Event) → IsSound config
     → AreGood config word events → AreUnspent config word events
     → is_bad_after config word events e ≡ is_bad_event (book_of config word events) e.kind
 
 -- what the outcome actions of a trace say of a submission is the last outcome of its story
 abbrev pub OutcomesByTheBook : Type 0
 OutcomesByTheBook =
-    (config : Config) (word : ℕ) (events : List Event) (n : ℕ) → manager_of config ≡ None → IsSound config
+    (config : Config) (word : ℕ) (events : List Event) (n : ℕ) → IsSound config
     → AreGood config word events → AreUnspent config word events
     → outcome_at (outcomes_in (trace_of config word events)) n
     ≡ last_outcome ((book_of config word events).story n).outcomes
@@ -38,7 +37,7 @@ OutcomesByTheBook =
 -- by the end of the turn of a step that is spent, numbers of a sort have run out
 abbrev pub SpentHasRunOut : Type 0
 SpentHasRunOut =
-    (config : Config) (word : ℕ) (events : List Event) (e : Event) → manager_of config ≡ None → IsSound config
+    (config : Config) (word : ℕ) (events : List Event) (e : Event) → IsSound config
     → AreGood config word events → AreUnspent config word events
     → is_bad_after config word events e ≡ false → is_spent_after config word events e ≡ true
     → HasRunOut (book_of config word (events ++ e ∷ []))
@@ -46,7 +45,7 @@ SpentHasRunOut =
 -- and the step of a good event is spent where they have
 abbrev pub RunOutIsSpent : Type 0
 RunOutIsSpent =
-    (config : Config) (word : ℕ) (events : List Event) (e : Event) → manager_of config ≡ None → IsSound config
+    (config : Config) (word : ℕ) (events : List Event) (e : Event) → IsSound config
     → AreGood config word events → AreUnspent config word events
     → is_bad_after config word events e ≡ false → HasRunOut (book_of config word (events ++ e ∷ []))
     → is_spent_after config word events e ≡ true
