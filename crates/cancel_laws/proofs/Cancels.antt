@@ -20,10 +20,9 @@ use Rattle.mux_conn.specs.declared.request.Pending.{Pending}
 use Rattle.mux_conn.specs.Requests.{if_there, is_open, is_waiting, is_admitted, is_open_at}
 use Rattle.mux_conn.specs.Connection.{Work}
 use Rattle.mux_conn.specs.Effects.{cancelled_in, left}
-use Rattle.mux_conn.specs.Passes.{passed}
 use Rattle.mux_conn.specs.Renewals.{renewal_id}
 use Rattle.shared_session.specs.declared.core_state.Core.{Core}
-use Rattle.shared_session.specs.Turn.{Turning, work_of, with_work, heard, left_by, counted, moved_on, numbered, exceeds_offer, is_bad, shown_each, actions_of, next_turn}
+use Rattle.shared_session.specs.Turn.{Turning, work_of, with_work, heard, left_by, counted, moved_on, numbered, exceeds_offer, is_bad, shown_each, actions_of, next_turn, effect}
 use Rattle.shared_session.specs.Replay.{opening_core, opening_actions, run_on, state_after, turns_on, trace_of, told_each, outcomes_in, outcome_at, is_bad_after}
 use Rattle.shared_session.proofs.Replays.{turns_after}
 use Rattle.shared_session.proofs.Plain.{plain_effects, plain_turn}
@@ -34,15 +33,16 @@ use Rattle.cancel_laws.specs.Laws.{HasNoLimit}
 use Rattle.cancel_laws.proofs.Requests.{names_count, own_closed}
 use Rattle.cancel_laws.proofs.Names.{own_of}
 use Rattle.cancel_laws.proofs.Links.{none_from}
-use Rattle.cancel_laws.proofs.Kept.{At, There, Unlimited, passed_kept, flushed_kept}
+use Rattle.cancel_laws.proofs.Kept.{At, There, Unlimited}
 use Rattle.cancel_laws.proofs.KeptTurns.{AtCore, left_by_kept, turn_kept}
 use Rattle.cancel_laws.proofs.Gone.{NoneQueued, NoneInRow, NoneIs, IsAway, away_kept, IsHushed, hushed_kept, hushed_asks, quiet_life}
 use Rattle.cancel_laws.proofs.Moved.{own_left}
 use Rattle.cancel_laws.proofs.Once.{IsOnce, silenced_once, row_once}
 use Rattle.cancel_laws.proofs.Rest.{nothing_moves, left_idle}
-use Rattle.cancel_laws.proofs.Silent.{IsSilent, silent_kept}
+use Rattle.cancel_laws.proofs.Whole.{last_silent, turn_silent}
+use Rattle.cancel_laws.proofs.Silent.{IsSilent}
 use Rattle.cancel_laws.proofs.Turns.{bare_core, above, more_after, AreAlike, turn_gone, turn_unlimited}
-use Rattle.cancel_laws.proofs.Ready.{IsReady, ready_on, opening_ready, unlimited_after}
+use Rattle.cancel_laws.proofs.Ready.{IsReady, ready_on, opening_ready, unlimited_after, IsNamed, named_on, opening_named, ready_named}
 use Rattle.cancel_laws.proofs.Shown.{but_for-append, unnumbered-append, unshown_acts, shown_alike, alike_on, silent_shown}
 use Rattle.cancel_laws.proofs.Outcomes.{told-append, all_told_unnumbered, erased, other_outcome, erased_told, none_told}
 
@@ -63,7 +63,7 @@ cancel_turn c n p unlimited r there none =
     ∙ (λ i. record { core = record c { turns = c.turns + 1; shut = shut i; timers = timers i; sources = sources i; single = record c.single { connection = left c.single.connection p.number } }; acts = [] })
 
 -- a request has another number than the message that tells new credentials
-started_apart : (n : ℕ) (c : Core) (h : HasStarted n c) → IsReady c → renewal_id ≢ h.pending.number
+started_apart : (n : ℕ) (c : Core) (h : HasStarted n c) → IsNamed c → renewal_id ≢ h.pending.number
 started_apart n c h r =
     let there = get_within c.single.connection.requests h.pending.number h.request h.known in
     λ e. omega (arith, e, there, r.named.fewer, names_count c.single.connection.requests, h.numbered)
@@ -77,7 +77,7 @@ started_within : (n : ℕ) (c : Core) → HasStarted n c → n < length c.table
 started_within n c h = get_within c.table n (Some h.pending) h.there
 
 -- and it waits for nothing
-started_away : (n : ℕ) (c : Core) (h : HasStarted n c) → IsReady c → AtCore (IsAway n h.pending.number) c
+started_away : (n : ℕ) (c : Core) (h : HasStarted n c) → IsNamed c → AtCore (IsAway n h.pending.number) c
 started_away n c h r =
     let p = h.pending.number in
     record {
@@ -99,7 +99,7 @@ started_cancel n c h u r = cancel_turn c n h.pending u r h.there (started_none n
 
 -- it stays gone in the turn of its cancel
 cancel_gone : (n : ℕ) (c : Core) (h : HasStarted n c) → IsReady c → AtCore (IsAway n h.pending.number) (next_turn c (event.Cancel n)).core
-cancel_gone n c h r = turn_gone n h.pending.number c (event.Cancel n) r.plain (started_within n c h) (started_away n c h r)
+cancel_gone n c h r = turn_gone n h.pending.number c (event.Cancel n) r.plain (started_within n c h) (started_away n c h (ready_named c r))
 
 -- and it is open
 started_open : (n : ℕ) (c : Core) (h : HasStarted n c) → is_open_at c.single.connection.requests h.pending.number ≡ true
@@ -109,7 +109,7 @@ started_open n c h = ap (if_there is_open) h.known ∙ ap is_open h.placed
 cancel_alike : (n : ℕ) (c : Core) (h : HasStarted n c) → AtCore Unlimited c → IsReady c → AreAlike n h.pending.number c (next_turn c (event.Cancel n)).core
 cancel_alike n c h u r =
     let p = h.pending.number in
-    let gone = started_away n c h r in
+    let gone = started_away n c h (ready_named c r) in
     let within = started_within n c h in
     let own = own_left p c.single.connection gone.gone.none in
     record {
@@ -120,7 +120,7 @@ cancel_alike n c h u r =
       unlimited = u;
       unlimited_too = turn_unlimited c (event.Cancel n) r.plain u;
       within = within;
-      within_too = more_after n c (event.Cancel n) r.plain within;
+      within_too = more_after n c (event.Cancel n) within;
       gone = gone;
       gone_too = cancel_gone n c h r;
     }
@@ -129,22 +129,19 @@ cancel_alike n c h u r =
 left_closed : (c : MultiplexedConnection) (p : ℕ) → is_open_at (left c p).requests p ≡ false
 left_closed c p = chosen (λ (x : MultiplexedConnection). is_open_at x.requests p ≡ false) (is_open_at c.requests p) _ c (λ t. own_closed c.requests p) (λ f. f)
 
--- so it is silent in the turn of its cancel, whoever takes its permits
-cancel_silent_turn : (n : ℕ) (c : Core) (h : HasStarted n c) → IsReady c → At (IsSilent n h.pending.number) (work_of (next_turn c (event.Cancel n)))
-cancel_silent_turn n c h r =
+-- so it is silent behind its cancel
+cancel_effect : (n : ℕ) (c : Core) (h : HasStarted n c) → IsNamed c → At (IsSilent n h.pending.number) (work_of (effect (counted c) (event.Cancel n)))
+cancel_effect n c h r =
     let p = h.pending.number in
     let t = heard (counted c) (event.Cancel n) in
-    let who = slice_get c.table n in
     let g : At (IsAway n p) (work_of (left_by t (Some (Some h.pending)))) = left_by_kept (away_kept n p) t (Some (Some h.pending)) (started_away n c h r) in
     let s : At (IsSilent n p) (work_of (left_by t (Some (Some h.pending)))) =
     record { there = g.gone.there; own = g.gone.own; closed = left_closed c.single.connection p; unshown = refl } in
-    let l : At (IsSilent n p) (work_of (left_by t who)) = subst (λ (x : Option (Option Pending)). At (IsSilent n p) (work_of (left_by t x))) (sym h.there) s in
-    let w = work_of (left_by t who) in
-    subst (λ (u : Turning). At (IsSilent n p) (work_of u)) (sym (plain_turn c (event.Cancel n) r.plain)) (flushed_kept (silent_kept n p) (passed w) (passed_kept (silent_kept n p) w l))
+    subst (λ (x : Option (Option Pending)). At (IsSilent n p) (work_of (left_by t x))) (sym h.there) s
 
 -- and from then on
-cancel_silent : (n : ℕ) (c : Core) (h : HasStarted n c) → IsReady c → AtCore (IsSilent n h.pending.number) (next_turn c (event.Cancel n)).core
-cancel_silent n c h r = let s = cancel_silent_turn n c h r in record { there = s.there; own = s.own; closed = s.closed; unshown = refl }
+cancel_silent : (n : ℕ) (c : Core) (h : HasStarted n c) → IsNamed c → AtCore (IsSilent n h.pending.number) (next_turn c (event.Cancel n)).core
+cancel_silent n c h r = let s = turn_silent c (event.Cancel n) n h.pending.number (cancel_effect n c h r) in record { there = s.there; own = s.own; closed = s.closed; unshown = refl }
 
 -- nobody awaits what the link of a cancelled request has for it
 left_quiet : (c : MultiplexedConnection) (p : ℕ) → is_open_at c.requests p ≡ true → NoneInRow p (cancelled_in c.life p) → NoneInRow p (left c p).life
@@ -155,7 +152,7 @@ cancel_hushed : (n : ℕ) (c : Core) (h : HasStarted n c) → AtCore Unlimited c
 cancel_hushed n c h u r =
     let p = h.pending.number in
     let x = c.single.connection in
-    let once : IsOnce p x.requests (Ready h.link) = subst (IsOnce p x.requests) h.up (r.once p (started_apart n c h r)) in
+    let once : IsOnce p x.requests (Ready h.link) = subst (IsOnce p x.requests) h.up (r.once p (started_apart n c h (ready_named c r))) in
     let quiet : NoneInRow p (cancelled_in x.life p) =
     subst (λ (life : Life). NoneInRow p (cancelled_in life p)) (sym h.up) (silenced_once p h.link.row (row_once p x.requests h.link h.request once h.known)) in
     record {
@@ -167,7 +164,7 @@ cancel_hushed n c h u r =
 hushed_on : (n p : ℕ) (c : Core) (es : List Event) → is_some c.manager ≡ false → n < length c.table → AtCore (There (IsHushed n p)) c → AtCore (There (IsHushed n p)) (run_on c es)
 hushed_on n p c [] plain l h = h
 hushed_on n p c (e ∷ es) plain l h =
-    hushed_on n p (next_turn c e.kind).core es (turn_plain c e.kind ∙ plain) (more_after n c e.kind plain l) (turn_kept (hushed_kept n p) c plain (hushed_asks n p (length c.table) (above n c.table l)) e.kind h)
+    hushed_on n p (next_turn c e.kind).core es (turn_plain c e.kind ∙ plain) (more_after n c e.kind l) (turn_kept (hushed_kept n p) c plain (hushed_asks n p (length c.table) (above n c.table l)) e.kind h)
 
 -- the turn of the cancel shows nothing, where permits aren't counted
 cancel_shows : (c : Core) (draw n : ℕ) (h : HasStarted n c) → AtCore Unlimited c → IsReady c → actions_of c (cancel_of draw n) ≡ action.Turn c.turns (cause.Event (cancel_of draw n)) ∷ []
@@ -204,6 +201,11 @@ pub ready_after : (config : Config) (word : ℕ) (before : List Event) → manag
 unfolding state_after
 ready_after config word before stays = ready_on (opening_core config word) before (opening_ready config word stays)
 
+-- also where the session comes back
+pub named_after : (config : Config) (word : ℕ) (before : List Event) → IsNamed (state_after config word before)
+unfolding state_after
+named_after config word before = named_on (opening_core config word) before (opening_named config word)
+
 -- the number of the next turn
 number_after : (config : Config) (word : ℕ) (before : List Event) → (state_after config word before).turns ≡ length before + 1
 number_after config word before = omega (arith, turns_after config word before)
@@ -222,24 +224,23 @@ alike_after config word draw n before after stays free h =
 -- what the turns show, and what outcomes they tell
 --
 -- later turns show no outcome of the cancelled submission
-silent_after : (config : Config) (word n : ℕ) (before after : List Event) → manager_of config ≡ None → (h : HasStarted n (state_after config word before))
+silent_after : (config : Config) (word n : ℕ) (before after : List Event) (h : HasStarted n (state_after config word before))
     → but_for n (turns_on (next_turn (state_after config word before) (event.Cancel n)).core after) ≡ all_unnumbered (turns_on (next_turn (state_after config word before) (event.Cancel n)).core after)
-silent_after config word n before after stays h =
+silent_after config word n before after h =
     let c = state_after config word before in
-    let r = ready_after config word before stays in
-    silent_shown n h.pending.number (next_turn c (event.Cancel n)).core after (turn_plain c (event.Cancel n) ∙ r.plain) (more_after n c (event.Cancel n) r.plain (started_within n c h)) (cancel_silent n c h r)
+    silent_shown n h.pending.number (next_turn c (event.Cancel n)).core after (more_after n c (event.Cancel n) (started_within n c h)) (cancel_silent n c h (named_after config word before))
 
 -- nor does the turn of the cancel
-silent_from : (config : Config) (word draw n : ℕ) (before after : List Event) → manager_of config ≡ None → (h : HasStarted n (state_after config word before))
+silent_from : (config : Config) (word draw n : ℕ) (before after : List Event) (h : HasStarted n (state_after config word before))
     → but_for n (turns_on (state_after config word before) (cancel_of draw n ∷ after)) ≡ all_unnumbered (turns_on (state_after config word before) (cancel_of draw n ∷ after))
-silent_from config word draw n before after stays h =
+silent_from config word draw n before after h =
     let c = state_after config word before in
     let e = cancel_of draw n in
-    let r = ready_after config word before stays in
+    let silent = cancel_effect n c h (named_after config word before) in
     let more = turns_on (next_turn c (event.Cancel n)).core after in
     but_for-append n (actions_of c e) more
-    ∙ ap (λ (xs : List Action). xs ++ but_for n more) (unshown_acts n c e r.plain (cancel_silent_turn n c h r).unshown)
-    ∙ ap (λ (xs : List Action). all_unnumbered (actions_of c e) ++ xs) (silent_after config word n before after stays h) ∙ sym (unnumbered-append (actions_of c e) more)
+    ∙ ap (λ (xs : List Action). xs ++ but_for n more) (unshown_acts n c e (turn_silent c (event.Cancel n) n h.pending.number silent).unshown (last_silent c (event.Cancel n) n h.pending.number silent))
+    ∙ ap (λ (xs : List Action). all_unnumbered (actions_of c e) ++ xs) (silent_after config word n before after h) ∙ sym (unnumbered-append (actions_of c e) more)
 
 -- the trace with the cancel goes on as the one without it
 pub goes_on : (config : Config) (word draw n : ℕ) (before after : List Event) → manager_of config ≡ None → HasNoLimit config → HasStarted n (state_after config word before) → GoesOn config word n before (cancel_of draw n) after
@@ -255,7 +256,7 @@ goes_on config word draw n before after stays free h =
       plain = trace_split config word before after;
       with_more = trace_split config word before (cancel_of draw n ∷ after)
           ∙ ap (λ (xs : List Action). trace_of config word before ++ (xs ++ turns_on d after)) (cancel_shows c draw n h u r ∙ number);
-      alike = shown_alike n h.pending.number c d after (cancel_alike n c h u r) ∙ silent_after config word n before after stays h;
+      alike = shown_alike n h.pending.number c d after (cancel_alike n c h u r) ∙ silent_after config word n before after h;
     }
 
 -- one submission's outcomes aside, a trace tells the same with the turn of the cancel and without it
@@ -274,21 +275,21 @@ pub same_outcomes : (config : Config) (word draw n m : ℕ) (before after : List
 unfolding outcomes_in goes_on
 same_outcomes config word draw n m before after stays free h o =
     let g = goes_on config word draw n before after stays free h in
-    let e = g.alike ∙ sym (silent_after config word n before after stays h) in
+    let e = g.alike ∙ sym (silent_after config word n before after h) in
     ap (λ (xs : List Action). outcome_at (told_each [] xs) m) g.plain ∙ same_told n m (length before + 1) draw (trace_of config word before) g.later g.later_with o e
     ∙ sym (ap (λ (xs : List Action). outcome_at (told_each [] xs) m) g.with_more)
 
 -- the cancelled one has the outcome that it had before: none
-pub no_outcome : (config : Config) (word draw n : ℕ) (before after : List Event) → manager_of config ≡ None → HasStarted n (state_after config word before)
+pub no_outcome : (config : Config) (word draw n : ℕ) (before after : List Event) → HasStarted n (state_after config word before)
     → outcome_at (outcomes_in (trace_of config word (before ++ cancel_of draw n ∷ after))) n ≡ outcome_at (outcomes_in (trace_of config word before)) n
 unfolding outcomes_in
-no_outcome config word draw n before after stays h =
+no_outcome config word draw n before after h =
     let trace = trace_of config word before in
     let later = turns_on (state_after config word before) (cancel_of draw n ∷ after) in
     let os = told_each [] trace in
     ap (λ (xs : List Action). outcome_at (told_each [] xs) n) (trace_split config word before (cancel_of draw n ∷ after))
     ∙ ap (λ (ps : List (Option Outcome)). outcome_at ps n)
-    (told-append [] trace later ∙ sym (all_told_unnumbered os later) ∙ ap (told_each os) (sym (silent_from config word draw n before after stays h)))
+    (told-append [] trace later ∙ sym (all_told_unnumbered os later) ∙ ap (told_each os) (sym (silent_from config word draw n before after h)))
     ∙ none_told n os later
 
 -- items, and events
@@ -301,7 +302,7 @@ same_items config word draw n before after stays free h =
     let p = h.pending.number in
     let r = ready_after config word before stays in
     let d = (next_turn c (event.Cancel n)).core in
-    let s = hushed_on n p d after (turn_plain c (event.Cancel n) ∙ r.plain) (more_after n c (event.Cancel n) r.plain (started_within n c h)) (cancel_hushed n c h (unlimited_after config word before stays free) r) in
+    let s = hushed_on n p d after (turn_plain c (event.Cancel n) ∙ r.plain) (more_after n c (event.Cancel n) (started_within n c h)) (cancel_hushed n c h (unlimited_after config word before stays free) r) in
     ap (λ (x : Core). x.single.connection.life) (alike_after config word draw n before after stays free h).same
     ∙ subst (λ (x : Core). hushed_life p x.single.connection.life ≡ x.single.connection.life) (sym (state_split config word before (cancel_of draw n ∷ after)))
     (quiet_life p (run_on d after).single.connection.life s.quiet)

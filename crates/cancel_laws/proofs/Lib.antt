@@ -12,6 +12,7 @@ pub mod Moved
 pub mod Once
 pub mod Silent
 pub mod Rest
+pub mod Whole
 pub mod Turns
 pub mod Ready
 pub mod Shown

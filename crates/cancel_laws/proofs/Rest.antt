@@ -298,7 +298,7 @@ moved_before w =
     each_admitted (still_waiting e []) e.conn.waiting (record { through = s.through; admitted = s.admitted })
 
 -- and the rounds that begin behind that
-all_moved : (w : Work) → IsMoved (passed w).conn
+pub all_moved : (w : Work) → IsMoved (passed w).conn
 all_moved w =
     let v = moved_all w in
     chosen (λ (x : Work). IsMoved x.conn) (v.conn.rounds && is_ready v.conn.life) (rounds_of v v.conn.fresh) v (λ t. rounds_moved v v.conn.fresh (moved_before w)) (λ f. moved_before w)
@@ -374,12 +374,24 @@ waits_conn w =
     fresh_conn (record d { conn = record d.conn { fresh = [] } }) d.conn.fresh
     ∙ ap (λ (c : MultiplexedConnection). record c { fresh = [] }) (moved_conn (record w { conn = record w.conn { moved = [] } }) w.conn.moved)
 
--- so a turn ends with nothing left to do, whatever there was
-pub moves_idle : (w : Work) → IsIdle (flushed (passed w)).conn
-moves_idle w =
-    let d = passed w in
-    let e = written d in
-    let i = written_from d d.conn.life refl (all_moved w) in
+-- nor do bytes that are offered change a request
+written_requests : (w : Work) (life : Life) → (written_at w life).conn.requests ≡ w.conn.requests
+written_requests w (Ready l) = chosen (λ (x : Work). x.conn.requests ≡ w.conn.requests) (can_offer l.outbox) _ w (λ t. refl) (λ f. refl)
+written_requests w (SettingUp l greeting) = chosen (λ (x : Work). x.conn.requests ≡ w.conn.requests) (can_offer l.outbox) _ w (λ t. refl) (λ f. refl)
+written_requests w Resting = refl
+written_requests w Dialing = refl
+written_requests w (Wanting l) = refl
+written_requests w (Ended e) = refl
+
+-- so what a turn ends with changes none
+pub flushed_requests : (w : Work) → (flushed w).conn.requests ≡ w.conn.requests
+flushed_requests w = ap (λ (c : MultiplexedConnection). c.requests) (waits_conn (written w)) ∙ written_requests w w.conn.life
+
+-- and leaves nothing to do, where all was moved
+pub flushed_idle : (w : Work) → IsMoved w.conn → IsIdle (flushed w).conn
+flushed_idle w h =
+    let e = written w in
+    let i = written_from w w.conn.life refl h in
     subst IsIdle (sym (waits_conn e))
     (record {
       written = record {

@@ -7,11 +7,12 @@ use Rattle.connection_info.specs.declared.protocol.ProtocolVersion.{ProtocolVers
 use Rattle.connection_info.specs.Protocol.{is_resp3}
 use Rattle.redis_error.specs.declared.config_name.ConfigName.TheVariants as name
 use Rattle.driver_model.specs.declared.config.Config.{Config}
+use Rattle.driver_model.specs.declared.config.Config.TheVariants as variant
 use Rattle.driver_model.specs.declared.event.Submission.{Submission}
 use Rattle.driver_model.specs.declared.event.Submission.TheVariants.{Cmd, Pipe, Multi, Subscription, Ping}
 use Rattle.resp_write.specs.declared.subscription.SubscriptionAction.{SubscriptionAction}
 use Rattle.connection_setup.specs.Setup.{setup}
-use Rattle.driver_model.specs.Config.{manager_of, buffer_size, buffer_fault, hearing_of, permits, room_fault, told_info}
+use Rattle.driver_model.specs.Config.{manager_of, buffer_size, buffer_fault, hearing_of, permits, room_fault, told_info, heard_on}
 use Rattle.driver_model.specs.Hearing.{hears_messages, is_watching}
 use Rattle.driver_model.specs.declared.hearing.Hearing.{Hearing}
 use Rattle.driver_model.proofs.Sound.{unless_refused, is_roomy}
@@ -97,7 +98,7 @@ pub any_started : (config : Config) (word draw later : ℕ) (s : Submission) →
     → HasStarted 0 (handed_in_after_connect config word draw later s)
 any_started config word draw later s some awaited plain stays sound silent =
     subst (λ k. HasStarted k (handed_in_after_connect config word draw later s)) (connected_first config word draw stays)
-    (free_started config word later (connected_at draw ∷ []) s stays some awaited (connected_free config word draw stays sound silent) (let c = (state_after config word (connected_at draw ∷ [])).single.connection in needs_none c.hears c.info.protocol s plain))
+    (free_started config word later (connected_at draw ∷ []) s some awaited (connected_free config word draw stays sound silent) (let c = (state_after config word (connected_at draw ∷ [])).single.connection in needs_none c.hears c.info.protocol s plain))
 
 -- what is heard is what the configuration has heard
 connected_hears : (config : Config) (word draw : ℕ) → manager_of config ≡ None → SaysNothing config → (state_after config word (connected_at draw ∷ [])).single.connection.hears ≡ hearing_of config
@@ -112,21 +113,34 @@ connected_hears config word draw stays silent =
 listening_none : (h : Hearing) (protocol : ProtocolVersion) (s : Submission) → hears_messages h ≡ true → lacks_resp3 h protocol s ≡ false
 listening_none h protocol s listens = ap (λ hears. not hears && needs_resp3 s && not (is_resp3 protocol)) listens
 
+-- a multiplexed connection hears none
+hears_none : (pushes : Bool) → hears_messages (heard_on pushes) ≡ true → ⊥
+hears_none true e = cc e
+hears_none false e = cc e
+
+-- so a session that does doesn't come back
+listens_once : (config : Config) → hears_messages (hearing_of config) ≡ true → manager_of config ≡ None
+listens_once (variant.Single address connection) e = absurd (hears_none (unwrap_or connection.push false) e)
+listens_once (variant.Manager lazy address connection manager) e = absurd (hears_none (unwrap_or connection.push false) e)
+listens_once (variant.PubSub address) e = refl
+listens_once (variant.Monitor address) e = refl
+
 -- any submission on a link of messages that has bytes, and whose reply is awaited
-listening_started : (config : Config) (word draw later : ℕ) (s : Submission) → packed_bytes s ≢ [] → is_reply_awaited s ≡ true → manager_of config ≡ None → IsSound config → SaysNothing config → hears_messages (hearing_of config) ≡ true
+listening_started : (config : Config) (word draw later : ℕ) (s : Submission) → packed_bytes s ≢ [] → is_reply_awaited s ≡ true → IsSound config → SaysNothing config → hears_messages (hearing_of config) ≡ true
     → HasStarted 0 (handed_in_after_connect config word draw later s)
-listening_started config word draw later s some awaited stays sound silent listens =
+listening_started config word draw later s some awaited sound silent listens =
+    let stays = listens_once config listens in
     subst (λ k. HasStarted k (handed_in_after_connect config word draw later s)) (connected_first config word draw stays)
-    (free_started config word later (connected_at draw ∷ []) s stays some awaited (connected_free config word draw stays sound silent)
+    (free_started config word later (connected_at draw ∷ []) s some awaited (connected_free config word draw stays sound silent)
     (let c = (state_after config word (connected_at draw ∷ [])).single.connection in listening_none c.hears c.info.protocol s (ap hears_messages (connected_hears config word draw stays silent) ∙ listens)))
 
 -- a subscription call there
-pub subscription_started : (config : Config) (word draw later : ℕ) (what : SubscriptionAction) (names : List (List ℕ)) → manager_of config ≡ None → IsSound config → SaysNothing config → hears_messages (hearing_of config) ≡ true → HasStarted 0 (handed_in_after_connect config word draw later (Subscription what names))
-subscription_started config word draw later what names stays sound silent listens = listening_started config word draw later (Subscription what names) (λ e. cc) refl stays sound silent listens
+pub subscription_started : (config : Config) (word draw later : ℕ) (what : SubscriptionAction) (names : List (List ℕ)) → IsSound config → SaysNothing config → hears_messages (hearing_of config) ≡ true → HasStarted 0 (handed_in_after_connect config word draw later (Subscription what names))
+subscription_started config word draw later what names sound silent listens = listening_started config word draw later (Subscription what names) (λ e. cc) refl sound silent listens
 
 -- and a ping
-pub ping_started : (config : Config) (word draw later : ℕ) (message : Option (List ℕ)) → manager_of config ≡ None → IsSound config → SaysNothing config → hears_messages (hearing_of config) ≡ true → HasStarted 0 (handed_in_after_connect config word draw later (Ping message))
-ping_started config word draw later message stays sound silent listens = listening_started config word draw later (Ping message) (λ e. cc) refl stays sound silent listens
+pub ping_started : (config : Config) (word draw later : ℕ) (message : Option (List ℕ)) → IsSound config → SaysNothing config → hears_messages (hearing_of config) ≡ true → HasStarted 0 (handed_in_after_connect config word draw later (Ping message))
+ping_started config word draw later message sound silent listens = listening_started config word draw later (Ping message) (λ e. cc) refl sound silent listens
 
 -- a command
 pub command_started : (config : Config) (word draw later : ℕ) (name : List ℕ) (args : List (List ℕ)) → manager_of config ≡ None → IsSound config → SaysNothing config → HasStarted 0 (handed_in_after_connect config word draw later (Cmd (name ∷ args)))

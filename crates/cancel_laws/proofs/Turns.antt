@@ -31,6 +31,7 @@ use Rattle.cancel_laws.proofs.KeptTurns.{AtCore, heard_kept, effect_kept, turn_k
 use Rattle.cancel_laws.proofs.Gone.{IsAway, away_kept, away_asks}
 use Rattle.cancel_laws.proofs.Bare.{bare_conn, other_acts, acts_other, bare_applied}
 use Rattle.cancel_laws.proofs.Moved.{bare_asked, bare_left, bare_late, bare_passed, bare_flushed}
+use Rattle.cancel_laws.proofs.Whole.{turn_table}
 
 -- all of a session, but for the number of its turns, for how far request p has come, and whether its verdict is wanted
 abbrev pub bare_core : ℕ → Core → Core
@@ -254,8 +255,8 @@ more_requested n t event.Shutdown l = l
 more_requested n t event.DropStream l = l
 
 -- nor does a turn
-pub more_after : (n : ℕ) (c : Core) (kind : EventKind) → is_some c.manager ≡ false → n < length c.table → n < length (next_turn c kind).core.table
-more_after n c kind plain l = subst (λ (u : Turning). n < length u.core.table) (sym (plain_turn c kind plain)) (more_requested n (heard (counted c) kind) kind l)
+pub more_after : (n : ℕ) (c : Core) (kind : EventKind) → n < length c.table → n < length (next_turn c kind).core.table
+more_after n c kind l = subst (λ (table : List (Option Pending)). n < length table) (sym (turn_table c kind)) (more_requested n (heard (counted c) kind) kind l)
 
 -- two sessions that don't come back, count no permits, and are alike but for submission n, whose message has left the queue of both
 pub record AreAlike (n p : ℕ) (c d : Core) : Type 0 where
@@ -298,8 +299,8 @@ alike_turn n p c d kind h =
       same = ap (λ (t : Turning). t.core) (turns_same n p c d kind h);
       unlimited = turn_unlimited c kind plain h.unlimited;
       unlimited_too = turn_unlimited d kind also h.unlimited_too;
-      within = more_after n c kind plain h.within;
-      within_too = more_after n d kind also h.within_too;
+      within = more_after n c kind h.within;
+      within_too = more_after n d kind h.within_too;
       gone = turn_gone n p c kind plain h.within h.gone;
       gone_too = turn_gone n p d kind also h.within_too h.gone_too;
     }

@@ -46,7 +46,7 @@ OthersKeepOutcomes =
 -- n itself gets no outcome any more, with a limit or without
 abbrev pub CancelledGetsNone : Type 0
 CancelledGetsNone =
-    (config : Config) (word draw n : ℕ) (before after : List Event) → HasOneLink config → HasStarted n (state_after config word before)
+    (config : Config) (word draw n : ℕ) (before after : List Event) → HasStarted n (state_after config word before)
     → outcome_after config word (before ++ cancel_of draw n ∷ after) n ≡ outcome_after config word before n
 
 -- without a limit the turns show the same but for n's outcome, in the same order: so each push and each
@@ -76,12 +76,12 @@ SameAreBad =
 -- it, and speaks RESP3 where it needs that, whatever came before
 abbrev pub StartsOnFreeLink : Submission → Type 0
 StartsOnFreeLink s =
-    (config : Config) (word draw : ℕ) (before : List Event) → HasOneLink config → IsFree (state_after config word before)
+    (config : Config) (word draw : ℕ) (before : List Event) → IsFree (state_after config word before)
     → (let c = (state_after config word before).single.connection in lacks_resp3 c.hears c.info.protocol s ≡ false)
     → HasStarted (length (state_after config word before).table) (state_after config word (before ++ handed_in_at draw s ∷ []))
 
--- a submission has started where it is the first that is handed in, after the link's connect, nothing of the configuration
--- is refused, no credentials are to come of a source, and nothing is to be said to the server before it
+-- a submission has started where it is the first that is handed in, after the link's connect, the session doesn't come back, nothing
+-- of the configuration is refused, no credentials are to come of a source, and nothing is to be said to the server before it
 abbrev pub StartsWhereHandedIn : Submission → Type 0
 StartsWhereHandedIn s =
     (config : Config) (word draw later : ℕ) → HasOneLink config → IsSound config → SaysNothing config
@@ -90,5 +90,5 @@ StartsWhereHandedIn s =
 -- so has one that is handed in on a link of publish/subscribe, also where a server of any other link has to speak RESP3 for it
 abbrev pub StartsWhereListening : Submission → Type 0
 StartsWhereListening s =
-    (config : Config) (word draw later : ℕ) → HasOneLink config → IsSound config → SaysNothing config → hears_messages (hearing_of config) ≡ true
+    (config : Config) (word draw later : ℕ) → IsSound config → SaysNothing config → hears_messages (hearing_of config) ≡ true
     → HasStarted 0 (handed_in_after_connect config word draw later s)

@@ -1,5 +1,5 @@
 -- What a link takes, deed by deed.
-use Rattle.std.proofs.Common.{◌≡◌, ◌⊎◌, inl, inr, ℕ, ◌+◌, false, List, [], ◌∷◌, ◌++◌, length, None, refl, sym, ap, ◌∙◌, subst}
+use Rattle.std.proofs.Common.{◌≡◌, ◌⊎◌, inl, inr, ℕ, false, List, [], ◌∷◌, ◌++◌, None, refl, sym, ap, ◌∙◌, subst}
 use Rattle.std.proofs.lemmas.List.{append-nil}
 use Rattle.containers.proofs.Choices.{chosen, not_both}
 use Rattle.driver_model.specs.declared.action.Action.{Action}
@@ -24,7 +24,7 @@ use Rattle.live_run.specs.Deeds.{Deed, did, fired, answer_of, asked, made, calls
 use Rattle.live_laws.specs.Taken.{IsNoWrote, taken, taken_by}
 use Rattle.live_laws.proofs.Agendas.{Agenda}
 use Rattle.live_run.proofs.Heard.{none_begins}
-use Rattle.live_run.proofs.Hearing.{turn_of}
+use Rattle.live_run.proofs.Hearing.{turn_of, IsNoTurn}
 use Rattle.live_laws.proofs.Taking.{action_taken, taken_of, turn_stays}
 use Rattle.live_laws.proofs.Offers.{Ties, dialled_ties, gone_ties, noted_ties, turn_ties, wrote_taken, wrote_ties}
 
