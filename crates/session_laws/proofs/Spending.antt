@@ -152,8 +152,8 @@ spent_turn before c g e is h good room used = elim (effect_holds before c h.star
           started = all.now;
           tied = subst (λ (y : List Action). Tied (book y) (inner (next_turn c e.kind).core all.now)) (sym nothing) (subst (λ (y : Core). Tied (book trace) (inner y all.now)) (sym behind) (over_tied (book trace) k all.now x over closed all.sound.tied));
           renewed = λ link ready due. absurd (
-          let no : Ended x ≡ Ready link = sym over ∙ sym (ap (λ (y : Core). y.single.connection.life) behind) ∙ ready in
-          cc);
+              let no : Ended x ≡ Ready link = sym over ∙ sym (ap (λ (y : Core). y.single.connection.life) behind) ∙ ready in
+              cc);
         }
 
     by_life : HasApplied front t h.started → (x : Life) → k.single.connection.life ≡ x → IsTied (before ++ actions_of c e) (next_turn c e.kind).core
