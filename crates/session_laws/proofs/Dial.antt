@@ -1,32 +1,28 @@
 -- The next link of a session is asked for.
-use Rattle.std.proofs.Common.{◌≡◌, ◌≢◌, inl, inr, ℕ, ◌+◌, ◌<◌, ◌≤◌, ◌==◌, Bool, true, false, List, [], ◌∷◌, ◌++◌, length, Option, Some, None, is_some, slice_get, refl, sym, ap, ◌∙◌, subst, arith}
+use Rattle.std.proofs.Common.{◌≡◌, inl, inr, ℕ, ◌+◌, ◌<◌, ◌==◌, Bool, true, false, List, [], ◌∷◌, ◌++◌, length, Option, Some, None, is_some, slice_get, refl, sym, ap, ◌∙◌, subst, arith}
 use Rattle.containers.proofs.Choices.{chosen, if_false, ne_test, not_both}
 use Rattle.driver_model.specs.declared.action.Action.TheVariants as action
 use Rattle.driver_model.specs.declared.action.Purpose.{Purpose}
-use Rattle.driver_model.specs.declared.action.SourceUse.{SourceUse}
-use Rattle.driver_model.specs.declared.action.SourceUse.TheVariants as source
 use Rattle.driver_model.specs.declared.action.WaitKind.{WaitKind}
 use Rattle.driver_model.specs.declared.action.WaitKind.TheVariants as wait
 use Rattle.driver_model.specs.declared.config.Config.{Config}
 use Rattle.driver_model.specs.Config.{first_fault}
-use Rattle.link_core.specs.Link.{LinkState}
 use Rattle.link_laws.proofs.TiedLink.{TiedLink, asked_tied}
 use Rattle.mux_conn.specs.Connection.{is_ready}
 use Rattle.mux_conn.specs.Requests.{is_waiting_at}
 use Rattle.mux_conn.specs.declared.life.Life.{Life}
 use Rattle.mux_conn.specs.declared.life.Life.TheVariants.{Resting, Dialing}
-use Rattle.mux_conn.specs.declared.request.Request.{Request}
 use Rattle.legal_trace.specs.Again.{repeats_in}
-use Rattle.legal_trace.specs.Book.{Book, entered, has_generations, hearing_in, info_in, wanted_in}
-use Rattle.legal_trace.specs.Ledger.{Ledger, Line, Start, asks, noted, noted_each, setup_count}
+use Rattle.legal_trace.specs.Book.{Book, entered, hearing_in, info_in, wanted_in}
+use Rattle.legal_trace.specs.Ledger.{Line, Start, asks, noted, noted_each, setup_count}
 use Rattle.legal_trace.specs.Legal.{IsTimed}
 use Rattle.legal_trace.specs.Managers.{is_last, settings_in}
 use Rattle.session_laws.proofs.Ahead.{waiting_open}
-use Rattle.session_laws.proofs.Kept.{TiedBy, mine_noted, tied_by}
+use Rattle.session_laws.proofs.Kept.{mine_noted, tied_by}
 use Rattle.session_laws.proofs.Numbers.{IsIn, Rising, requests_in, rising_right}
 use Rattle.session_laws.proofs.Rounded.{rounds_down}
 use Rattle.session_laws.proofs.Server.{AreSought, HasSaid, NoneRenewed, TiedRenewal, owners_of, setup_owners}
-use Rattle.session_laws.proofs.Tied.{AreAimed, AreAside, AreQueued, HasCourse, IsAside, IsUse, Inner, Tied, TiedLife, TiedLines, TiedRounds, carried, has_ended, is_begun, link_in, no_link, owner_of, owners_each, waiting_ids, whole_link}
+use Rattle.session_laws.proofs.Tied.{AreAimed, AreQueued, HasCourse, IsAside, IsUse, Inner, Tied, TiedLife, TiedLines, carried, has_ended, is_begun, link_in, no_link, owner_of, owners_each, waiting_ids, whole_link}
 use Rattle.session_laws.proofs.Unrepeated.{sound_repeats_not}
 
 -- the line that its connect is

@@ -1,5 +1,5 @@
 -- A session that waits for its first submission: nothing is asked of its connection until that comes.
-use Rattle.std.proofs.Common.{◌≡◌, ◌≢◌, ◌⊎◌, inl, inr, ℕ, zero, ◌+◌, ◌-◌, ◌==◌, Bool, true, false, ◌&&◌, ◌||◌, not, List, [], ◌∷◌, ◌++◌, length, length-append, Option, Some, None, slice_get, unwrap_or, if◌then◌else◌, refl, sym, ap, ◌∙◌, subst, arith}
+use Rattle.std.proofs.Common.{◌≡◌, ◌≢◌, ◌⊎◌, inl, inr, ℕ, ◌-◌, ◌==◌, true, false, ◌&&◌, List, [], ◌∷◌, ◌++◌, length, length-append, Option, Some, None, slice_get, unwrap_or, refl, sym, ap, ◌∙◌, subst, arith}
 use Rattle.containers.proofs.Choices.{chosen, left_if, not_both, or_right}
 use Rattle.redis_error.specs.declared.redis_error.RedisError.{RedisError}
 use Rattle.redis_error.specs.declared.redis_error.RedisError.TheVariants as error
@@ -16,7 +16,7 @@ use Rattle.driver_model.specs.Kind.{has_timeouts}
 use Rattle.driver_model.specs.News.{News, silence, connected, refused, overdue, took, came, failed, authorized, denied, deserted, renewed, unrenewed, late, unrepeated, dropped, news_of, shut as down}
 use Rattle.driver_model.specs.Request.{packed_bytes, shape_of, is_reply_awaited, lacks_resp3}
 use Rattle.mux_conn.specs.Connection.{Work, is_ready}
-use Rattle.mux_conn.specs.Effects.{applied, connected_at, dropped_at, failed_at, authorized_at, unauthorized_at, left, overdue_at, read_at, refused_at, taken_at, timed_out, cancelled_in}
+use Rattle.mux_conn.specs.Effects.{applied, connected_at, dropped_at, failed_at, authorized_at, unauthorized_at, overdue_at, read_at, refused_at, taken_at, timed_out}
 use Rattle.mux_conn.specs.Renewals.{is_unanswered, none_follow, takes_more}
 use Rattle.mux_conn.specs.Requests.{answered, is_open, is_open_at, waiting_of}
 use Rattle.mux_conn.specs.declared.connection.MultiplexedConnection.{MultiplexedConnection}
@@ -29,12 +29,12 @@ use Rattle.mux_conn.specs.declared.request.Request.{Request}
 use Rattle.mux_conn.specs.declared.request.Waiting.{Waiting}
 use Rattle.shared_session.specs.declared.core_state.Core.{Core}
 use Rattle.shared_session.specs.Generations.{creation_fails}
-use Rattle.shared_session.specs.Turn.{Turning, asked_for, counted, effect, fired_by, heard, late_by, left_by, pending, refused_with, shut_by, submitted, timed_by, turning_with, with_work, work_of}
+use Rattle.shared_session.specs.Turn.{Turning, asked_for, counted, effect, fired_by, heard, late_by, left_by, pending, refused_with, shut_by, submitted, turning_with, with_work, work_of}
 use Rattle.legal_trace.specs.Book.{Book, shuts}
 use Rattle.legal_trace.specs.Story.{is_open as is_story_open}
 use Rattle.legal_trace.proofs.Plain.{last_item}
 use Rattle.session_laws.proofs.Judge.{news_not_shut}
-use Rattle.session_laws.proofs.Tied.{IsRequest, Tied, TiedStory, inner, waiting_ids}
+use Rattle.session_laws.proofs.Tied.{Tied, TiedStory, inner, waiting_ids}
 
 -- nothing was asked of the connection, and it has no link
 pub record IsIdle (c : MultiplexedConnection) : Type 0 where

@@ -1,7 +1,7 @@
 -- A generation begins: of the link before it nothing stays, and the session goes to its next one.
-use Rattle.std.proofs.Common.{◌≡◌, ◌≢◌, ◌⊎◌, inl, inr, ℕ, zero, suc, ◌+◌, ◌^◌, ◌<◌, ◌≤◌, ◌==◌, Bool, true, false, List, [], ◌∷◌, ◌++◌, length, Option, Some, None, is_some, slice_get, if◌then◌else◌, refl, sym, ap, ◌∙◌, subst, arith}
+use Rattle.std.proofs.Common.{◌≡◌, ◌≢◌, inl, inr, ℕ, ◌+◌, ◌^◌, ◌<◌, ◌==◌, true, false, [], length, Option, Some, None, is_some, slice_get, refl, sym, ap, ◌∙◌, subst, arith}
 use Rattle.std.specs.List.{AllByRecursion}
-use Rattle.std.specs.Prelude.{option_map, unwrap_or, not, ◌&&◌}
+use Rattle.std.specs.Prelude.{option_map, unwrap_or}
 use Rattle.containers.proofs.Choices.{by_test, eq_from, left_if, ne_from, ne_test, not_both}
 use Rattle.redis_error.specs.declared.redis_error.RedisError.{RedisError}
 use Rattle.driver_model.specs.declared.action.Action.TheVariants as action
@@ -11,22 +11,18 @@ use Rattle.driver_model.specs.Hearing.{hears_pushes, hears_something}
 use Rattle.link_laws.proofs.TiedLink.{TiedLink}
 use Rattle.mux_conn.specs.Connection.{is_ready}
 use Rattle.mux_conn.specs.Renewals.{no_renewal}
-use Rattle.mux_conn.specs.Requests.{is_admitted_at, is_open_at, is_placed_at, is_unbegun_at, is_waiting_at, name_at, permits_at}
+use Rattle.mux_conn.specs.Requests.{is_admitted_at, is_open_at, is_waiting_at}
 use Rattle.mux_conn.specs.declared.life.Life.{Life}
 use Rattle.mux_conn.specs.declared.life.Life.TheVariants.{Resting, Ended}
-use Rattle.mux_conn.specs.declared.renewal.Renewal.{Renewal}
 use Rattle.mux_conn.specs.declared.request.Pending.{Pending}
-use Rattle.mux_conn.specs.declared.request.Request.{Request}
 use Rattle.shared_session.specs.declared.generations.Generations.{Generations}
 use Rattle.shared_session.specs.Generations.{begun_with}
-use Rattle.legal_trace.specs.Ledger.{Ledger, End, blank_ledger, is_over, renewals_asked, renewal_count}
-use Rattle.legal_trace.specs.Book.{Book, entered, has_generations, hearing_in}
+use Rattle.legal_trace.specs.Ledger.{End, renewals_asked, renewal_count}
+use Rattle.legal_trace.specs.Book.{Book, entered, has_generations}
 use Rattle.legal_trace.specs.Owed.{owed_unstarted}
-use Rattle.legal_trace.specs.Steps.{permits_held, permits_on}
-use Rattle.legal_trace.specs.Story.{Story, is_told}
 use Rattle.session_laws.proofs.Ahead.{admitted_open, placed_open, waiting_open}
 use Rattle.session_laws.proofs.Going.{undue_asked}
-use Rattle.session_laws.proofs.Numbers.{IsIn, Rising}
+use Rattle.session_laws.proofs.Numbers.{Rising}
 use Rattle.session_laws.proofs.Owes.{ends_told, notices_told}
 use Rattle.session_laws.proofs.Renewals.{down_renewed_due}
 use Rattle.session_laws.proofs.Reopen.{ArePast, HasNoLink, aim_later, at_rest, none_held, use_later}

@@ -1,42 +1,37 @@
 -- Behind the passes of a turn the session and the book of its trace see the same causes for the next generation.
-use Rattle.std.proofs.Common.{◌≡◌, ◌≢◌, ◌⊎◌, inl, inr, ℕ, ◌+◌, ◌-◌, ◌<◌, ◌≤◌, ◌==◌, Bool, true, false, ◌&&◌, ◌||◌, not, List, [], ◌∷◌, ◌++◌, length, take, Option, Some, None, is_some, slice_get, if◌then◌else◌, refl, sym, ap, ◌∙◌, subst, append_assoc, arith}
-use Rattle.std.specs.List.{list_any}
-use Rattle.containers.proofs.Choices.{by_test, chosen, eq_test, ne_test, not_both, or_left, or_right}
+use Rattle.std.proofs.Common.{◌≡◌, ◌≢◌, ℕ, ◌+◌, ◌-◌, ◌==◌, Bool, true, false, ◌&&◌, ◌||◌, not, List, [], ◌∷◌, ◌++◌, length, take, Option, Some, None, is_some, slice_get, refl, sym, ap, ◌∙◌, subst, arith}
+use Rattle.containers.proofs.Choices.{by_test, chosen, eq_test, ne_test, not_both, or_right}
 use Rattle.connection_info.specs.Protocol.{is_resp3}
 use Rattle.redis_error.specs.declared.redis_error.RedisError.{RedisError}
 use Rattle.redis_error.specs.declared.redis_error.RedisError.TheVariants as error
 use Rattle.driver_model.specs.declared.action.Action.{Action}
-use Rattle.driver_model.specs.declared.action.Owner.TheVariants as owner
 use Rattle.driver_model.specs.declared.action.Purpose.{Purpose}
 use Rattle.driver_model.specs.declared.action.Purpose.TheVariants as purpose
 use Rattle.driver_model.specs.declared.action.SourceUse.{SourceUse}
-use Rattle.driver_model.specs.declared.action.SourceUse.TheVariants as source
 use Rattle.driver_model.specs.declared.event.EventKind.{EventKind}
 use Rattle.driver_model.specs.declared.event.EventKind.TheVariants as event
 use Rattle.driver_model.specs.declared.outcome.Outcome.TheVariants as outcome
 use Rattle.driver_model.specs.News.{News, authorized, came, connected, denied, deserted, dropped, failed, late, overdue, refused, renewed, took, unrenewed, unrepeated, for_link, is_source_of, news_of, of_source, of_timer, renews, silence, shut as down}
-use Rattle.mux_conn.specs.Connection.{Work}
 use Rattle.mux_conn.specs.declared.act.LinkAct.{LinkAct}
 use Rattle.mux_conn.specs.declared.life.Life.{Life}
 use Rattle.mux_conn.specs.declared.life.Life.TheVariants.{Resting, Dialing, Wanting, SettingUp, Ready, Ended}
 use Rattle.shared_session.specs.declared.core_state.Core.{Core}
 use Rattle.shared_session.specs.Generations as machine
 use Rattle.shared_session.specs.Turn.{shown_each}
-use Rattle.legal_trace.specs.Book.{Book, blank_book, book, entered, entered_each, info_in, rest_after, shuts}
+use Rattle.legal_trace.specs.Book.{Book, blank_book, book, entered, entered_each, shuts}
 use Rattle.legal_trace.specs.Ledger.{End, Ending, Ledger, authorized_by, awaits_credentials, bytes_came, dials, is_renewal_open, is_repeating, lost_by, may_renew, refused_in, renewed_by, unrenewed_by, unrepeated_by, with_news, by_attempt, by_fault, by_opening, by_shutdown, failure_in, failure_of, hears, is_fault, is_over, noted}
-use Rattle.legal_trace.specs.Legal.{AllStand, current_link, is_by_attempt, is_caused}
+use Rattle.legal_trace.specs.Legal.{AllStand, current_link, is_caused}
 use Rattle.legal_trace.specs.Owed.{owed_by, owed_unstarted}
 use Rattle.legal_trace.proofs.Ledgers.{dials_from}
 use Rattle.legal_trace.proofs.Plain.{same_some}
 use Rattle.session_laws.proofs.Announce.{turn_of}
-use Rattle.session_laws.proofs.Causes.{AreAdded, IsJudged, acts_add, acts_end, acts_hear, acts_stay, caused_is, faults_of}
+use Rattle.session_laws.proofs.Causes.{AreAdded, acts_add, acts_end, acts_stay, caused_is}
 use Rattle.session_laws.proofs.Entered.{all_stand_behind, book-append, book_more}
 use Rattle.session_laws.proofs.Lost.{IsEndOf, IsNewEnd, IsOldEnd, is_shut_down, new_heard}
 use Rattle.session_laws.proofs.Owes.{lives}
 use Rattle.session_laws.proofs.Past.{ends_before}
-use Rattle.session_laws.proofs.Settle.{seen, trace_of_acts}
 use Rattle.session_laws.proofs.States.{Between}
-use Rattle.session_laws.proofs.Tied.{HasCourse, Inner, IsOver, Sound, Tied, TiedLife, has_ended, inner}
+use Rattle.session_laws.proofs.Tied.{HasCourse, Inner, IsOver, Tied, TiedLife, has_ended}
 
 -- no shutdown is heard
 --

@@ -1,6 +1,6 @@
 -- How a link ends in a turn that doesn't shut everything down: in that turn, and where a fault ends it, it took requests until then.
-use Rattle.std.proofs.Common.{◌≡◌, ◌≢◌, ◌⊎◌, inl, inr, ℕ, ◌-◌, ◌==◌, Bool, true, false, ◌&&◌, ◌||◌, not, List, [], ◌∷◌, Option, Some, None, is_some, refl, sym, ◌∙◌, ap, subst, if◌then◌else◌, ◌+◌, length}
-use Rattle.containers.proofs.Choices.{by_test, chosen, eq_test, not_both}
+use Rattle.std.proofs.Common.{◌≡◌, ◌≢◌, ◌⊎◌, inl, inr, ℕ, ◌-◌, ◌==◌, Bool, true, false, ◌&&◌, ◌||◌, not, List, [], Option, Some, None, is_some, refl, sym, ◌∙◌, ap, subst, if◌then◌else◌}
+use Rattle.containers.proofs.Choices.{chosen}
 use Rattle.redis_error.specs.declared.fault_kind.FaultKind.TheVariants as kind
 use Rattle.redis_error.specs.declared.redis_error.RedisError.{RedisError}
 use Rattle.redis_error.specs.declared.redis_error.RedisError.TheVariants as error
@@ -13,7 +13,7 @@ use Rattle.mux_conn.specs.declared.act.LinkAct.{LinkAct}
 use Rattle.mux_conn.specs.declared.act.LinkAct.TheVariants as act
 use Rattle.shared_session.specs.Turn.{shown}
 use Rattle.legal_trace.specs.Ledger.{Ledger, End, Ending, Start, by_shutdown, by_fault, by_opening, by_attempt, begins, offers, tells, sources, times, parts, ends, ending, ending_up, ending_unready, ending_asked, ending_alive, ending_by, ending_or_shutdown, error_in, is_answered, again_of, is_fault, is_over, is_ready, is_served, is_set_up, is_unreadable, lacks_credentials, lasting, noted, setup_result, opening_error, authorized_by, awaits_credentials, bytes_came, dials, hears, is_renewal_open, is_repeating, lost_by, may_renew, refused_in, renewed_by, unrenewed_by, unrepeated_by, with_news}
-use Rattle.legal_trace.specs.Book.{Book, entered, if_mine, push_line}
+use Rattle.legal_trace.specs.Book.{Book, entered, push_line}
 use Rattle.legal_trace.specs.Legal.{MayClose, MayStand}
 use Rattle.legal_trace.proofs.Came.{holds_bytes}
 use Rattle.legal_trace.proofs.Endings.{lasting_is_fault}

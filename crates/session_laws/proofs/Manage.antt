@@ -1,14 +1,12 @@
 -- What a manager does of its own behind the passes of a turn.
 use Rattle.std.proofs.Common.{◌≡◌, ◌≢◌, ◌⊎◌, inl, inr, ℕ, ◌+◌, ◌-◌, ◌^◌, ◌<◌, ◌≤◌, ◌==◌, nat_le, nat_lt, Bool, true, false, ◌&&◌, ◌||◌, not, List, [], ◌∷◌, ◌++◌, length, Option, Some, None, is_none, is_some, slice_get, if◌then◌else◌, refl, sym, ap, ◌∙◌, subst, append_assoc, arith}
-use Rattle.std.specs.Prelude.{option_map, unwrap_or}
+use Rattle.std.specs.Prelude.{unwrap_or}
 use Rattle.std.proofs.lemmas.List.{append-nil}
 use Rattle.std.proofs.lemmas.Bool.{not-true}
 use Rattle.containers.proofs.Choices.{both_left, both_right, by_test, chosen, eq_from, eq_test, left_if, lt_from, ne_from, ne_test, not_both, not_le_from, or_left, or_right, taken_if}
-use Rattle.connection_info.specs.Protocol.{is_resp3}
 use Rattle.redis_error.specs.declared.redis_error.RedisError.{RedisError}
 use Rattle.driver_model.specs.declared.action.Action.{Action}
 use Rattle.driver_model.specs.declared.action.Action.TheVariants as action
-use Rattle.driver_model.specs.declared.action.Owner.TheVariants as owner
 use Rattle.driver_model.specs.declared.action.Purpose.{Purpose}
 use Rattle.driver_model.specs.declared.action.Purpose.TheVariants as purpose
 use Rattle.driver_model.specs.declared.action.SourceUse.{SourceUse}
@@ -16,8 +14,7 @@ use Rattle.driver_model.specs.declared.action.SourceUse.TheVariants as source
 use Rattle.driver_model.specs.declared.event.EventKind.{EventKind}
 use Rattle.driver_model.specs.declared.event.EventKind.TheVariants as event
 use Rattle.driver_model.specs.declared.event.Submission.{Submission}
-use Rattle.driver_model.specs.News.{News, dropped, for_link, is_source_of, news_of, of_source, of_timer, renews, silence}
-use Rattle.link_core.specs.Link.{LinkState}
+use Rattle.driver_model.specs.News.{News, for_link, news_of, of_source, of_timer, silence}
 use Rattle.mux_conn.specs.Connection.{in_front, is_resting, is_spent_in, is_used_up}
 use Rattle.mux_conn.specs.Requests.{is_open_at}
 use Rattle.mux_conn.specs.declared.act.LinkAct.{LinkAct}
@@ -38,7 +35,7 @@ use Rattle.legal_trace.specs.Ledger.{End}
 use Rattle.legal_trace.specs.Legal.{NoneEnds, begins_first, current_link, generation_due, is_caused, link_due}
 use Rattle.session_laws.proofs.Ahead.{HasSeats}
 use Rattle.session_laws.proofs.Causes.{acts_hear}
-use Rattle.session_laws.proofs.Comes.{NoneComes, has_begun, has_links, live_comes}
+use Rattle.session_laws.proofs.Comes.{NoneComes, has_begun, has_links}
 use Rattle.session_laws.proofs.Generate.{begun_in, first_begins, over_begins}
 use Rattle.session_laws.proofs.Going.{shown_over, shown_resting}
 use Rattle.session_laws.proofs.InLine.{kept_ids}
@@ -46,8 +43,8 @@ use Rattle.session_laws.proofs.Judge.{HasActed, IsActed, acted_adds, judged, run
 use Rattle.session_laws.proofs.Numbers.{IsIn}
 use Rattle.session_laws.proofs.Owes.{is_asked, open_request}
 use Rattle.session_laws.proofs.Past.{is_past, rest_timed, unended_over}
-use Rattle.session_laws.proofs.Regenerate.{IsHarmless, IsResting, manager_is, rests_generated}
-use Rattle.session_laws.proofs.Reopen.{at_rest, rest_tied}
+use Rattle.session_laws.proofs.Regenerate.{IsHarmless, manager_is}
+use Rattle.session_laws.proofs.Reopen.{rest_tied}
 use Rattle.session_laws.proofs.Return.{HasReturned, at_next, begins_returned, dials_returned}
 use Rattle.session_laws.proofs.States.{Between, IsFitIn, IsHushed, IsStill}
 use Rattle.session_laws.proofs.Server.{HasSaid}

@@ -1,5 +1,5 @@
 -- Submissions go to the current link, or went to one before it, in any trace whose actions may stand.
-use Rattle.std.proofs.Common.{◌≡◌, ◌≢◌, inl, inr, ℕ, ◌+◌, ◌-◌, ◌<◌, ◌≤◌, ◌==◌, nat_lt, Bool, true, false, ◌&&◌, ◌||◌, not, List, [], ◌∷◌, ◌++◌, length, Option, Some, None, is_none, is_some, slice_get, take, if◌then◌else◌, refl, sym, ap, ◌∙◌, subst, arith}
+use Rattle.std.proofs.Common.{◌≡◌, ◌≢◌, inl, inr, ℕ, ◌+◌, ◌-◌, ◌≤◌, ◌==◌, nat_lt, Bool, true, false, ◌&&◌, ◌||◌, not, List, [], ◌∷◌, ◌++◌, length, Option, Some, None, is_none, is_some, slice_get, take, if◌then◌else◌, refl, sym, ap, ◌∙◌, subst, arith}
 use Rattle.std.proofs.Math.Nat.{le_refl}
 use Rattle.containers.proofs.Choices.{both_left, by_test, chosen, lt_from, not_both, taken_if}
 use Rattle.driver_model.specs.declared.action.Action.{Action}
@@ -17,7 +17,7 @@ use Rattle.driver_model.specs.News.{News, silence, connected, refused, overdue, 
 use Rattle.driver_model.specs.Push.{is_disconnection}
 use Rattle.legal_trace.specs.Ledger.{Ledger, Line, End, asks, authorized_by, awaits_credentials, begins, bytes_came, dials, ends, hears, is_over, is_renewal_open, is_repeating, lost_by, may_renew, noted, noted_each, offers, parts, refused_in, renewed_by, repeats_timed, sources, tells, times, unrenewed_by, unrepeated_by, with_news}
 use Rattle.legal_trace.specs.Story.{Story, answered, carried, clocked, fires, holds, is_open, left, rounds, tried, waits}
-use Rattle.legal_trace.specs.Book.{Book, after_event, after_timer, blank_book, book, entered, entered_each, has_generations, if_mine, if_own, is_clock_of, lines_of, push_line, rest_after}
+use Rattle.legal_trace.specs.Book.{Book, after_event, blank_book, book, entered, entered_each, has_generations, if_mine, if_own, is_clock_of, lines_of, push_line, rest_after}
 use Rattle.legal_trace.specs.Legal.{AllStand, MayStand, MayTimer, current_link, link_due}
 use Rattle.legal_trace.proofs.Clocks.{timer_tells}
 use Rattle.legal_trace.proofs.Ledgers.{each_keeps, mine_keeps}

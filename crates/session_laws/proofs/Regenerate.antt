@@ -1,6 +1,6 @@
 -- What a manager does of its own may stand, and the session stays tied to its book.
-use Rattle.std.proofs.Common.{◌≡◌, ◌≢◌, ◌⊎◌, inl, inr, ℕ, ◌+◌, ◌<◌, ◌==◌, nat_lt, Bool, true, false, ◌&&◌, ◌||◌, not, List, [], ◌∷◌, ◌++◌, length, Option, Some, None, is_none, is_some, slice_get, if◌then◌else◌, refl, sym, ap, ◌∙◌, subst, append_assoc, arith}
-use Rattle.std.specs.Prelude.{option_map, unwrap_or}
+use Rattle.std.proofs.Common.{◌≡◌, ◌≢◌, ◌⊎◌, inl, inr, ℕ, ◌+◌, ◌==◌, nat_lt, Bool, true, false, ◌&&◌, not, List, [], ◌∷◌, ◌++◌, length, Option, Some, None, is_none, is_some, if◌then◌else◌, refl, sym, ap, ◌∙◌, subst, append_assoc, arith}
+use Rattle.std.specs.Prelude.{unwrap_or}
 use Rattle.std.proofs.lemmas.List.{append-nil}
 use Rattle.std.proofs.Math.Nat.{le_refl}
 use Rattle.containers.proofs.Choices.{chosen, eq_from, left_if, ne_test, not_both, taken_if}
@@ -20,27 +20,25 @@ use Rattle.driver_model.specs.declared.config.Config.TheVariants as variant
 use Rattle.driver_model.specs.declared.kind.SessionKind.TheVariants as kind
 use Rattle.driver_model.specs.Config.{connect_timeout, hearing_of, manager_of}
 use Rattle.driver_model.specs.Config.{hearing_in as hearing_for}
-use Rattle.mux_conn.specs.Connection.{is_resting}
-use Rattle.mux_conn.specs.declared.life.Life.{Life}
-use Rattle.mux_conn.specs.declared.life.Life.TheVariants.{Resting, Dialing}
+use Rattle.mux_conn.specs.declared.life.Life.TheVariants.{Resting}
 use Rattle.shared_session.specs.declared.generations.Generations.{Generations}
 use Rattle.shared_session.specs.Generations.{connect_purposes, connect_timed, is_last}
 use Rattle.legal_trace.specs.Again.{repeats_in}
 use Rattle.legal_trace.specs.Book.{Book, blank_book, book, entered, has_generations, hearing_in, info_in, wanted_in}
 use Rattle.legal_trace.specs.Ledger.{Ending, Ledger, Line, asks, by_opening, ending, ending_alive, ending_asked, is_over, noted, noted_each}
-use Rattle.legal_trace.specs.Legal.{AllStand, IsApplied, IsShown, IsTimed, MayConnect, MayGenerate, MayRest, MayStand, MayTimeConnect, NoneEnds, begins_first, current_link, generation_due, is_attempt, is_caused, link_due, rest_due, word_of}
+use Rattle.legal_trace.specs.Legal.{AllStand, IsApplied, IsShown, IsTimed, MayConnect, MayGenerate, MayRest, MayStand, MayTimeConnect, NoneEnds, begins_first, current_link, generation_due, is_attempt, is_caused, link_due, word_of}
 use Rattle.legal_trace.specs.Managers.{settings_in}
 use Rattle.legal_trace.specs.Managers.{is_last as last_in}
 use Rattle.legal_trace.proofs.Moves.{lt_test}
-use Rattle.session_laws.proofs.Comes.{NoneComes, live_comes, none_caused, none_rests}
+use Rattle.session_laws.proofs.Comes.{NoneComes, none_caused, none_rests}
 use Rattle.session_laws.proofs.Dial.{CanDial, asks_line, dialled_book, dialled_in, dials_tied}
-use Rattle.session_laws.proofs.Entered.{all_stand-append, book_more, book-append, sound_more}
+use Rattle.session_laws.proofs.Entered.{all_stand-append, book_more, sound_more}
 use Rattle.session_laws.proofs.Generate.{begun_in}
 use Rattle.session_laws.proofs.Going.{applied_up, shown_resting}
 use Rattle.session_laws.proofs.Names.{get_more}
 use Rattle.session_laws.proofs.Past.{is_past, unended_over}
 use Rattle.session_laws.proofs.Reopen.{at_rest, rest_tied, rested_in, rests_tied}
-use Rattle.session_laws.proofs.Tied.{AreAimed, ComesBack, HasCourse, Inner, IsAim, IsRetiring, IsToldIn, Sound, Tied, TiedCourse, TiedLife, TiedManager, has_ended, is_begun}
+use Rattle.session_laws.proofs.Tied.{AreAimed, ComesBack, HasCourse, Inner, IsAim, IsRetiring, IsToldIn, Sound, Tied, TiedLife, TiedManager, has_ended, is_begun}
 
 -- a session whose generations are these
 --

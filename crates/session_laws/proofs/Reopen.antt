@@ -1,8 +1,7 @@
 -- A session goes to its next link, which isn't asked for yet: of the link before it nothing stays but those that wait.
-use Rattle.std.proofs.Common.{◌≡◌, ◌≢◌, ◌⊎◌, inl, inr, ℕ, zero, suc, ◌+◌, ◌<◌, ◌≤◌, ◌==◌, Bool, true, false, List, [], ◌∷◌, ◌++◌, length, Option, Some, None, is_some, slice_get, if◌then◌else◌, refl, sym, ap, ◌∙◌, subst, arith}
+use Rattle.std.proofs.Common.{◌≡◌, inl, inr, ℕ, zero, suc, ◌+◌, ◌<◌, ◌≤◌, ◌==◌, Bool, true, false, List, [], ◌∷◌, ◌++◌, length, Option, Some, None, is_some, slice_get, if◌then◌else◌, refl, sym, ap, ◌∙◌, subst, arith}
 use Rattle.std.specs.Prelude.{option_map, unwrap_or, not, ◌&&◌}
-use Rattle.std.specs.List.{AllByRecursion}
-use Rattle.containers.proofs.Choices.{both_right, by_test, chosen, eq_from, left_if, ne_from, ne_test, not_both, taken_if}
+use Rattle.containers.proofs.Choices.{both_right, by_test, chosen, eq_from, left_if, ne_from, ne_test, not_both}
 use Rattle.driver_model.specs.declared.action.Action.TheVariants as action
 use Rattle.driver_model.specs.declared.action.Owner.TheVariants as owner
 use Rattle.driver_model.specs.declared.config.Config.{Config}
@@ -12,30 +11,25 @@ use Rattle.driver_model.specs.declared.action.Purpose.{Purpose}
 use Rattle.driver_model.specs.declared.action.Purpose.TheVariants as purpose
 use Rattle.driver_model.specs.declared.action.SourceUse.{SourceUse}
 use Rattle.driver_model.specs.declared.action.SourceUse.TheVariants as source
-use Rattle.driver_model.specs.declared.action.WaitKind.TheVariants as wait
-use Rattle.link_core.specs.Link.{LinkState}
 use Rattle.link_laws.proofs.TiedLink.{TiedLink, fresh_tied}
-use Rattle.mux_conn.specs.Renewals.{no_renewal}
 use Rattle.mux_conn.specs.Requests.{is_admitted_at, is_open_at, is_placed_at, is_unbegun_at, is_waiting_at, name_at, permits_at}
-use Rattle.mux_conn.specs.declared.life.Life.TheVariants.{Resting, Ended}
-use Rattle.mux_conn.specs.declared.renewal.Renewal.{Renewal}
+use Rattle.mux_conn.specs.declared.life.Life.TheVariants.{Resting}
 use Rattle.mux_conn.specs.declared.request.Pending.{Pending}
 use Rattle.mux_conn.specs.declared.request.Request.{Request}
-use Rattle.mux_conn.specs.declared.request.Waiting.{Waiting}
 use Rattle.shared_session.specs.declared.generations.Generations.{Generations}
-use Rattle.shared_session.specs.Generations.{begun_with, failed_behind}
-use Rattle.legal_trace.specs.Ledger.{Ledger, Start, blank_ledger}
-use Rattle.legal_trace.specs.Story.{Story, blank_story, carried, is_awaited, is_no_error, is_open, is_told, packed_in}
+use Rattle.shared_session.specs.Generations.{failed_behind}
+use Rattle.legal_trace.specs.Ledger.{Ledger, blank_ledger}
+use Rattle.legal_trace.specs.Story.{Story, carried, is_awaited, is_no_error, is_open, is_told, packed_in}
 use Rattle.legal_trace.specs.Book.{Book, entered, has_generations, hearing_in, if_own}
 use Rattle.legal_trace.specs.Steps.{permits_held, permits_on}
 use Rattle.session_laws.proofs.Ahead.{admitted_open, placed_open, waiting_open}
 use Rattle.session_laws.proofs.Kept.{packed_same}
-use Rattle.session_laws.proofs.Names.{get_more, name_placed, open_within, there_within}
-use Rattle.session_laws.proofs.Numbers.{IsIn, Rising, rising_right}
+use Rattle.session_laws.proofs.Names.{get_more, name_placed, open_within}
+use Rattle.session_laws.proofs.Numbers.{IsIn, Rising}
 use Rattle.session_laws.proofs.Owes.{answered_closed}
 use Rattle.session_laws.proofs.Rounded.{admitted_begun, placed_begun, unbegun_waits}
 use Rattle.session_laws.proofs.Server.{NoneRenewed, TiedCreds, TiedSetup}
-use Rattle.session_laws.proofs.Tied.{AreAimed, AreAside, AreCalm, AreLate, AreUses, ComesBack, Inner, IsAim, IsAside, IsRefused, IsRequest, IsRetiring, IsUnknown, IsUse, StaysCalm, Tied, TiedCreation, TiedLines, TiedLife, TiedManager, TiedNames, TiedNotices, TiedNumbers, TiedTries, TiedPermits, TiedRounds, TiedStory, TiedWaits, no_link, owner_of, is_reading, shown_wait, waiting_ids}
+use Rattle.session_laws.proofs.Tied.{AreAside, AreCalm, AreLate, AreUses, Inner, IsAim, IsAside, IsRefused, IsRequest, IsRetiring, IsUnknown, IsUse, Tied, TiedCreation, TiedLines, TiedLife, TiedManager, TiedNames, TiedNotices, TiedNumbers, TiedTries, TiedPermits, TiedRounds, TiedStory, TiedWaits, no_link, owner_of, is_reading, waiting_ids}
 
 -- a session without a link
 --

@@ -1,19 +1,13 @@
 -- What a manager has done of its own leaves the session as it is behind the passes of a turn.
-use Rattle.std.proofs.Common.{◌≡◌, ◌≢◌, ◌⊎◌, inl, inr, ℕ, ◌+◌, ◌==◌, Bool, true, false, ◌&&◌, ◌||◌, not, List, [], ◌∷◌, ◌++◌, length, Option, Some, None, is_some, if◌then◌else◌, refl, sym, ap, ◌∙◌, subst, arith}
-use Rattle.std.specs.Prelude.{option_map, unwrap_or}
-use Rattle.std.proofs.lemmas.List.{append-nil}
-use Rattle.containers.proofs.Choices.{by_test, not_both}
+use Rattle.std.proofs.Common.{◌≡◌, ◌≢◌, ℕ, ◌+◌, true, false, List, [], ◌∷◌, ◌++◌, length, Option, Some, None, is_some, refl, sym, ap, ◌∙◌, subst, arith}
+use Rattle.std.specs.Prelude.{option_map}
+use Rattle.containers.proofs.Choices.{not_both}
 use Rattle.manager_config.specs.Backoff.{backoff}
 use Rattle.driver_model.specs.declared.action.Action.{Action}
 use Rattle.driver_model.specs.declared.action.Action.TheVariants as action
-use Rattle.driver_model.specs.declared.action.Purpose.{Purpose}
 use Rattle.driver_model.specs.declared.action.Purpose.TheVariants as purpose
-use Rattle.driver_model.specs.declared.action.SourceUse.{SourceUse}
-use Rattle.link_core.specs.Link.{LinkState}
 use Rattle.mux_conn.specs.Connection.{in_front, is_ready}
-use Rattle.mux_conn.specs.declared.life.Life.{Life}
-use Rattle.mux_conn.specs.declared.life.Life.TheVariants.{Resting, Dialing, Wanting, SettingUp, Ready, Ended}
-use Rattle.mux_conn.specs.declared.request.Waiting.{Waiting}
+use Rattle.mux_conn.specs.declared.life.Life.TheVariants.{Resting, Dialing, Wanting, SettingUp, Ready}
 use Rattle.shared_session.specs.declared.core_state.Core.{Core}
 use Rattle.shared_session.specs.declared.generations.Generations.{Generations}
 use Rattle.shared_session.specs.Generations.{begun, begun_with, bound_of, connect_purposes, connect_timed, dialling, failed_behind, is_last_of, rested}
@@ -29,7 +23,7 @@ use Rattle.session_laws.proofs.Numbers.{IsIn}
 use Rattle.session_laws.proofs.Regenerate.{IsHarmless, IsResting, dials_on, generates_on, manager_is, rests_comes, rests_on}
 use Rattle.session_laws.proofs.Reopen.{at_rest, rested_in}
 use Rattle.session_laws.proofs.States.{IsFitIn, IsHushed, IsStill}
-use Rattle.session_laws.proofs.Tied.{ComesBack, HasCourse, HasHeeded, Inner, IsHeeded, IsRetiring, Sound, Tied, has_ended, inner, link_in, waiting_ids}
+use Rattle.session_laws.proofs.Tied.{ComesBack, IsHeeded, IsRetiring, Sound, Tied, has_ended, inner, link_in}
 
 -- all that a turn does is shown but bytes and waits
 pub record HasReturned (trace : List Action) (c : Core) : Type 0 where

@@ -1,5 +1,5 @@
 -- When numbers run out.
-use Rattle.std.proofs.Common.{Bool, List, [], None, ap, arith, false, inl, inr, length, nat_le, refl, subst, sym, true, ℕ, ◌++◌, ◌+◌, ◌<◌, ◌∙◌, ◌∷◌, ◌≡◌, ◌≤◌, ◌⊎◌, Option, is_some, if◌then◌else◌}
+use Rattle.std.proofs.Common.{Bool, List, [], ap, arith, false, inl, inr, length, nat_le, refl, subst, sym, true, ℕ, ◌++◌, ◌+◌, ◌<◌, ◌∙◌, ◌∷◌, ◌≡◌, ◌≤◌, ◌⊎◌, Option, is_some, if◌then◌else◌}
 use Rattle.std.specs.Prelude.{◌==◌, ◌^◌, ◌||◌}
 use Rattle.std.proofs.lemmas.List.{length_push}
 use Rattle.containers.proofs.Choices.{by_test, eq_from, le_from, le_test, ne_from, not_both, not_le_from, or_left, or_right}

@@ -11,7 +11,6 @@ use Rattle.driver_model.specs.Hearing.{is_watching}
 use Rattle.link_core.specs.declared.message.Entry.{Entry}
 use Rattle.link_core.specs.declared.message.Queued.{Queued}
 use Rattle.link_core.specs.Link.{LinkState}
-use Rattle.link_laws.specs.Settles.{wanted}
 use Rattle.driver_model.specs.declared.outcome.Shape.TheVariants.{Confirmation, Single}
 use Rattle.driver_model.specs.Shape.{verdict_of}
 use Rattle.mux_conn.specs.declared.life.Greeting.{Greeting}
@@ -22,8 +21,6 @@ use Rattle.mux_conn.specs.declared.renewal.Renewal.{Renewal}
 use Rattle.mux_conn.specs.Connection.{are_some, is_resting}
 use Rattle.mux_conn.specs.Effects.{setup_queued, setup_id}
 use Rattle.legal_trace.specs.Ledger.{Ledger, Sourced, Start, cut, is_done, is_full, is_greeted, is_of_renewal, is_set_up, is_taken, last_renewal, monitor_of, renewal_count, setup_count, setup_steps, setup_after}
-use Rattle.legal_trace.specs.Story.{shape}
-use Rattle.driver_model.specs.News.{came}
 
 -- the owners of starts, in order
 abbrev pub owners_of : List Start → List Owner

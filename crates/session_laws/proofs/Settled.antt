@@ -29,7 +29,7 @@ use Rattle.session_laws.proofs.Rounded.{rounds_new}
 use Rattle.session_laws.proofs.Ahead.{dialing_step, placed_open, setup_step, waiting_open, admitted_open, creds_step, HasSeats, resting_step}
 use Rattle.session_laws.proofs.Going.{is_moved, StaysPut}
 use Rattle.session_laws.proofs.InLine.{awaited_in, first_is_least, kept_ids, wanted_in}
-use Rattle.session_laws.proofs.Moved.{IsReady, passed_moved, HasMoved}
+use Rattle.session_laws.proofs.Moved.{passed_moved, HasMoved}
 use Rattle.session_laws.proofs.Names.{open_within}
 use Rattle.session_laws.proofs.Numbers.{IsIn, Rising, in_left, in_right, rising_in, rising_left, rising_right, requests_in}
 use Rattle.session_laws.proofs.Owes.{IsOpenRequest, lives, none_open, open_request, request_story, row_link, stands_started, wanted_entry, open_on}

@@ -1,5 +1,5 @@
 -- A turn of a manager in which a number runs out: the session stays tied to its book.
-use Rattle.std.proofs.Common.{◌≡◌, ◌≢◌, ◌⊎◌, inl, inr, ℕ, ◌+◌, ◌^◌, ◌<◌, nat_le, Bool, true, false, ◌&&◌, ◌||◌, List, [], ◌∷◌, ◌++◌, length, Option, Some, None, refl, sym, ap, ◌∙◌, subst, arith}
+use Rattle.std.proofs.Common.{◌≡◌, inl, inr, ℕ, ◌^◌, ◌<◌, nat_le, true, false, ◌||◌, List, [], ◌∷◌, ◌++◌, length, Some, None, refl, sym, ap, ◌∙◌, subst, arith}
 use Rattle.std.proofs.lemmas.List.{append-nil}
 use Rattle.containers.proofs.Choices.{by_test, left_if, not_both, taken_if}
 use Rattle.redis_error.specs.declared.redis_error.RedisError.{RedisError}
@@ -7,9 +7,8 @@ use Rattle.driver_model.specs.declared.action.Action.{Action}
 use Rattle.driver_model.specs.declared.event.Event.{Event}
 use Rattle.link_core.specs.Link.{LinkState}
 use Rattle.mux_conn.specs.Connection.{Work, is_due, is_ready, is_resting, is_spent_in, is_used_up, work_with}
-use Rattle.mux_conn.specs.Passes.{passed}
 use Rattle.mux_conn.specs.Requests.{is_admitted_at, is_open_at, is_waiting_at}
-use Rattle.mux_conn.specs.Turn.{early_wait, flushed, fresh_each_shown, fresh_shown, fresh_wait, moved_each_shown, wait_shown, waits_shown, written_at}
+use Rattle.mux_conn.specs.Turn.{early_wait, flushed, fresh_each_shown, fresh_shown, wait_shown, waits_shown, written_at}
 use Rattle.link_laws.specs.Settles.{awaited_ids}
 use Rattle.mux_conn.specs.declared.connection.MultiplexedConnection.{MultiplexedConnection}
 use Rattle.mux_conn.specs.declared.life.Life.{Life}
@@ -19,14 +18,13 @@ use Rattle.shared_session.specs.declared.generations.Comeback.{Comeback}
 use Rattle.shared_session.specs.declared.generations.Comeback.TheVariants as comeback
 use Rattle.shared_session.specs.declared.generations.Generations.{Generations}
 use Rattle.shared_session.specs.Generations.{came_back, comeback_shown, heeded, heeding}
-use Rattle.shared_session.specs.Turn.{Turning, actions_of, counted, effect, flushed_apart, is_bad, next_turn, numbered, passed_by, shown_behind, shown_each, work_of}
+use Rattle.shared_session.specs.Turn.{Turning, actions_of, counted, effect, flushed_apart, is_bad, next_turn, numbered, passed_by, shown_behind, shown_each}
 use Rattle.legal_trace.specs.Book.{Book, book}
 use Rattle.session_laws.proofs.Ahead.{admitted_open, waiting_open}
 use Rattle.session_laws.proofs.Announce.{turn_of}
 use Rattle.session_laws.proofs.Comes.{live_comes}
 use Rattle.session_laws.proofs.Effects.{effect_holds}
 use Rattle.session_laws.proofs.Manage.{HasHeard, none_open_over, stays_returned}
-use Rattle.session_laws.proofs.Moved.{HasMoved}
 use Rattle.session_laws.proofs.Numbers.{IsIn}
 use Rattle.session_laws.proofs.Return as return
 use Rattle.session_laws.proofs.Rounded.{rounds_down}

@@ -1,10 +1,9 @@
 -- One turn of a manager leads from between two turns to between the next two.
-use Rattle.std.proofs.Common.{◌≡◌, ◌≢◌, ◌⊎◌, inl, inr, ℕ, ◌+◌, ◌^◌, ◌<◌, ◌==◌, nat_lt, Bool, true, false, ◌&&◌, ◌||◌, not, List, [], ◌∷◌, ◌++◌, length, Option, Some, None, is_some, if◌then◌else◌, refl, sym, ap, ◌∙◌, subst, append_assoc, arith}
-use Rattle.containers.proofs.Choices.{both_right, by_test, eq_test, left_if, lt_from, ne_test, not_both, or_left, taken_if}
+use Rattle.std.proofs.Common.{◌≡◌, ◌≢◌, ◌⊎◌, inl, inr, ℕ, ◌+◌, ◌^◌, ◌<◌, ◌==◌, nat_lt, Bool, true, false, ◌&&◌, ◌||◌, not, List, [], ◌∷◌, ◌++◌, length, Option, Some, None, is_some, if◌then◌else◌, refl, sym, ap, ◌∙◌, subst, arith}
+use Rattle.containers.proofs.Choices.{both_right, by_test, eq_test, left_if, lt_from, ne_test, or_left, taken_if}
 use Rattle.std.specs.Prelude.{option_map, unwrap_or}
 use Rattle.manager_config.specs.Backoff.{backoff}
 use Rattle.driver_model.specs.declared.action.Action.{Action}
-use Rattle.driver_model.specs.declared.action.Purpose.{Purpose}
 use Rattle.driver_model.specs.declared.event.Event.{Event}
 use Rattle.driver_model.specs.declared.event.EventKind.{EventKind}
 use Rattle.driver_model.specs.declared.event.EventKind.TheVariants as event
@@ -13,8 +12,6 @@ use Rattle.mux_conn.specs.Turn.{flushed, fresh_each_shown, fresh_shown, moved_ea
 use Rattle.mux_conn.specs.declared.connection.MultiplexedConnection.{MultiplexedConnection}
 use Rattle.mux_conn.specs.declared.life.Life.{Life}
 use Rattle.mux_conn.specs.Passes.{passed}
-use Rattle.mux_conn.specs.declared.act.LinkAct.{LinkAct}
-use Rattle.mux_conn.specs.declared.life.Life.TheVariants.{Resting, Ready}
 use Rattle.mux_conn.specs.declared.request.Waiting.{Waiting}
 use Rattle.shared_session.specs.declared.core_state.Core.{Core}
 use Rattle.shared_session.specs.declared.generations.Comeback.{Comeback}
@@ -37,9 +34,9 @@ use Rattle.session_laws.proofs.Manage.{HasCome, HasHeard, NoneCame, rests_links,
 use Rattle.session_laws.proofs.Moved.{HasMoved, resting_passed}
 use Rattle.session_laws.proofs.Past.{is_founded}
 use Rattle.session_laws.proofs.Return as return
-use Rattle.session_laws.proofs.Settle.{seen, trace_of_acts}
+use Rattle.session_laws.proofs.Settle.{trace_of_acts}
 use Rattle.session_laws.proofs.Settled.{IsBetween, applied_moved}
-use Rattle.session_laws.proofs.States.{Between, HasApplied, HasEffect, HasRetired}
+use Rattle.session_laws.proofs.States.{HasApplied, HasRetired}
 use Rattle.session_laws.proofs.Tied.{ComesBack, HasHeeded, IsHeeded, IsRetiring, Sound, Tied, TiedManager, inner, waiting_ids}
 use Rattle.session_laws.proofs.Whole.{heeds_retiring, heeds_tied, managed_between, own_is, what_of}
 

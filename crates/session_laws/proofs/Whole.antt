@@ -1,20 +1,15 @@
 -- A whole turn of a manager: its event's effect, the passes, what it does of its own, bytes and waits.
-use Rattle.std.proofs.Common.{◌≡◌, ◌≢◌, ◌⊎◌, inl, inr, ℕ, ◌+◌, ◌^◌, ◌<◌, Bool, true, false, ◌&&◌, ◌||◌, not, List, [], ◌∷◌, ◌++◌, length, Option, Some, None, is_some, if◌then◌else◌, refl, sym, ap, ◌∙◌, subst, append_assoc, arith}
-use Rattle.std.specs.Prelude.{option_map, nat_lt}
+use Rattle.std.proofs.Common.{◌≡◌, ◌≢◌, ℕ, Bool, true, List, [], ◌∷◌, ◌++◌, length, Option, Some, None, is_some, refl, sym, ap, ◌∙◌, subst, append_assoc}
+use Rattle.std.specs.Prelude.{option_map}
 use Rattle.std.proofs.lemmas.List.{append-nil}
-use Rattle.containers.proofs.Choices.{left_if, not_both, taken_if}
+use Rattle.containers.proofs.Choices.{taken_if}
 use Rattle.driver_model.specs.declared.action.Action.{Action}
-use Rattle.driver_model.specs.declared.action.Action.TheVariants as action
-use Rattle.driver_model.specs.declared.action.Cause.TheVariants as cause
 use Rattle.driver_model.specs.declared.action.Purpose.{Purpose}
 use Rattle.driver_model.specs.declared.action.SourceUse.{SourceUse}
 use Rattle.driver_model.specs.declared.event.Event.{Event}
 use Rattle.driver_model.specs.declared.event.EventKind.{EventKind}
-use Rattle.mux_conn.specs.Connection.{Work, is_used_up, work_with}
-use Rattle.mux_conn.specs.Passes.{passed}
-use Rattle.mux_conn.specs.Turn.{flushed}
+use Rattle.mux_conn.specs.Connection.{work_with}
 use Rattle.mux_conn.specs.declared.act.LinkAct.{LinkAct}
-use Rattle.mux_conn.specs.declared.connection.MultiplexedConnection.{MultiplexedConnection}
 use Rattle.mux_conn.specs.declared.life.Life.{Life}
 use Rattle.mux_conn.specs.declared.life.Life.TheVariants.{Resting, Dialing, Wanting, SettingUp, Ready, Ended}
 use Rattle.shared_session.specs.declared.core_state.Core.{Core}
@@ -23,15 +18,14 @@ use Rattle.shared_session.specs.declared.generations.Comeback.TheVariants as com
 use Rattle.shared_session.specs.declared.generations.Generations.{Generations}
 use Rattle.shared_session.specs.Generations as machine
 use Rattle.shared_session.specs.Generations.{came_back, comeback_in, comeback_of, comeback_shown, comeback_shown_in, heeded, heeding, wakes, wakes_in}
-use Rattle.shared_session.specs.Turn.{Turning, actions_of, come_back_behind, comeback_by, counted, effect, effects_of, ended_apart, flushed_apart, is_bad, last_acts, next_turn, numbered, own_part, passed_by, return_shown, shown_behind, shown_each, sources_of, timers_of, with_work, work_of}
+use Rattle.shared_session.specs.Turn.{Turning, actions_of, come_back_behind, comeback_by, counted, effects_of, ended_apart, flushed_apart, last_acts, next_turn, numbered, own_part, passed_by, return_shown, shown_behind, shown_each, timers_of}
 use Rattle.shared_session.proofs.Quiet.{apart_quiet, no_sources, no_timers}
 use Rattle.legal_trace.specs.Book.{Book, book}
 use Rattle.legal_trace.specs.Legal.{NoneEnds}
 use Rattle.session_laws.proofs.Comes.{NoneComes}
 use Rattle.session_laws.proofs.Announce.{turn_of}
-use Rattle.session_laws.proofs.Moved.{HasMoved}
 use Rattle.session_laws.proofs.Return as return
-use Rattle.session_laws.proofs.Settle.{Holds, seen, trace_of_acts}
+use Rattle.session_laws.proofs.Settle.{seen}
 use Rattle.session_laws.proofs.Settled.{IsBetween, returned_between}
 use Rattle.session_laws.proofs.Tied.{HasCourse, Inner, IsHeeded, IsRetiring, Sound, Tied, TiedManager, TiedNumbers, inner, is_begun}
 use Rattle.session_laws.proofs.Write.{HasReturned}
