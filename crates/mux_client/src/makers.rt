@@ -1,6 +1,7 @@
 ghost use Rattle.std.specs.Prelude.{◌≡◌, IfOk, IfErr, OnOk};
 ghost use Rattle.connection_info.specs.Config.{default_config};
 ghost use Rattle.connection_info.specs.Written.{ReadsBack};
+ghost use Rattle.driver_model.specs.declared.kind.SessionKind.TheVariants as kind;
 ghost use Rattle.mux_client.specs.Makers.{config_of, time_given, number_given, push_given};
 ghost use Rattle.mux_client.specs.Makers.{creds_given, library_given};
 ghost use Rattle.mux_client.specs.Makers.{address_given, connection_given, pubsub_of, monitor_of};
@@ -152,14 +153,14 @@ pub trait ConnectionGetters {
     /// exactly where no URL says the address.
     fn get_async_pubsub(&self, alloc: Global) -> Result<Config, OpenError>
         ensures value { IfOk result (λ words. words ≡ pubsub_of (info self.now)) }
-        ensures keeps { IfOk result (KeepsLink SessionKind.PubSub (info self.now)) }
+        ensures keeps { IfOk result (KeepsLink kind.PubSub (info self.now)) }
         ensures read { OnOk result (ReadsBack (info self.now)) }
         ensures err { IfErr result (RefusesMaking (info self.now)) };
 
     /// The same of a session over one link in monitor mode.
     fn get_async_monitor(&self, alloc: Global) -> Result<Config, OpenError>
         ensures value { IfOk result (λ words. words ≡ monitor_of (info self.now)) }
-        ensures keeps { IfOk result (KeepsLink SessionKind.Monitor (info self.now)) }
+        ensures keeps { IfOk result (KeepsLink kind.Monitor (info self.now)) }
         ensures read { OnOk result (ReadsBack (info self.now)) }
         ensures err { IfErr result (RefusesMaking (info self.now)) };
 }

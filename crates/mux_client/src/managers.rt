@@ -1,4 +1,4 @@
-ghost use Rattle.std.specs.Prelude.{◌≡◌, IfOk, IfErr, OnOk};
+ghost use Rattle.std.specs.Prelude.{◌≡◌, false, true, IfOk, IfErr, OnOk};
 ghost use Rattle.connection_info.specs.Written.{ReadsBack};
 ghost use Rattle.manager_config.specs.Config.{default_manager};
 ghost use Rattle.mux_client.specs.Makers.{RefusesMaking};
