@@ -18,28 +18,6 @@ use Rattle.conn_manager.specs.Turn.{applied, settled, passed, flushed, heard, la
 use Rattle.conn_manager.specs.Links.{OldLinksAreSilent, OldTimersAreSilent, ConfirmedCallsAreTracked, FailedCallsAreNotTracked, SubscribesWhatIsSubscribed, with_message}
 use Rattle.containers.proofs.Choices.{left_if, if_true, chosen}
 
-command_few : (word : List ℕ) (names : List (List ℕ)) → length (command_for word names) ≤ 1
-command_few word [] = omega arith
-command_few word (name ∷ names) = omega arith
-
-fewer : (n : ℕ) → n ≤ 3 → n < 2 ^ 32
-fewer n h = omega arith
-
--- three commands at most
-pub commands_few : (h : Held) → length (resubscription h).commands ≤ 3
-unfolding resubscription
-commands_few h =
-    let a = command_few (codes "SUBSCRIBE") h.plain in
-    let b = command_few (codes "SSUBSCRIBE") h.sharded in
-    let c = command_few (codes "PSUBSCRIBE") h.pattern in
-    let two = length-append (command_for (codes "SUBSCRIBE") h.plain) (command_for (codes "SSUBSCRIBE") h.sharded) in
-    let all = length-append (command_for (codes "SUBSCRIBE") h.plain ++ command_for (codes "SSUBSCRIBE") h.sharded) (command_for (codes "PSUBSCRIBE") h.pattern) in
-    omega (arith, a, b, c, two, all)
-
--- so any list of them that is this one is short
-pub few_commands : (h : Held) (p : CommandList) → p ≡ resubscription h → length p.commands < 2 ^ 32
-few_commands h p is = subst (λ (q : CommandList). length q.commands < 2 ^ 32) (sym is) (fewer (length (resubscription h).commands) (commands_few h))
-
 pub silent : OldLinksAreSilent
 silent m draw link news old =
     ap (λ (n : ConnectionManager). flushed (passed (settled n) draw) draw) (left_if (is_current m.generations link) _ m old)

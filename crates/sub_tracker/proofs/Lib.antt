@@ -2,3 +2,4 @@ pub mod Order
 pub mod Held
 pub mod Names
 pub mod Decided
+pub mod Short
