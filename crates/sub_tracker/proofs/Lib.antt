@@ -3,3 +3,4 @@ pub mod Held
 pub mod Names
 pub mod Decided
 pub mod Short
+pub mod Threads
