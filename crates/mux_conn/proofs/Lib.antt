@@ -5,4 +5,5 @@ pub mod Begun
 pub mod Threads
 pub mod Judged
 pub mod Told
+pub mod Unreadable
 pub mod Openings

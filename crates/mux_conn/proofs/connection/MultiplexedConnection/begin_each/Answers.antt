@@ -1,4 +1,4 @@
-use Rattle.std.proofs.Common.{◌≡◌, arith, ◌<◌, ℕ, List, length, refl, sym, ap, ◌∙◌}
+use Rattle.std.proofs.Common.{◌≡◌, arith, ◌<◌, ℕ, List, length, sym, ap, ◌∙◌}
 use Rattle.std.specs.Prelude.{slice_get, Some}
 use Rattle.std.proofs.lemmas.Option.{get_or_from_slice_get}
 use Rattle.mux_conn.specs.Connection.{Work}
@@ -11,8 +11,8 @@ loop-index-preserved c =
     let ps = c.args.self.now.fresh in
     let w : Work = record { conn = c.loop-index.self; acts = c.loop-index.out.items } in
     let l : c.loop-index.index < length ps = omega (arith, inv.len_is) in
-    let p = c.at.result.now in
-    let here : slice_get ps c.loop-index.index ≡ Some p = ap (λ (xs : List ℕ). slice_get xs c.loop-index.index) (sym inv.same) ∙ c.at.ensures in
+    let p = c.at-number.result.now in
+    let here : slice_get ps c.loop-index.index ≡ Some p = ap (λ (xs : List ℕ). slice_get xs c.loop-index.index) (sym inv.same) ∙ c.at-number.ensures in
     let read = sym (get_or_from_slice_get ps c.loop-index.index p p here) in
     record {
       len_is = inv.len_is;
