@@ -1,8 +1,7 @@
 -- What is subscribed again.
-use Rattle.std.proofs.Common.{◌≡◌, ℕ, ◌+◌, ◌≤◌, ◌<◌, ◌^◌, ◌==◌, Bool, true, false, ◌&&◌, List, [], ◌∷◌, ◌++◌, length, Option, None, Some, slice_get, codes, refl, sym, ap, subst, ◌∙◌, if◌then◌else◌, arith, length-append}
-use Rattle.resp_write.specs.Command.{CommandList}
+use Rattle.std.proofs.Common.{◌≡◌, ℕ, ◌+◌, ◌==◌, Bool, true, false, ◌&&◌, List, [], ◌∷◌, ◌++◌, length, Option, None, Some, slice_get, refl, sym, ap, ◌∙◌, if◌then◌else◌}
 use Rattle.sub_tracker.specs.Held.{Held, held_after}
-use Rattle.sub_tracker.specs.Pipeline.{resubscription, command_for, Resubscribes}
+use Rattle.sub_tracker.specs.Pipeline.{resubscription, Resubscribes}
 use Rattle.sub_tracker.specs.Subscribed.{Request}
 use Rattle.sub_tracker.proofs.Held.{held_resubscribes, held_with_last}
 use Rattle.mux_conn.specs.declared.request.Request as request

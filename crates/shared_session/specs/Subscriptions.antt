@@ -1,5 +1,5 @@
 -- What a manager knows of subscriptions: which submissions are subscription calls, and what the confirmed ones come to.
-use Rattle.std.specs.Prelude.{ℕ, ◌==◌, Bool, true, false, List, [], ◌∷◌, ◌++◌, length, Option, Some, None, slice_get, if◌then◌else◌}
+use Rattle.std.specs.Prelude.{ℕ, ◌==◌, false, List, [], ◌∷◌, ◌++◌, length, Option, Some, None, slice_get, if◌then◌else◌}
 use Rattle.resp_write.specs.Command.{CommandList}
 use Rattle.resp_write.specs.Pack.{pack_pipeline}
 use Rattle.sub_tracker.specs.Held.{TrackerState, holding, held_with, held_after}

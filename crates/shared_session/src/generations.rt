@@ -105,12 +105,7 @@ impl Generations {
 
     /// An event came, which showed these acts: a wait may be over, or the creation have failed; and subscription calls may be
     /// handed in, or confirmed.
-    fn heed(
-        &mut self,
-        alloc: Global,
-        event: &EventKind,
-        acts: &[LinkAct],
-    ) -> Result<(), AllocError>
+    fn heed(&mut self, alloc: Global, event: &EventKind, acts: &[LinkAct]) -> Result<(), AllocError>
         ensures { OnOk result (self.new ≡ heeded self.old event.now acts.now) }
     {
         let woken = self.wakes(event);
@@ -254,12 +249,7 @@ impl Core {
     }
 
     /// An event came, which showed these acts.
-    fn heed(
-        &mut self,
-        alloc: Global,
-        event: &EventKind,
-        acts: &[LinkAct],
-    ) -> Result<(), AllocError>
+    fn heed(&mut self, alloc: Global, event: &EventKind, acts: &[LinkAct]) -> Result<(), AllocError>
         ensures { OnOk result (self.new ≡ heeding self.old event.now acts.now) }
     {
         match &mut self.manager {
