@@ -417,7 +417,6 @@ heard_tied_as b c started word created halted told opened kind info renewal life
         shut = ap (λ s. s || is_shutdown kind) h.numbers.shut;
         within = h.numbers.within ∙ sym within;
         few = h.numbers.few;
-        unrepeated = again;
         settings = record { size_is = h.numbers.settings.size_is; bound_is = h.numbers.settings.bound_is; limit_is = h.numbers.settings.limit_is; some = h.numbers.settings.some; limited = h.numbers.settings.limited };
         kind_is = h.numbers.kind_is;
         quiet = λ w. record { none = (h.numbers.quiet w).none; unwanted = (quiet w).0; unrenewed = (quiet w).1 };

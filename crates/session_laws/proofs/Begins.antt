@@ -100,7 +100,6 @@ idle_numbers config word settings info number created told is first lazy = recor
   shut = refl;
   within = refl;
   few = omega arith;
-  unrepeated = λ m. refl;
   settings = record { size_is = refl; bound_is = refl; limit_is = refl; some = is.sized.some; limited = is.sized.limited };
   kind_is = refl;
   quiet = λ w. record { none = refl; unwanted = unwanted_where_watched config w; unrenewed = refl };

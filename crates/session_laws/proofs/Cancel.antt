@@ -100,29 +100,29 @@ silenced_wanted (e ∷ es) p q other i =
 
 -- the requests among numbers rise behind the first
 pub rising_behind : (lo n : ℕ) (xs ys : List ℕ) (hi : ℕ) → Rising lo (requests_in (n ∷ xs) ++ ys) hi → Rising lo (requests_in xs ++ ys) hi
-rising_behind lo n xs ys hi r = by_test (n == renewal_id) _
-    (λ t. subst (λ ns. Rising lo (ns ++ ys) hi) (taken_if (n == renewal_id) (requests_in xs) (n ∷ requests_in xs) t) r)
-    (λ f. let k = subst (λ ns. Rising lo (ns ++ ys) hi) (left_if (n == renewal_id) (requests_in xs) (n ∷ requests_in xs) f) r in let l : lo ≤ n = k.0 in rising_from (suc n) lo (requests_in xs ++ ys) hi (omega arith) k.1)
+rising_behind lo n xs ys hi r = by_test (is_own n) _
+    (λ t. subst (λ ns. Rising lo (ns ++ ys) hi) (taken_if (is_own n) (requests_in xs) (n ∷ requests_in xs) t) r)
+    (λ f. let k = subst (λ ns. Rising lo (ns ++ ys) hi) (left_if (is_own n) (requests_in xs) (n ∷ requests_in xs) f) r in let l : lo ≤ n = k.0 in rising_from (suc n) lo (requests_in xs ++ ys) hi (omega arith) k.1)
 
 -- none of those behind a request is that request
-pub apart_behind : (lo n : ℕ) (row : List Entry) (ys : List ℕ) (hi : ℕ) → n ≢ renewal_id → Rising lo (requests_in (n ∷ row_ids row) ++ ys) hi → IsIn n (wanted row) → ⊥
+pub apart_behind : (lo n : ℕ) (row : List Entry) (ys : List ℕ) (hi : ℕ) → is_own n ≡ false → Rising lo (requests_in (n ∷ row_ids row) ++ ys) hi → IsIn n (wanted row) → ⊥
 apart_behind lo n row ys hi other r i =
     let k = subst (λ ns. Rising lo (ns ++ ys) hi) (requests_first n (row_ids row) other) r in
     let j = rising_in (suc n) (requests_in (row_ids row) ++ ys) hi n k.1 (in_left n (requests_in (row_ids row)) ys (request_in n (row_ids row) other (wanted_in n row i))) in
     omega (arith, j.0)
 
 -- and have their places
-silenced_entries : (requests : List Request) (p lo hi : ℕ) (row : List Entry) (ys : List ℕ) → p ≢ renewal_id → Rising lo (requests_in (row_ids row) ++ ys) hi → AllByRecursion (IsEntry requests) row → AllByRecursion (IsEntry (with_permits requests p progress.Closed 0)) (silenced row p)
+silenced_entries : (requests : List Request) (p lo hi : ℕ) (row : List Entry) (ys : List ℕ) → is_own p ≡ false → Rising lo (requests_in (row_ids row) ++ ys) hi → AllByRecursion (IsEntry requests) row → AllByRecursion (IsEntry (with_permits requests p progress.Closed 0)) (silenced row p)
 silenced_entries requests p lo hi [] ys other r all = tt
 silenced_entries requests p lo hi (e ∷ es) ys other r all =
     let long = sym (length_with requests p progress.Closed 0) in
     chosen (λ (x : List Entry). AllByRecursion (IsEntry (with_permits requests p progress.Closed 0)) x) (is_entry_of p e) (silent e ∷ es) (e ∷ silenced es p)
     (λ t.
     let same = eq_from e.id p t in
-    let own : e.id ≢ renewal_id = λ x. other (sym same ∙ x) in (
+    let own : is_own e.id ≡ false = ap is_own same ∙ other in (
       elim all.0 [
         | inl x ↦ inl (record { below = subst (λ n. e.id < n) long x.below; placed_at = λ z. cc })
-        | inr a ↦ absurd (own a.is)
+        | inr a ↦ absurd (not_both (is_own e.id) own a.is)
       ],
       entries_answered requests p es (λ i. apart_behind lo e.id es ys hi own r (subst (λ n. IsIn n (wanted es)) (sym same) i)) all.1,
     ))
@@ -228,7 +228,7 @@ queue_left table story requests p closed (x ∷ xs) ys lo names l asked r c all 
 
 -- the lines of the others
 left_lines : (table : List (Option Pending)) (story : ℕ → Story) (requests : List Request) (link : LinkState) (waiting admitted : List Waiting) (p : ℕ) (started : List ℕ) (closed : ℕ → Story) → TiedNames table requests → p < length requests
-    → p ≢ renewal_id → is_open (story (name_at requests p)) ≡ true → ((n : ℕ) → Closes (story n) (closed n)) → Rising 0 (requests_in (row_ids link.row) ++ (queue_ids link.queue ++ kept_ids admitted waiting)) (length requests) → TiedLines story requests link waiting admitted [] started
+    → is_own p ≡ false → is_open (story (name_at requests p)) ≡ true → ((n : ℕ) → Closes (story n) (closed n)) → Rising 0 (requests_in (row_ids link.row) ++ (queue_ids link.queue ++ kept_ids admitted waiting)) (length requests) → TiedLines story requests link waiting admitted [] started
     → TiedLines (with_closed story requests p closed) (with_permits requests p progress.Closed 0) (cancelled link p) waiting admitted [] started
 left_lines table story requests link waiting admitted p started closed names l other asked c r h =
     let rows = requests_in (wanted link.row) in
@@ -408,7 +408,7 @@ was_setting (Ended y) p x u e = cc
 
 -- the lines of the others, by the life of the link
 left_lines_in : (table : List (Option Pending)) (story : ℕ → Story) (requests : List Request) (life : Life) (waiting admitted : List Waiting) (p : ℕ) (started : List ℕ) (closed : ℕ → Story) → TiedNames table requests → p < length requests
-    → p ≢ renewal_id → is_open (story (name_at requests p)) ≡ true → ((n : ℕ) → Closes (story n) (closed n))
+    → is_own p ≡ false → is_open (story (name_at requests p)) ≡ true → ((n : ℕ) → Closes (story n) (closed n))
     → (has_ended life ≡ false → Rising 0 (requests_in (row_ids (link_in life).row) ++ (queue_ids (link_in life).queue ++ kept_ids admitted waiting)) (length requests)) → TiedLines story requests (link_in life) waiting admitted [] started
     → TiedLines (with_closed story requests p closed) (with_permits requests p progress.Closed 0) (link_in (cancelled_in life p)) waiting admitted [] started
 left_lines_in table story requests life waiting admitted p started closed names l other asked c r h = by_life life r h
@@ -521,7 +521,6 @@ silent_numbers b c started word kind timeout story free life requests pending q 
   shut = q.shut;
   within = h.numbers.within;
   few = h.numbers.few;
-  unrepeated = still_unrepeated b c started kind h;
   settings = record { size_is = h.numbers.settings.size_is; bound_is = h.numbers.settings.bound_is; limit_is = h.numbers.settings.limit_is; some = h.numbers.settings.some; limited = h.numbers.settings.limited };
   kind_is = h.numbers.kind_is;
   quiet = h.numbers.quiet;

@@ -80,7 +80,6 @@ dials_tied b t host port last timers timed c aimed bounded =
         shut = n.shut;
         within = n.within;
         few = n.few;
-        unrepeated = λ m. chosen (λ (ls : List Line). (noted_each (b.link m) ls).again.wanted ≡ false) (t.link == m) (line ∷ []) [] (λ e. repeats_none) (λ e. n.unrepeated m);
         settings = record { size_is = n.settings.size_is; bound_is = n.settings.bound_is; limit_is = n.settings.limit_is; some = n.settings.some; limited = n.settings.limited };
         kind_is = n.kind_is;
         quiet = n.quiet;

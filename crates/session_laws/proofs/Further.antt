@@ -121,19 +121,19 @@ further_story table story after requests more link x names same longer h new n =
 -- the tries
 --
 -- the owners of starts stay
-owner_longer : (requests more : List Request) (p : ℕ) → IsLonger requests more → (p ≢ renewal_id → p < length requests) → owner_of more p ≡ owner_of requests p
-owner_longer requests more p longer within = by_test (p == renewal_id) _
-    (λ t. taken_if (p == renewal_id) owner.Auth (owner.Try (name_at more p) 0) t ∙ sym (taken_if (p == renewal_id) owner.Auth (owner.Try (name_at requests p) 0) t))
-    (λ f. let other = ne_from p renewal_id f in owner_below more p other ∙ ap (λ n. owner.Try n 0) (name_longer requests more p longer (within other)) ∙ sym (owner_below requests p other))
+owner_longer : (requests more : List Request) (p : ℕ) → IsLonger requests more → (is_own p ≡ false → p < length requests) → owner_of more p ≡ owner_of requests p
+owner_longer requests more p longer within = by_test (is_own p) _
+    (λ t. taken_if (is_own p) (own_owner p) (owner.Try (name_at more p) 0) t ∙ sym (taken_if (is_own p) (own_owner p) (owner.Try (name_at requests p) 0) t))
+    (λ f. owner_below more p f ∙ ap (λ n. owner.Try n 0) (name_longer requests more p longer (within f)) ∙ sym (owner_below requests p f))
 
 -- of all starts
-owners_longer : (requests more : List Request) (started : List ℕ) → IsLonger requests more → ((p : ℕ) → p ≢ renewal_id → IsIn p started → p < length requests) → owners_each more started ≡ owners_each requests started
+owners_longer : (requests more : List Request) (started : List ℕ) → IsLonger requests more → ((p : ℕ) → is_own p ≡ false → IsIn p started → p < length requests) → owners_each more started ≡ owners_each requests started
 owners_longer requests more [] longer within = refl
 owners_longer requests more (p ∷ ps) longer within = (λ i. owner_longer requests more p longer (λ other. within p other (inl refl)) i ∷ owners_longer requests more ps longer (λ q other j. within q other (inr j)) i)
 
 -- and so do the tries
 pub tries_longer : (table : List (Option Pending)) (l : Ledger) (story after : ℕ → Story) (requests more : List Request) (link : ℕ) (started : List ℕ) → TiedNames table requests → SameBefore story after (length table) → IsLonger requests more
-    → length more ≤ 2 ^ 32 → ((p : ℕ) → p ≢ renewal_id → IsIn p started → p < length requests) → ((k p : ℕ) → p ≢ renewal_id → slice_get started k ≡ Some p → p < length requests) → ((p : ℕ) (r : Request) → slice_get more p ≡ Some r → length requests ≤ p → (after r.name).tries ≡ [])
+    → length more ≤ 2 ^ 32 → ((p : ℕ) → is_own p ≡ false → IsIn p started → p < length requests) → ((k p : ℕ) → is_own p ≡ false → slice_get started k ≡ Some p → p < length requests) → ((p : ℕ) (r : Request) → slice_get more p ≡ Some r → length requests ≤ p → (after r.name).tries ≡ [])
     → TiedTries l story requests link started → TiedTries l after more link started
 tries_longer table l story after requests more link started names same longer few within at new h = record {
   owners = λ plain. h.owners plain ∙ ap (setup_owners (setup_count l.starts)) (sym (owners_longer requests more started longer within));
@@ -149,8 +149,8 @@ tries_longer table l story after requests more link started names same longer fe
       (λ past. new p r i past);
 }
   where
-    numbered : (p : ℕ) → p < length more → p ≢ renewal_id
-    numbered p inside e = omega (arith, e, inside, few)
+    numbered : (p : ℕ) → p < length more → is_own p ≡ false
+    numbered p inside = below_own p (omega (arith, inside, few))
 
 -- the lines
 --
@@ -200,7 +200,7 @@ entries_longer requests more (e ∷ es) longer all = (
 -- the owners of a row's messages are the same
 pub owners_of_row : (requests more : List Request) (row : List Entry) → IsLonger requests more → AllByRecursion (IsEntry requests) row → SameNames (owner_of requests) (owner_of more) row
 owners_of_row requests more [] longer all = tt
-owners_of_row requests more (e ∷ es) longer all = (sym (owner_longer requests more e.id longer (λ other. elim all.0 [ inl r ↦ r.below | inr a ↦ absurd (other a.is) ])), owners_of_row requests more es longer all.1)
+owners_of_row requests more (e ∷ es) longer all = (sym (owner_longer requests more e.id longer (λ other. elim all.0 [ inl r ↦ r.below | inr a ↦ absurd (not_both (is_own e.id) other a.is) ])), owners_of_row requests more es longer all.1)
 
 -- so the link is tied
 pub link_longer : (l : Ledger) (requests more : List Request) (life : Life) → IsLonger requests more → AllByRecursion (IsEntry requests) (link_in life).row → TiedLink (carried life requests) l (whole_link life) → TiedLink (carried life more) l (whole_link life)

@@ -93,7 +93,6 @@ over_begins b t e number h over untold parting few comes one nobody closed some 
         shut = n.shut;
         within = n.within;
         few = n.few;
-        unrepeated = n.unrepeated;
         settings = record { size_is = n.settings.size_is; bound_is = n.settings.bound_is; limit_is = n.settings.limit_is; some = n.settings.some; limited = n.settings.limited };
         kind_is = n.kind_is;
         quiet = λ w. let q = n.quiet w in record { none = q.none; unwanted = q.unwanted; unrenewed = refl };
@@ -202,7 +201,6 @@ first_begins b t number h rests settled alone still nobody untold parting free f
         shut = n.shut;
         within = n.within;
         few = n.few;
-        unrepeated = n.unrepeated;
         settings = record { size_is = n.settings.size_is; bound_is = n.settings.bound_is; limit_is = n.settings.limit_is; some = n.settings.some; limited = n.settings.limited };
         kind_is = n.kind_is;
         quiet = λ w. let q = n.quiet w in record { none = q.none; unwanted = q.unwanted; unrenewed = refl };

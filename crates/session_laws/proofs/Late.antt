@@ -111,24 +111,24 @@ all_without P [] p all = tt
 all_without P (q ∷ qs) p all = chosen (AllByRecursion P) (is_wanted p q) qs (q ∷ without qs p) (λ t. all.1) (λ f. (all.0, all_without P qs p all.1))
 
 -- the entries of a row
-silenced_still : (requests : List Request) (row : List Entry) (p : ℕ) → p ≢ renewal_id → AllByRecursion (IsEntry requests) row → AllByRecursion (IsEntry requests) (silenced row p)
+silenced_still : (requests : List Request) (row : List Entry) (p : ℕ) → is_own p ≡ false → AllByRecursion (IsEntry requests) row → AllByRecursion (IsEntry requests) (silenced row p)
 silenced_still requests [] p other all = tt
 silenced_still requests (e ∷ es) p other all =
     chosen (AllByRecursion (IsEntry requests)) (is_entry_of p e) (silent e ∷ es) (e ∷ silenced es p)
     (λ t. (
-      elim all.0 [ inl x ↦ inl (record { below = x.below; placed_at = λ z. cc }) | inr a ↦ absurd (other (sym (eq_from e.id p t) ∙ a.is)) ],
+      elim all.0 [ inl x ↦ inl (record { below = x.below; placed_at = λ z. cc }) | inr a ↦ absurd (not_both (is_own e.id) (ap is_own (eq_from e.id p t) ∙ other) a.is) ],
       all.1,
     ))
     (λ f. (all.0, silenced_still requests es p other all.1))
 
 -- the request is not wanted in the row any more
-silenced_apart : (row : List Entry) (ys : List ℕ) (p lo hi : ℕ) → p ≢ renewal_id → Rising lo (requests_in (row_ids row) ++ ys) hi → IsIn p (wanted (silenced row p)) → ⊥
+silenced_apart : (row : List Entry) (ys : List ℕ) (p lo hi : ℕ) → is_own p ≡ false → Rising lo (requests_in (row_ids row) ++ ys) hi → IsIn p (wanted (silenced row p)) → ⊥
 silenced_apart [] ys p lo hi other r i = i
 silenced_apart (e ∷ es) ys p lo hi other r i =
     chosen (λ (row : List Entry). IsIn p (wanted row) → ⊥) (is_entry_of p e) (silent e ∷ es) (e ∷ silenced es p)
     (λ t j.
     let same = eq_from e.id p t in
-    apart_behind lo e.id es ys hi (λ x. other (sym same ∙ x)) r (subst (λ n. IsIn n (wanted es)) (sym same) j))
+    apart_behind lo e.id es ys hi (ap is_own same ∙ other) r (subst (λ n. IsIn n (wanted es)) (sym same) j))
     (λ f j. elim (in_either p (if e.awaited then e.id ∷ [] else []) (wanted (silenced es p)) j) [
       | inl k ↦ ne_from e.id p f (chosen_in e.awaited p e.id k)
       | inr k ↦ silenced_apart es ys p lo hi other (rising_behind lo e.id (row_ids es) ys hi r) k
@@ -152,7 +152,7 @@ without_none story requests (x ∷ xs) ys p lo hi o r all i =
 -- the session where the time of a request is over
 --
 -- its lines, with the request to be answered
-late_lines : (m : ℕ) (story : ℕ → Story) (requests : List Request) (link : LinkState) (waiting admitted : List Waiting) (p : ℕ) (started : List ℕ) → p ≢ renewal_id → TiedLines story requests link waiting admitted [] started
+late_lines : (m : ℕ) (story : ℕ → Story) (requests : List Request) (link : LinkState) (waiting admitted : List Waiting) (p : ℕ) (started : List ℕ) → is_own p ≡ false → TiedLines story requests link waiting admitted [] started
     → TiedLines (fires_at m story) requests (cancelled link p) waiting admitted (p ∷ []) started
 late_lines m story requests link waiting admitted p started apart h =
     let after = fires_at m story in
@@ -183,7 +183,7 @@ late_lines m story requests link waiting admitted p started apart h =
     }
 
 -- by the life of its link
-late_lines_in : (m : ℕ) (story : ℕ → Story) (requests : List Request) (life : Life) (waiting admitted : List Waiting) (p : ℕ) (started : List ℕ) → p ≢ renewal_id → TiedLines story requests (link_in life) waiting admitted [] started
+late_lines_in : (m : ℕ) (story : ℕ → Story) (requests : List Request) (life : Life) (waiting admitted : List Waiting) (p : ℕ) (started : List ℕ) → is_own p ≡ false → TiedLines story requests (link_in life) waiting admitted [] started
     → TiedLines (fires_at m story) requests (link_in (cancelled_in life p)) waiting admitted (p ∷ []) started
 late_lines_in m story requests (Ready link) waiting admitted p started apart h = late_lines m story requests link waiting admitted p started apart h
 late_lines_in m story requests Resting waiting admitted p started apart h =
@@ -357,7 +357,7 @@ fired_overdue b c started word n p h is o =
 -- the answer
 --
 -- the rows and the queue are without it
-late_apart : (b : Book) (t : Inner) (life : Life) (p : ℕ) → Tied b t → t.life ≡ life → has_ended life ≡ false → p ≢ renewal_id → is_open (b.story (name_at t.requests p)) ≡ true → IsIn p (wanted (link_in (cancelled_in life p)).row ++ queue_ids (link_in (cancelled_in life p)).queue) → ⊥
+late_apart : (b : Book) (t : Inner) (life : Life) (p : ℕ) → Tied b t → t.life ≡ life → has_ended life ≡ false → is_own p ≡ false → is_open (b.story (name_at t.requests p)) ≡ true → IsIn p (wanted (link_in (cancelled_in life p)).row ++ queue_ids (link_in (cancelled_in life p)).queue) → ⊥
 late_apart b t Resting p h e up other o i = i
 late_apart b t Dialing p h e up other o i = i
 late_apart b t (Wanting link) p h e up other o i = i

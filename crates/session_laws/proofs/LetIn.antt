@@ -317,6 +317,7 @@ waits_on_tied b t p count free g noted timers letting ready w eased has numbers 
   creation = h.creation;
   uses = h.uses;
   renewal = h.renewal;
+  repeat = h.repeat;
   setup = h.setup;
   link = λ e. carried_tied t.life t.requests (with_permits t.requests p progress.Begun count) (b.link t.link) (sym (owners_with t.requests p progress.Begun count)) (h.link e);
   names = names_with t.table t.requests p progress.Begun count h.names;
@@ -467,7 +468,7 @@ take_tied b t p count ready w begun alone most h =
     let before = on_this t.link (b.story n) on ∙ r.permits_is ∙ none.0 in
     let after = on_this t.link (g n) (ap (λ (s : Story). s.link) own ∙ on) ∙ ap (λ (s : Story). s.permits) own in
     omega arith)
-    (numbers_kept b b.link g b.tracked b.errors t t.life (t.free - count) (with_permits t.requests p progress.Begun count) t.waiting t.admitted t.fresh t.moved (p ∷ []) t.pending t.started h.numbers.unrepeated h.numbers) h
+    (numbers_kept b b.link g b.tracked b.errors t t.life (t.free - count) (with_permits t.requests p progress.Begun count) t.waiting t.admitted t.fresh t.moved (p ∷ []) t.pending t.started h.numbers) h
 
 -- where permits aren't counted nothing is
 free_tied : (b : Book) (t : Inner) (p : ℕ) → is_ready t.life ≡ true → is_waiting_at t.requests p ≡ true → HasBegun t p → t.letting ≡ [] → t.limit ≡ None → Tied b t → Tied b (lets t p 0 (t.free - 0) t.timers)
@@ -478,7 +479,7 @@ free_tied b t p ready w begun alone e h =
     let none = h.permits.none p w (λ i. subst (IsIn p) alone i) in
     let_tied b t p 0 (t.free - 0) b.story b.timers t.timers ready w begun (λ m i. absurd (subst (IsIn m) alone i)) (none_eased b.story n) (record { waiting = λ m. refl; rounded = λ m. refl }) (r.permits_is ∙ none.0)
     (λ k x. (let no_limit : ◌≡◌ {A = Option ℕ} None (Some k) = sym e ∙ x in cc))
-    (numbers_kept b b.link b.story b.tracked b.errors t t.life (t.free - 0) (with_permits t.requests p progress.Begun 0) t.waiting t.admitted t.fresh t.moved (p ∷ []) t.pending t.started h.numbers.unrepeated h.numbers) h
+    (numbers_kept b b.link b.story b.tracked b.errors t t.life (t.free - 0) (with_permits t.requests p progress.Begun 0) t.waiting t.admitted t.fresh t.moved (p ∷ []) t.pending t.started h.numbers) h
 
 -- its timer is asked for
 --
@@ -519,7 +520,7 @@ ask_tied b t p number ms ready w begun alone h =
     let known = name_within t.table t.requests p h.names within in
     let hold : (m : ℕ) → permits_on t.link (g m) ≡ permits_on t.link (b.story m) = λ m.
     chosen (λ (x : Story). permits_on t.link x ≡ permits_on t.link (b.story m)) (n == m) (clocked (b.story m) number) (b.story m) (λ t. refl) (λ f. refl) in
-    let k = numbers_kept b b.link g b.tracked b.errors t t.life t.free (with_permits t.requests p progress.Begun (permits_at t.requests p)) t.waiting t.admitted t.fresh t.moved (p ∷ []) t.pending t.started h.numbers.unrepeated h.numbers in
+    let k = numbers_kept b b.link g b.tracked b.errors t t.life t.free (with_permits t.requests p progress.Begun (permits_at t.requests p)) t.waiting t.admitted t.fresh t.moved (p ∷ []) t.pending t.started h.numbers in
     let_tied b t p (permits_at t.requests p) t.free g (b.timers ++ what ∷ []) (t.timers ++ what ∷ []) ready w begun alone eased (still_at b.story n (λ s. clocked s number) (λ m. refl) (λ m. refl)) (ap (λ (s : Story). s.permits) own ∙ r.permits_is)
     (λ k e. ap (λ x. x + t.free) (held_same b.story g t.link b.submissions (λ m l. hold m)) ∙ h.permits.counted k e)
     (record {
@@ -534,7 +535,6 @@ ask_tied b t p number ms ready w begun alone h =
       shut = k.shut;
       within = k.within;
       few = k.few;
-      unrepeated = k.unrepeated;
       settings = record { size_is = k.settings.size_is; bound_is = k.settings.bound_is; limit_is = k.settings.limit_is; some = k.settings.some; limited = k.settings.limited };
       kind_is = k.kind_is;
       quiet = k.quiet;

@@ -142,7 +142,6 @@ opening_numbers config word info timeout none sound some is = record {
   shut = refl;
   within = refl;
   few = omega arith;
-  unrepeated = opening_unrepeated config word info (connect_timers timeout) sound;
   settings = record { size_is = refl; bound_is = refl; limit_is = refl; some = some.some; limited = some.limited };
   kind_is = refl;
   quiet = λ w. record { none = refl; unwanted = unwanted_where_watched config w; unrenewed = refl };

@@ -503,7 +503,7 @@ place_tied b t link q waiting admitted yes_awaited next h =
       told = λ f. absurd (not_both q.awaited f yes_awaited);
     } in
     record {
-      numbers = numbers_kept b _ _ _ _ (on_link t link) _ _ _ _ _ _ _ _ _ _ h.numbers.unrepeated h.numbers;
+      numbers = numbers_kept b _ _ _ _ (on_link t link) _ _ _ _ _ _ _ _ _ _ h.numbers;
       others = h.others;
       notices = h.notices;
       life = h.life;
@@ -513,6 +513,7 @@ place_tied b t link q waiting admitted yes_awaited next h =
       creation = h.creation;
       uses = h.uses;
       renewal = h.renewal;
+      repeat = h.repeat;
       setup = record { info_is = h.setup.info_is; sent = h.setup.sent; said = h.setup.said };
       link = λ e. subst (λ x. TiedLink x (b.link t.link) (enqueued link (message_of q))) (sym (owners_still t.requests p progress.Placed)) (enqueued_tied (owner_of t.requests) (b.link t.link) link (message_of q) (h.link refl));
       names = names_progressed t.table t.requests p progress.Placed h.names;
@@ -585,7 +586,7 @@ tell_tied b t link q waiting admitted not_awaited next h =
       told = λ f. ap (λ x. (after x).outcomes) named ∙ ap (λ (s : Story). s.outcomes) (sym same) ∙ ap (λ os. os ++ nil ∷ []) (open_unanswered (b.story n) (r.open_is ∙ o));
     } in
     record {
-      numbers = numbers_kept b _ _ _ _ (on_link t link) _ _ _ _ _ _ _ _ _ _ h.numbers.unrepeated h.numbers;
+      numbers = numbers_kept b _ _ _ _ (on_link t link) _ _ _ _ _ _ _ _ _ _ h.numbers;
       others = h.others;
       notices = h.notices;
       life = h.life;
@@ -595,6 +596,7 @@ tell_tied b t link q waiting admitted not_awaited next h =
       creation = h.creation;
       uses = h.uses;
       renewal = h.renewal;
+      repeat = h.repeat;
       setup = record { info_is = h.setup.info_is; sent = h.setup.sent; said = h.setup.said };
       link = λ e. subst (λ x. TiedLink x (b.link t.link) (enqueued link (message_of q))) (sym (owners_with t.requests p progress.Closed 0)) (enqueued_tied (owner_of t.requests) (b.link t.link) link (message_of q) (h.link refl));
       names = names_with t.table t.requests p progress.Closed 0 h.names;
@@ -650,7 +652,7 @@ admit_tied b t link q qs w begun is last h =
     let apart : IsIn p queue → ⊥ = λ i. (let k = rising_apart 0 queue (front ++ (p ∷ rest)) hi p p line i (in_right p front (p ∷ rest) (inl refl)) in omega arith) in
     let same : kept_ids t.admitted (q ∷ qs) ≡ kept_ids (t.admitted ++ q ∷ []) qs = sym (append_assoc front (p ∷ []) rest) ∙ ap (λ ns. ns ++ rest) (sym (waiting_ids-push t.admitted q)) in
     record {
-      numbers = numbers_kept b _ _ _ _ (record (on_link t link) { waiting = q ∷ qs; letting = q.number ∷ [] }) _ _ _ _ _ _ _ _ _ _ h.numbers.unrepeated h.numbers;
+      numbers = numbers_kept b _ _ _ _ (record (on_link t link) { waiting = q ∷ qs; letting = q.number ∷ [] }) _ _ _ _ _ _ _ _ _ _ h.numbers;
       others = h.others;
       notices = h.notices;
       life = h.life;
@@ -660,6 +662,7 @@ admit_tied b t link q qs w begun is last h =
       creation = h.creation;
       uses = h.uses;
       renewal = h.renewal;
+      repeat = h.repeat;
       setup = record { info_is = h.setup.info_is; sent = h.setup.sent; said = h.setup.said };
       link = λ e. subst (λ x. TiedLink x (b.link t.link) link) (sym (owners_still t.requests p now)) (h.link refl);
       names = names_progressed t.table t.requests p now h.names;

@@ -102,7 +102,7 @@ time_tied b t link number ms none due within h =
     let l = b.link t.link in
     let r = t.renewal in
     let what = purpose.Renewal t.link r.asked in
-    let k = numbers_kept b b.link b.story b.tracked b.errors (on_link t link) (Ready link) t.free t.requests t.waiting t.admitted t.fresh t.moved t.letting [] t.started h.numbers.unrepeated h.numbers in
+    let k = numbers_kept b b.link b.story b.tracked b.errors (on_link t link) (Ready link) t.free t.requests t.waiting t.admitted t.fresh t.moved t.letting [] t.started h.numbers in
     tied_by (entered b (action.Timer number ms what)) (record (on_link t link) { timers = t.timers ++ what ∷ []; renewal = asked_next r }) (noted l times) (mine_noted l t.link times) (record {
       numbers = record {
         turns = k.turns;
@@ -116,7 +116,6 @@ time_tied b t link number ms none due within h =
         shut = k.shut;
         within = k.within;
         few = k.few;
-        unrepeated = unrepeated_lined b.link t.link times refl h.numbers.unrepeated;
         settings = record { size_is = k.settings.size_is; bound_is = k.settings.bound_is; limit_is = k.settings.limit_is; some = k.settings.some; limited = k.settings.limited };
         kind_is = k.kind_is;
         quiet = λ w. let q = h.numbers.quiet w in record { none = q.none; unwanted = q.unwanted; unrenewed = q.unrenewed };
@@ -159,7 +158,7 @@ auth_some c e = cc
 
 -- and is AUTH's
 auth_owner : (requests : List Request) → owner_of requests renewal_id ≡ owner.Auth
-auth_owner requests = taken_if (renewal_id == renewal_id) owner.Auth (owner.Try (name_at requests renewal_id) 0) (eq_test renewal_id renewal_id refl)
+auth_owner requests = owner_of_auth requests renewal_id refl
 
 -- one more of the started, that is none of a request
 tries_told : (l : Ledger) (story : ℕ → Story) (requests : List Request) (link : ℕ) (started : List ℕ) (s : Start) → length requests ≤ renewal_id → s.owner ≡ owner.Auth → is_watching l.hearing ≡ false → TiedTries l story requests link started → TiedTries (noted l (begins s)) story requests link (started ++ renewal_id ∷ [])
@@ -191,7 +190,7 @@ tries_told l story requests link started s few owned plain h =
 -- an entry of AUTH is no request's
 wanted_told : (row : List Entry) (c : Credentials) → requests_in (wanted (row ++ entry_of (renewal_queued c) ∷ [])) ≡ requests_in (wanted row)
 wanted_told row c =
-    ap requests_in (wanted-append row (entry_of (renewal_queued c) ∷ [])) ∙ requests_in-append (wanted row) (renewal_id ∷ []) ∙ ap (λ ns. requests_in (wanted row) ++ ns) (requests_behind []) ∙ append-nil (requests_in (wanted row))
+    ap requests_in (wanted-append row (entry_of (renewal_queued c) ∷ [])) ∙ requests_in-append (wanted row) (renewal_id ∷ []) ∙ ap (λ ns. requests_in (wanted row) ++ ns) (requests_behind renewal_id [] (auth_is_own renewal_id refl)) ∙ append-nil (requests_in (wanted row))
 
 -- what shows it
 abbrev auth_action : Inner → LinkState → Credentials → Action
@@ -239,7 +238,7 @@ auth_tied b t link c cs due pending waits h =
     let plain : is_watching t.hears ≡ true → ⊥ = λ w. (let no : [] ≡ c ∷ cs = sym (h.numbers.quiet w).unrenewed ∙ waits in cc) in
     let unwatched : is_watching l.hearing ≡ false = by_test (is_watching l.hearing) _ (λ w. absurd (plain (ap is_watching (sym h.notices.hearing_is) ∙ w))) (λ f. f) in
     let few : length t.requests ≤ renewal_id = omega (arith, h.names.few, h.numbers.few) in
-    let k = numbers_kept b b.link b.story b.tracked b.errors (on_link t link) (Ready (begun link q)) t.free t.requests t.waiting t.admitted t.fresh t.moved t.letting [] (t.started ++ renewal_id ∷ []) h.numbers.unrepeated h.numbers in
+    let k = numbers_kept b b.link b.story b.tracked b.errors (on_link t link) (Ready (begun link q)) t.free t.requests t.waiting t.admitted t.fresh t.moved t.letting [] (t.started ++ renewal_id ∷ []) h.numbers in
     tied_by (entered b (auth_action t link c)) (after_auth t link c cs) (noted l (begins s)) (mine_noted l t.link (begins (message_of b t.link owner.Auth)) ∙ ap (λ x. noted l (begins x)) told) (record {
       numbers = record {
         turns = k.turns;
@@ -253,7 +252,6 @@ auth_tied b t link c cs due pending waits h =
         shut = k.shut;
         within = k.within;
         few = k.few;
-        unrepeated = unrepeated_lined b.link t.link (begins (message_of b t.link owner.Auth)) refl h.numbers.unrepeated;
         settings = record { size_is = k.settings.size_is; bound_is = k.settings.bound_is; limit_is = k.settings.limit_is; some = k.settings.some; limited = k.settings.limited };
         kind_is = k.kind_is;
         quiet = λ w. absurd (plain w);
@@ -280,9 +278,9 @@ auth_tied b t link c cs due pending waits h =
       story = h.story;
       tries = tries_told l b.story t.requests t.link t.started s few owned unwatched h.tries;
       lines = record {
-        line = subst (λ ns. Rising 0 (ns ++ (queue_ids link.queue ++ kept_ids t.admitted t.waiting)) (length t.requests)) (sym (requests_in-append t.started (renewal_id ∷ []) ∙ ap (λ ns. requests_in t.started ++ ns) (requests_behind []) ∙ append-nil (requests_in t.started))) h.lines.line;
+        line = subst (λ ns. Rising 0 (ns ++ (queue_ids link.queue ++ kept_ids t.admitted t.waiting)) (length t.requests)) (sym (requests_in-append t.started (renewal_id ∷ []) ∙ ap (λ ns. requests_in t.started ++ ns) (requests_behind renewal_id [] (auth_is_own renewal_id refl)) ∙ append-nil (requests_in t.started))) h.lines.line;
         queued = h.lines.queued;
-        entries = all_push (IsEntry t.requests) link.row (entry_of q) h.lines.entries (inr (record { is = refl; awaited_is = refl; shape_is = refl }));
+        entries = all_push (IsEntry t.requests) link.row (entry_of q) h.lines.entries (inr (record { is = auth_is_own renewal_id refl; awaited_is = refl; shape_is = λ e. refl }));
         packs = h.lines.packs;
         packed_in = h.lines.packed_in;
         there = λ p e. elim (h.lines.there p e) [

@@ -87,7 +87,7 @@ last_behind l k j s last at is =
 
 -- the owner of AUTH's number
 auth_name : (requests : List Request) (p : ℕ) → p ≡ renewal_id → is_of_renewal (owner_of requests p) ≡ true
-auth_name requests p is = ap is_of_renewal (taken_if (p == renewal_id) owner.Auth (owner.Try (name_at requests p) 0) (eq_test p renewal_id is))
+auth_name requests p is = ap is_of_renewal (owner_of_auth requests p is)
 
 -- what more items leave
 --
@@ -237,7 +237,7 @@ all_say requests l more (s ∷ out) k shaped only all = (
 )
 
 -- those that were told last, and aren't answered, are in the row
-told_in_row : (requests : List Request) (l : Ledger) (link : LinkState) (k : ℕ) → l.end ≡ None → TiedLink (owner_of requests) l link → AllByRecursion (IsEntry requests) link.row → ((p : ℕ) → p < length requests → p ≢ renewal_id) → last_renewal l.starts 0 None ≡ Some k → is_full l k ≡ false
+told_in_row : (requests : List Request) (l : Ledger) (link : LinkState) (k : ℕ) → l.end ≡ None → TiedLink (owner_of requests) l link → AllByRecursion (IsEntry requests) link.row → ((p : ℕ) → p < length requests → is_own p ≡ false) → last_renewal l.starts 0 None ≡ Some k → is_full l k ≡ false
     → IsIn renewal_id (wanted link.row)
 told_in_row requests l link k lives tied entries few last open_is =
     let m = last_start l k last in
@@ -249,7 +249,7 @@ told_in_row requests l link k lives tied entries few last open_is =
           let auth : owner_of requests row.entry.id ≡ owner.Auth = sym place.owned ∙ ap (λ (x : Start). x.owner) one ∙ auth_is m.0.owner m.2 in
           let id = auth_owner requests row.entry.id auth in
           elim (entry_at (IsEntry requests) link.row row.index row.entry entries row.at) [
-            | inl request ↦ absurd (few row.entry.id request.below id)
+            | inl request ↦ absurd (not_both (is_own row.entry.id) (few row.entry.id request.below) (auth_is_own row.entry.id id))
             | inr renewal ↦ subst (λ n. IsIn n (wanted link.row)) id (wanted_at link.row row.index row.entry row.at renewal.awaited_is)
           ]
     ]
@@ -272,7 +272,7 @@ row_tied name l link more d dealt_so h = record {
 }
 
 -- more items are dealt
-items_renewed : (requests : List Request) (l : Ledger) (link : LinkState) (more : List Data) (d : Dealing) (r : Renewal) → l.end ≡ None → TiedLink (owner_of requests) l link → AllByRecursion (IsEntry requests) link.row → ((p : ℕ) → p < length requests → p ≢ renewal_id)
+items_renewed : (requests : List Request) (l : Ledger) (link : LinkState) (more : List Data) (d : Dealing) (r : Renewal) → l.end ≡ None → TiedLink (owner_of requests) l link → AllByRecursion (IsEntry requests) link.row → ((p : ℕ) → p < length requests → is_own p ≡ false)
     → IsDealt (owner_of requests) l.starts (l.dealt ++ more) d → AllByRecursion (IsNew (owner_of requests) l.starts l.dealt (l.dealt ++ more)) d.out → settled_ids d.out ++ wanted d.row ≡ wanted link.row → AreRenewed l r
     → AreRenewed (with_items l more) (replied_each r d.out)
 items_renewed requests l link more d r lives tied entries few dealt_so new kept h =
@@ -393,7 +393,7 @@ items_renewed requests l link more d r lives tied entries few dealt_so new kept 
 
 -- bytes come
 pub read_renewed : (requests : List Request) (h : Hearing) (l : Ledger) (link : LinkState) (piece : List ℕ) (r : Renewal) → l.end ≡ None → ReadsAlike h true l link piece → TiedLink (owner_of requests) l link → AllByRecursion (IsEntry requests) link.row
-    → ((p : ℕ) → p < length requests → p ≢ renewal_id) → AreRenewed l r → AreRenewed (has_heard l piece) (replied_each r (deals h true link piece).out)
+    → ((p : ℕ) → p < length requests → is_own p ≡ false) → AreRenewed l r → AreRenewed (has_heard l piece) (replied_each r (deals h true link piece).out)
 read_renewed requests h l link piece r lives alike tied entries few renewed =
     let name = owner_of requests in
     let d = deals h true link piece in

@@ -172,7 +172,6 @@ retires before c started word kind n acts links l h is other u last no_timers no
         shut = ap (λ s. s || is_shutdown kind) h0.numbers.shut;
         within = h0.numbers.within;
         few = h0.numbers.few;
-        unrepeated = unrepeated;
         settings = record { size_is = h0.numbers.settings.size_is; bound_is = h0.numbers.settings.bound_is; limit_is = h0.numbers.settings.limit_is; some = h0.numbers.settings.some; limited = h0.numbers.settings.limited };
         kind_is = h0.numbers.kind_is;
         quiet = λ w. let q = h0.numbers.quiet w in record { none = q.none; unwanted = q.unwanted; unrenewed = refl };

@@ -279,7 +279,6 @@ renewal_tied b t r within wanted waiting tied h = record {
     shut = h.numbers.shut;
     within = h.numbers.within ∙ sym within;
     few = h.numbers.few;
-    unrepeated = h.numbers.unrepeated;
     settings = record { size_is = h.numbers.settings.size_is; bound_is = h.numbers.settings.bound_is; limit_is = h.numbers.settings.limit_is; some = h.numbers.settings.some; limited = h.numbers.settings.limited };
     kind_is = h.numbers.kind_is;
     quiet = λ w. let q = h.numbers.quiet w in record { none = q.none; unwanted = wanted ∙ q.unwanted; unrenewed = waiting ∙ q.unrenewed };

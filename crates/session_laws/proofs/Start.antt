@@ -96,7 +96,7 @@ first_within story requests link waiting admitted started q qs h =
     (rising_in 0 (requests_in started ++ later) (length requests) q.id h.line (in_right q.id (requests_in started) later (inl refl))).1
 
 -- nor has it started
-pub first_new : (story : ℕ → Story) (requests : List Request) (link : LinkState) (waiting admitted : List Waiting) (started : List ℕ) (q : Queued) (qs : List Queued) → TiedLines story requests (with_queue link (q ∷ qs)) waiting admitted [] started → q.id ≢ renewal_id → IsIn q.id started
+pub first_new : (story : ℕ → Story) (requests : List Request) (link : LinkState) (waiting admitted : List Waiting) (started : List ℕ) (q : Queued) (qs : List Queued) → TiedLines story requests (with_queue link (q ∷ qs)) waiting admitted [] started → is_own q.id ≡ false → IsIn q.id started
     → ⊥
 first_new story requests link waiting admitted started q qs h other i =
     let k = rising_apart 0 (requests_in started) (q.id ∷ (queue_ids qs ++ kept_ids admitted waiting)) (length requests) q.id q.id h.line (request_in q.id started other i) (inl refl) in
@@ -110,7 +110,7 @@ first_apart story requests link waiting admitted started q qs h i =
     first_is_apart 0 q.id (queue_ids qs ++ kept) (length requests) (rising_right 0 (requests_in started) (q.id ∷ (queue_ids qs ++ kept)) (length requests) h.line) (in_left q.id (queue_ids qs) kept i)
 
 -- what is noted of the link is the message of the queue
-same_start : (b : Book) (link : ℕ) (requests : List Request) (q : Queued) → q.id ≢ renewal_id → IsQueued b.story requests q → message_of b link (owner.Try (name_at requests q.id) 0) ≡ start_from (owner_of requests) q
+same_start : (b : Book) (link : ℕ) (requests : List Request) (q : Queued) → is_own q.id ≡ false → IsQueued b.story requests q → message_of b link (owner.Try (name_at requests q.id) 0) ≡ start_from (owner_of requests) q
 same_start b link requests q other h = λ i. record { owner = sym (owner_below requests q.id other) i; shape = sym h.is_of.shape_is i; bytes = sym h.is_of.packs i }
 
 -- the owners of starts, and of others
@@ -145,7 +145,7 @@ owners_length (s ∷ ss) requests started (suc n) e = let long = owners_length s
 --
 -- one more of the started
 tries_started : (l : Ledger) (story : ℕ → Story) (requests : List Request) (link k : ℕ) (started : List ℕ) (s : Start) (p : ℕ)
-    → p ≢ renewal_id → ((m : ℕ) → m < length requests → IsIn m started → name_at requests m ≡ name_at requests p → ⊥) → ((m : ℕ) (r : Request) → slice_get requests m ≡ Some r → r.name ≡ name_at requests p → m ≡ p)
+    → is_own p ≡ false → ((m : ℕ) → m < length requests → IsIn m started → name_at requests m ≡ name_at requests p → ⊥) → ((m : ℕ) (r : Request) → slice_get requests m ≡ Some r → r.name ≡ name_at requests p → m ≡ p)
     → s.owner ≡ owner_of requests p → s.shape ≡ shape (story (name_at requests p)) → k ≡ length l.starts → (story (name_at requests p)).tries ≡ []
     → is_watching l.hearing ≡ false → TiedTries l story requests link started → TiedTries (noted l (begins s)) (tried_at (name_at requests p) link k story) requests link (started ++ p ∷ [])
 tries_started l story requests link k started s p other new one owned shaped counted none plain h =
@@ -186,18 +186,18 @@ tries_started l story requests link k started s p other new one owned shaped cou
 -- the line, and what is shown of waits
 --
 -- a request's number, or none, is a request's
-pub requests_own : (b : Bool) (n : ℕ) → n ≢ renewal_id → requests_in (if b then n ∷ [] else []) ≡ (if b then n ∷ [] else [])
+pub requests_own : (b : Bool) (n : ℕ) → is_own n ≡ false → requests_in (if b then n ∷ [] else []) ≡ (if b then n ∷ [] else [])
 requests_own true n other = requests_first n [] other
 requests_own false n other = refl
 
 -- one more entry of a request whose verdict is wanted, or not
-pub requests_wanted : (row : List Entry) (q : Queued) → q.id ≢ renewal_id → requests_in (wanted (row ++ entry_of q ∷ [])) ≡ requests_in (wanted row) ++ (if q.awaited then q.id ∷ [] else [])
+pub requests_wanted : (row : List Entry) (q : Queued) → is_own q.id ≡ false → requests_in (wanted (row ++ entry_of q ∷ [])) ≡ requests_in (wanted row) ++ (if q.awaited then q.id ∷ [] else [])
 requests_wanted row q other =
     let own = if q.awaited then q.id ∷ [] else [] in
     ap requests_in (wanted-append row (entry_of q ∷ []) ∙ ap (λ ns. wanted row ++ ns) (append-nil own)) ∙ requests_in-append (wanted row) own ∙ ap (λ ns. requests_in (wanted row) ++ ns) (requests_own q.awaited q.id other)
 
 -- the line when the first of the queue has started
-lines_started : (story : ℕ → Story) (requests : List Request) (link : LinkState) (waiting admitted : List Waiting) (started : List ℕ) (q : Queued) (qs : List Queued) (k l : ℕ) → q.id ≢ renewal_id
+lines_started : (story : ℕ → Story) (requests : List Request) (link : LinkState) (waiting admitted : List Waiting) (started : List ℕ) (q : Queued) (qs : List Queued) (k l : ℕ) → is_own q.id ≡ false
     → TiedLines story requests (with_queue link (q ∷ qs)) waiting admitted [] started
     → TiedLines (tried_at (name_at requests q.id) k l story) requests (with_queue (begun link q) qs) waiting admitted [] (started ++ q.id ∷ [])
 lines_started story requests link waiting admitted started q qs k l other h = record {
@@ -339,7 +339,7 @@ start_tied b t link q qs h =
     tied_by (entered b (start_action t link q)) (after_start t link q qs) (noted l (begins s))
     (mine_noted l t.link (begins (message_of b t.link (owner.Try n 0))) ∙ ap (λ x. noted l (begins x)) (same_start b t.link t.requests q other is))
     (record {
-      numbers = numbers_kept b _ _ _ _ was _ _ _ _ _ _ _ _ _ _ (unrepeated_lined b.link t.link (begins (message_of b t.link (owner.Try n 0))) refl h.numbers.unrepeated) h.numbers;
+      numbers = numbers_kept b _ _ _ _ was _ _ _ _ _ _ _ _ _ _ h.numbers;
       others = others_kept b t.link (begins (message_of b t.link (owner.Try n 0))) h.others;
       notices = h.notices;
       life = h.life;

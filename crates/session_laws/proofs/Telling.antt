@@ -170,13 +170,13 @@ lt_test a b less = by_test (nat_lt a b) _ (λ t. t) (λ f. absurd (let no_less =
 
 -- whose message that of a number is, where requests have these names
 abbrev pub try_of : (ℕ → ℕ) → ℕ → Owner
-try_of name p = if p == renewal_id then owner.Auth else owner.Try (name p) 0
+try_of name p = if is_own p then own_owner p else owner.Try (name p) 0
 
 -- what stands so in the ledger does so now
 late_now : (l now : Ledger) (told : ℕ) (name : ℕ → ℕ) (requests : List Request) (push : Heard) (p : ℕ) → now ≡ retells l told l.parted → name_at requests p ≡ name p → IsLate l (try_of name) push p → IsLate now (owner_of requests) push p
 late_now l now told name requests push p is named d =
     subst (λ (x : Ledger). IsLate x (owner_of requests) push p) (sym is)
-    (record { number = d.number; of_shape = d.of_shape; stands = subst (λ n. StandsAs l.starts (if p == renewal_id then owner.Auth else owner.Try n 0) d.of_shape d.number) (sym named) d.stands; late = d.late })
+    (record { number = d.number; of_shape = d.of_shape; stands = subst (λ n. StandsAs l.starts (if is_own p then own_owner p else owner.Try n 0) d.of_shape d.number) (sym named) d.stands; late = d.late })
 
 -- a notice that came
 --
@@ -330,7 +330,7 @@ answered_between before f ledger owes name was w h rest p o pending started hear
     open_one e =
         let a = act.Outcome (name_at w.conn.requests p) o in
         let owes_now = k.owed_is (name_at w.conn.requests p) ∙ ap owes (k.named p) ∙ due (k.opens p e) in
-        let place = subst (λ n. StandsAs ledger.starts (if p == renewal_id then owner.Auth else owner.Try n 0) early.of_shape early.number) (sym (k.named p)) early.stands in
+        let place = subst (λ n. StandsAs ledger.starts (if is_own p then own_owner p else owner.Try n 0) early.of_shape early.number) (sym (k.named p)) early.stands in
         let here = subst (λ (x : Ledger). StandsAs x.starts (owner_of w.conn.requests p) early.of_shape early.number) (sym k.ledger_is) place in
         let full = subst (λ (x : Ledger). is_full_by x h.after early.number ≡ true) (sym k.ledger_is) early.full in
         let n = next_of l.told l.notices h rest (k.holds.tied.notices.untold_is hears) in

@@ -48,7 +48,7 @@ use Rattle.legal_trace.specs.Managers.{is_lazy, settings_in}
 use Rattle.legal_trace.specs.Steps.{configured, queue_size, permits_in, permits_held, is_let_in}
 use Rattle.legal_trace.specs.Legal.{AllStand, IsTimed, answer_time, is_attempt, is_cause}
 use Rattle.legal_trace.specs.Owed.{owed_unstarted}
-use Rattle.session_laws.proofs.Numbers.{IsIn, Rising, requests_in}
+use Rattle.session_laws.proofs.Numbers.{IsIn, Rising, is_own, requests_in}
 use Rattle.driver_model.specs.News.{News, came}
 use Rattle.session_laws.proofs.Server.{owners_of, setup_owners, hearing_at, TiedCreds, NoneRenewed, TiedRenewal, TiedSetup}
 
@@ -120,9 +120,13 @@ has_ended (SettingUp link greeting) = false
 has_ended (Ready link) = false
 has_ended (Ended e) = true
 
--- whose message that of a number is: a request's, or AUTH
+-- whose message that of a number of the driver's own is
+abbrev pub own_owner : ℕ → Owner
+own_owner p = if p == renewal_id then owner.Auth else owner.Resub
+
+-- whose message that of a number is: a request's, AUTH, or what is subscribed again
 abbrev pub owner_of : List Request → ℕ → Owner
-owner_of requests p = if p == renewal_id then owner.Auth else owner.Try (name_at requests p) 0
+owner_of requests p = if is_own p then own_owner p else owner.Try (name_at requests p) 0
 
 -- the link of a connection, also while it waits for credentials, and while it is set up
 abbrev pub whole_link : Life → LinkState
@@ -169,7 +173,7 @@ IsAim (purpose.Response owner.Resub) link count = ⊥
 IsAim (purpose.Response owner.Monitor) link count = ⊥
 IsAim (purpose.Renewal l k) link count = l ≤ link
 IsAim (purpose.Backoff g) link count = Unit {0}
-IsAim (purpose.Resubscription l) link count = ⊥
+IsAim (purpose.Resubscription l) link count = l ≤ link
 IsAim (purpose.Response (owner.Try n round)) link count = (n < count) × (round ≡ 0)
 
 -- all timers are
@@ -437,15 +441,15 @@ pub record IsOfRequest (requests : List Request) (e : Entry) : Type 0 where
   pub below : e.id < length requests
   pub placed_at : e.awaited ≡ true → is_placed_at requests e.id ≡ true
 
--- AUTH that takes its reply
-pub record IsOfRenewal (e : Entry) : Type 0 where
-  pub is : e.id ≡ renewal_id
+-- what the driver said itself, which takes its replies: AUTH, which is a single confirmation, or what is subscribed again
+pub record IsOfDriver (e : Entry) : Type 0 where
+  pub is : is_own e.id ≡ true
   pub awaited_is : e.awaited ≡ true
-  pub shape_is : e.shape ≡ Confirmation
+  pub shape_is : e.id ≡ renewal_id → e.shape ≡ Confirmation
 
 -- a started message that takes more items is one of these
 abbrev pub IsEntry : List Request → Entry → Type 0
-IsEntry requests e = IsOfRequest requests e ⊎ IsOfRenewal e
+IsEntry requests e = IsOfRequest requests e ⊎ IsOfDriver e
 
 -- one that waits is as its submission says, and is to be answered within its time
 pub record IsPacked (story : ℕ → Story) (requests : List Request) (w : Waiting) : Type 0 where
@@ -651,7 +655,6 @@ numbers_kept b link story tracked errors t life free requests waiting admitted f
   shut = h.shut;
   within = h.within;
   few = h.few;
-  unrepeated = unrepeated;
   settings = record { size_is = h.settings.size_is; bound_is = h.settings.bound_is; limit_is = h.settings.limit_is; some = h.settings.some; limited = h.settings.limited };
   kind_is = h.kind_is;
   quiet = h.quiet;
@@ -672,7 +675,7 @@ pub relined : (b : Book) (t : Inner) (waiting admitted : List Waiting) (fresh mo
     → TiedRounds (has_generations b) b.story t.requests (is_ready t.life) fresh t.rounds → AreLate b.story t.requests pending
     → Tied b (record t { waiting = waiting; admitted = admitted; fresh = fresh; moved = moved; pending = pending })
 relined b t waiting admitted fresh moved pending h lines waits rounds late = record {
-  numbers = numbers_kept b b.link b.story b.tracked b.errors t t.life t.free t.requests waiting admitted fresh moved t.letting pending t.started h.numbers.unrepeated h.numbers;
+  numbers = numbers_kept b b.link b.story b.tracked b.errors t t.life t.free t.requests waiting admitted fresh moved t.letting pending t.started h.numbers;
   others = h.others;
   notices = h.notices;
   life = h.life;
@@ -682,6 +685,7 @@ relined b t waiting admitted fresh moved pending h lines waits rounds late = rec
   creation = h.creation;
   uses = h.uses;
   renewal = h.renewal;
+  repeat = h.repeat;
   setup = h.setup;
   link = h.link;
   names = h.names;

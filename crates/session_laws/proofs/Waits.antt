@@ -161,7 +161,7 @@ wait_tied b t p kind moved fresh within h new waits =
     let same = waits_submissions n kind b.story in
     let answers = waits_outcomes n kind b.story in
     record {
-      numbers = numbers_kept b b.link after b.tracked b.errors t t.life t.free t.requests t.waiting t.admitted fresh moved t.letting t.pending t.started h.numbers.unrepeated h.numbers;
+      numbers = numbers_kept b b.link after b.tracked b.errors t t.life t.free t.requests t.waiting t.admitted fresh moved t.letting t.pending t.started h.numbers;
       others = h.others;
       notices = h.notices;
       life = h.life;
@@ -171,6 +171,7 @@ wait_tied b t p kind moved fresh within h new waits =
       creation = h.creation;
       uses = h.uses;
       renewal = h.renewal;
+      repeat = h.repeat;
       setup = h.setup;
       link = h.link;
       names = h.names;
@@ -254,7 +255,7 @@ untried_there b t p h none up o untried =
     ]
 
 -- a message of the row that is wanted has its place
-wanted_placed : (requests : List Request) (row : List Entry) (p : ℕ) → p ≢ renewal_id → AllByRecursion (IsEntry requests) row → IsIn p (wanted row) → is_placed_at requests p ≡ true
+wanted_placed : (requests : List Request) (row : List Entry) (p : ℕ) → is_own p ≡ false → AllByRecursion (IsEntry requests) row → IsIn p (wanted row) → is_placed_at requests p ≡ true
 wanted_placed requests [] p other all i = absurd i
 wanted_placed requests (e ∷ es) p other all i = elim (in_either p (if e.awaited then e.id ∷ [] else []) (wanted es) i) [
   | inl j ↦ elim all.0 [
