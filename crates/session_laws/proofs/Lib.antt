@@ -1,5 +1,6 @@
 pub mod Numbers
 pub mod Server
+pub mod Repeats
 pub mod Tied
 pub mod States
 pub mod Creds

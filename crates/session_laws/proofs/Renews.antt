@@ -136,6 +136,7 @@ time_tied b t link number ms none due within h =
       creation = h.creation;
       uses = h.uses;
       renewal = timed_renewed l r ms none due within h.renewal;
+      repeat = repeated_alike l (noted l times) b.tracked t.renewal.within t.again refl refl refl h.repeat;
       setup = record { info_is = h.setup.info_is; sent = h.setup.sent; said = record { well = h.setup.said.well; none = h.setup.said.none } };
       link = λ e. timed_tied (owner_of t.requests) l link (h.link refl);
       names = h.names;
@@ -272,6 +273,7 @@ auth_tied b t link c cs due pending waits h =
       creation = h.creation;
       uses = h.uses;
       renewal = auth_renewed l t.renewal s c cs owned refl up.within due pending waits h.renewal;
+      repeat = begins_repeated l s b.tracked t.renewal.within t.again (ap is_of_again owned) h.repeat;
       setup = record { info_is = h.setup.info_is; sent = setups_begins l s (ap is_of_setup owned) h.setup.sent; said = set_up_begins l s (ap is_of_setup owned) h.setup.said };
       link = λ e. begun_tied name l link q (auth_some c) up;
       names = h.names;

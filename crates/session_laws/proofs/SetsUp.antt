@@ -215,6 +215,7 @@ set_up_tied b t link greeting due user h =
       creation = h.creation;
       uses = h.uses;
       renewal = none_begins l t.renewal s refl h.renewal;
+      repeat = begins_held l s b.tracked t.renewal.within t.again refl h.repeat;
       setup = record { info_is = h.setup.info_is; sent = setups_next l all h.setup.sent; said = (said.0, greeting_of (noted l (begins s)) (with_queue (begun link q) []) greeting own (setting_next l link greeting all tied.within due user setting)) };
       link = λ e. subst (λ (who : Owner). TiedLink (λ (p : ℕ). who) (noted l (begins s)) (with_queue (begun link q) [])) (sym own)
           (queue_tied name (noted l (begins s)) (begun (with_queue link (q ∷ [])) q) [] (begun_tied name l (with_queue link (q ∷ [])) q (setup_packed l (setup_count l.starts) setting.says) tied));

@@ -349,6 +349,7 @@ start_tied b t link q qs h =
       creation = h.creation;
       uses = h.uses;
       renewal = begins_renewed l t.renewal s (ap is_of_renewal try_is) h.renewal;
+      repeat = begins_repeated l s b.tracked t.renewal.within t.again (ap is_of_again try_is) h.repeat;
       setup = record { info_is = h.setup.info_is; sent = setups_begins l s (ap is_of_setup try_is) h.setup.sent; said = set_up_begins l s (ap is_of_setup try_is) h.setup.said };
       link = λ e. queue_tied name (noted l (begins s)) (begun (with_queue link (q ∷ qs)) q) qs (begun_tied name l (with_queue link (q ∷ qs)) q (queued_some b was q h within is) up);
       names = h.names;

@@ -139,6 +139,7 @@ watch_tied b t link due h =
       creation = h.creation;
       uses = h.uses;
       renewal = none_begins l t.renewal s refl h.renewal;
+      repeat = begins_held l s b.tracked t.renewal.within t.again refl h.repeat;
       setup = record { info_is = h.setup.info_is; sent = setups_begins l s refl h.setup.sent; said = (said.0, watching_next l link tied.within due said.1) };
       link = λ e. queue_tied name (noted l (begins s)) (begun (queued link) watch_queued) [] (begun_tied name l (queued link) watch_queued monitor_has_bytes tied);
       names = h.names;
