@@ -27,6 +27,7 @@ pub mod Told
 pub mod Start
 pub mod Moves
 pub mod Ahead
+pub mod Repeating
 pub mod Going
 pub mod Starts
 pub mod Place

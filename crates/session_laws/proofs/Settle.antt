@@ -1,8 +1,8 @@
 -- Those that are to be answered are, one after another.
 use Rattle.std.proofs.lemmas.List.{append-nil}
-use Rattle.std.proofs.Common.{Bool, ◌==◌, if◌then◌else◌, ◌+◌, append_assoc, is_some, ◌≡◌, inl, ℕ, suc, true, false, List, [], ◌∷◌, ◌++◌, length, Option, Some, refl, sym, ap, ◌∙◌, subst, arith, ◌≢◌, ◌≤◌, None}
+use Rattle.std.proofs.Common.{Bool, ◌==◌, ◌||◌, if◌then◌else◌, ◌+◌, append_assoc, is_some, ◌≡◌, inl, ℕ, suc, true, false, List, [], ◌∷◌, ◌++◌, length, Option, Some, refl, sym, ap, ◌∙◌, subst, arith, ◌≢◌, ◌≤◌, None}
 use Rattle.std.specs.List.{AllByRecursion}
-use Rattle.containers.proofs.Choices.{chosen, not_both}
+use Rattle.containers.proofs.Choices.{by_test, chosen, left_if, not_both, taken_if}
 use Rattle.redis_error.specs.declared.redis_error.RedisError.{RedisError}
 use Rattle.driver_model.specs.declared.action.Action.{Action}
 use Rattle.driver_model.specs.declared.outcome.Outcome.{Outcome}
@@ -19,18 +19,20 @@ use Rattle.mux_conn.specs.declared.life.Life.TheVariants.{Resting, Dialing, Want
 use Rattle.mux_conn.specs.declared.request.Progress.TheVariants as progress
 use Rattle.mux_conn.specs.declared.request.Request.{Request}
 use Rattle.mux_conn.specs.declared.request.Waiting.{Waiting}
-use Rattle.mux_conn.specs.Connection.{Work}
+use Rattle.mux_conn.specs.Connection.{Work, is_repeating}
+use Rattle.mux_conn.specs.Repeats.{repeat_id, repeating}
+use Rattle.mux_conn.specs.declared.again.Again.TheVariants as again
 use Rattle.mux_conn.specs.Requests.{is_open, is_open_at, name_at, closed, answered}
 use Rattle.mux_conn.specs.declared.renewal.Renewal.{Renewal}
 use Rattle.mux_conn.specs.Renewals.{is_done, renewal_id, renewing, replied}
-use Rattle.mux_conn.specs.Effects.{settled_each, settled_one, failed_each}
+use Rattle.mux_conn.specs.Effects.{all_fresh, failed_each, served, settled_each, settled_one, settled_other}
 use Rattle.shared_session.specs.declared.core_state.Core.{Core}
 use Rattle.shared_session.specs.Turn.{shown, shown_each, source_of, sources_of, timer_of, timers_of}
 use Rattle.legal_trace.specs.Ledger.{Ledger, is_over, Heard, next_notice, renewal_count}
 use Rattle.legal_trace.specs.Book.{Book, blank_book, book, entered}
 use Rattle.legal_trace.specs.Owed.{owed}
 use Rattle.legal_trace.specs.Legal.{AllStand, MayStand, MayAnswer, IsBefore, is_heard}
-use Rattle.session_laws.proofs.Numbers.{Rising, requests_in, rising_from}
+use Rattle.session_laws.proofs.Numbers.{Rising, is_own, requests_behind, requests_first, requests_in, rising_from}
 use Rattle.session_laws.proofs.Server.{OnLink, TiedRenewal}
 use Rattle.session_laws.proofs.Tied.{Inner, link_in, TiedLife, Tied, Sound, waiting_ids, has_ended, AreAside}
 use Rattle.session_laws.proofs.Entered.{book_more, quiet_sources, quiet_timers, sound_more, shown_more, sources_more, timers_more}
@@ -327,39 +329,80 @@ renewal_over b t r e within wanted waiting asked over h =
 pub answered_renewal : (w : Work) (p : ℕ) (o : Outcome) → (answered w p o).conn.renewal ≡ w.conn.renewal
 answered_renewal w p o = chosen (λ (x : Work). x.conn.renewal ≡ w.conn.renewal) (is_open_at w.conn.requests p) _ w (λ t. refl) (λ f. refl)
 
--- also where they come to these
-pub answered_renewing : (w : Work) (p : ℕ) (o : Outcome) (r : Renewal) → answered (renewing w r) p o ≡ renewing (answered w p o) r
-answered_renewing w p o r = by_open (is_open_at w.conn.requests p)
+-- what a settled message of the driver's own comes to: new credentials are answered, or what is subscribed again
+abbrev pub own_one : Work → Settled → Work
+own_one w s = if s.id == renewal_id then renewing w (replied w.conn.renewal (is_done s.verdict)) else (if s.id == repeat_id then served w else w)
+
+-- and all of these
+abbrev pub own_each : Work → List Settled → Work
+own_each w [] = w
+own_each w (s ∷ ss) = own_each (own_one w s) ss
+
+-- an answer to a request leaves it, whichever comes first
+answered_own : (w : Work) (p : ℕ) (o : Outcome) (s : Settled) → own_one (answered w p o) s ≡ answered (own_one w s) p o
+answered_own w p o s = by_kind (is_open_at w.conn.requests p) (s.id == renewal_id) (s.id == repeat_id) (is_repeating w.conn)
   where
-    done : Work
-    done = record { conn = closed w.conn p; acts = w.acts ++ act.Outcome (name_at w.conn.requests p) o ∷ [] }
+    done : Work → Work
+    done v = record { conn = closed v.conn p; acts = v.acts ++ act.Outcome (name_at v.conn.requests p) o ∷ [] }
 
-    by_open : (b : Bool) → (if b then renewing done r else renewing w r) ≡ renewing (if b then done else w) r
-    by_open true = refl
-    by_open false = refl
+    gone : Work → Work
+    gone v = all_fresh (repeating v again.Nothing)
 
--- one that was settled is answered, where the others behind it are
-one_settled : (before : List Action) (f : Core) (ledger : Ledger) (owes : ℕ → Option Outcome) (name : ℕ → ℕ) (was : ℕ → Bool) (w : Work) (s : Settled) (ss : List Settled) (pending started : List ℕ) (auth : Bool) → IsDue owes name was s
-    → (let r = w.conn.renewal in let ids = requests_in (settled_ids ss) in IsAnswering before f ledger owes name was (renewing w (replied_each (if auth then replied r (is_done s.verdict) else r) ss)) ((if auth then ids else s.id ∷ ids) ++ pending) started)
-    → ((v : Work) → IsAnswering before f ledger owes name was (renewing v (replied_each v.conn.renewal ss)) (requests_in (settled_ids ss) ++ pending) started → IsAnswering before f ledger owes name was (settled_each v ss) pending started)
-    → IsAnswering before f ledger owes name was (settled_each (if auth then renewing w (replied w.conn.renewal (is_done s.verdict)) else answered w s.id (outcome_of s.verdict)) ss) pending started
-one_settled before f ledger owes name was w s ss pending started true due h rest = rest (renewing w (replied w.conn.renewal (is_done s.verdict))) h
-one_settled before f ledger owes name was w s ss pending started false due h rest =
-    let o = outcome_of s.verdict in
-    let ids = requests_in (settled_ids ss) in
-    let come = replied_each w.conn.renewal ss in
-    let done = answered_holds before f ledger owes name was (renewing w come) s.id o (ids ++ pending) started due h in
-    rest (answered w s.id o)
-    (subst (λ r. IsAnswering before f ledger owes name was (renewing (answered w s.id o) (replied_each r ss)) (ids ++ pending) started) (sym (answered_renewal w s.id o))
-    (subst (λ (x : Work). IsAnswering before f ledger owes name was x (ids ++ pending) started) (answered_renewing w s.id o come) done))
+    auth : Work → Work
+    auth v = renewing v (replied v.conn.renewal (is_done s.verdict))
 
--- each that was settled is answered; AUTH's reply is of no account for requests
+    by_kind : (b first second going : Bool) → (if first then auth (if b then done w else w) else (if second then (if going then gone (if b then done w else w) else (if b then done w else w)) else (if b then done w else w)))
+        ≡ (if b then done (if first then auth w else (if second then (if going then gone w else w) else w)) else (if first then auth w else (if second then (if going then gone w else w) else w)))
+    by_kind true true second going = refl
+    by_kind true false true true = refl
+    by_kind true false true false = refl
+    by_kind true false false going = refl
+    by_kind false true second going = refl
+    by_kind false false true true = refl
+    by_kind false false true false = refl
+    by_kind false false false going = refl
+
+-- so it leaves all of them
+pub answered_owns : (w : Work) (p : ℕ) (o : Outcome) (ss : List Settled) → own_each (answered w p o) ss ≡ answered (own_each w ss) p o
+answered_owns w p o [] = refl
+answered_owns w p o (s ∷ ss) = ap (λ (x : Work). own_each x ss) (answered_own w p o s) ∙ answered_owns (own_one w s) p o ss
+
+-- a message of the driver's own is settled as it says
+own_settled : (w : Work) (s : Settled) → is_own s.id ≡ true → settled_one w s ≡ own_one w s
+own_settled w s own = by_test (s.id == renewal_id) (settled_one w s ≡ own_one w s)
+    (λ t. taken_if (s.id == renewal_id) (renewing w (replied w.conn.renewal (is_done s.verdict))) (settled_other w s) t ∙ sym (taken_if (s.id == renewal_id) (renewing w (replied w.conn.renewal (is_done s.verdict))) (if s.id == repeat_id then served w else w) t))
+    (λ f.
+    let second : (s.id == repeat_id) ≡ true = sym (ap (λ b. b || (s.id == repeat_id)) f) ∙ own in
+    left_if (s.id == renewal_id) (renewing w (replied w.conn.renewal (is_done s.verdict))) (settled_other w s) f ∙ taken_if (s.id == repeat_id) (served w) (answered w s.id (outcome_of s.verdict)) second
+    ∙ sym (left_if (s.id == renewal_id) (renewing w (replied w.conn.renewal (is_done s.verdict))) (if s.id == repeat_id then served w else w) f ∙ taken_if (s.id == repeat_id) (served w) w second))
+
+-- and a request's is answered
+request_settled : (w : Work) (s : Settled) → is_own s.id ≡ false → (settled_one w s ≡ answered w s.id (outcome_of s.verdict)) × (own_one w s ≡ w)
+request_settled w s other =
+    let first : (s.id == renewal_id) ≡ false = by_test (s.id == renewal_id) _ (λ t. absurd (not_both (is_own s.id) other (ap (λ b. b || (s.id == repeat_id)) t))) (λ f. f) in
+    let second : (s.id == repeat_id) ≡ false = sym (ap (λ b. b || (s.id == repeat_id)) first) ∙ other in (
+      left_if (s.id == renewal_id) (renewing w (replied w.conn.renewal (is_done s.verdict))) (settled_other w s) first ∙ left_if (s.id == repeat_id) (served w) (answered w s.id (outcome_of s.verdict)) second,
+      left_if (s.id == renewal_id) (renewing w (replied w.conn.renewal (is_done s.verdict))) (if s.id == repeat_id then served w else w) first ∙ left_if (s.id == repeat_id) (served w) w second,
+    )
+
+-- each that was settled is answered; the driver's own are of no account for requests
 pub settled_holds : (before : List Action) (f : Core) (ledger : Ledger) (owes : ℕ → Option Outcome) (name : ℕ → ℕ) (was : ℕ → Bool) (w : Work) (ss : List Settled) (pending started : List ℕ) → AllByRecursion (IsDue owes name was) ss
-    → IsAnswering before f ledger owes name was (renewing w (replied_each w.conn.renewal ss)) (requests_in (settled_ids ss) ++ pending) started → IsAnswering before f ledger owes name was (settled_each w ss) pending started
+    → IsAnswering before f ledger owes name was (own_each w ss) (requests_in (settled_ids ss) ++ pending) started → IsAnswering before f ledger owes name was (settled_each w ss) pending started
 settled_holds before f ledger owes name was w [] pending started due h = h
 settled_holds before f ledger owes name was w (s ∷ ss) pending started due h =
-    one_settled before f ledger owes name was w s ss pending started (s.id == renewal_id) due.0 h
-    (λ v k. settled_holds before f ledger owes name was v ss pending started due.1 k)
+    let o = outcome_of s.verdict in
+    let ids = requests_in (settled_ids ss) in
+    by_test (is_own s.id) (IsAnswering before f ledger owes name was (settled_each w (s ∷ ss)) pending started)
+    (λ t. subst (λ (x : Work). IsAnswering before f ledger owes name was (settled_each x ss) pending started) (sym (own_settled w s t))
+    (settled_holds before f ledger owes name was (own_one w s) ss pending started due.1
+    (subst (λ ns. IsAnswering before f ledger owes name was (own_each (own_one w s) ss) (ns ++ pending) started) (requests_behind s.id (settled_ids ss) t) h)))
+    (λ f1.
+    let k = request_settled w s f1 in
+    let first = subst (λ (x : Work). IsAnswering before f ledger owes name was (own_each x ss) (s.id ∷ (ids ++ pending)) started) k.1 (subst (λ ns. IsAnswering before f ledger owes name was (own_each (own_one w s) ss) (ns ++ pending) started) (requests_first s.id (settled_ids ss) f1) h) in
+    let done = answered_holds before f ledger owes name was (own_each w ss) s.id o (ids ++ pending) started due.0 first in
+    subst (λ (x : Work). IsAnswering before f ledger owes name was (settled_each x ss) pending started) (sym k.0)
+    (settled_holds before f ledger owes name was (answered w s.id o) ss pending started due.1
+    (subst (λ (x : Work). IsAnswering before f ledger owes name was x (ids ++ pending) started) (sym (answered_owns w s.id o ss)) done)))
 
 -- each of these requests is answered with this error
 pub failed_holds : (before : List Action) (f : Core) (ledger : Ledger) (owes : ℕ → Option Outcome) (name : ℕ → ℕ) (was : ℕ → Bool) (w : Work) (e : RedisError) (qs : List Waiting) (pending started : List ℕ) → AllByRecursion (IsDueError owes name was e) qs
