@@ -419,13 +419,12 @@ pub record Leaves (w v : Work) : Type 0 where
   pub life : v.conn.life ≡ w.conn.life
   pub waiting : v.conn.waiting ≡ w.conn.waiting
   pub admitted : v.conn.admitted ≡ w.conn.admitted
-  pub fresh : v.conn.fresh ≡ w.conn.fresh
   pub moved : v.conn.moved ≡ w.conn.moved
   pub hears : v.conn.hears ≡ w.conn.hears
 
 -- nothing is changed
 pub leaves_all : (w : Work) → Leaves w w
-leaves_all w = record { size = refl; boundary = refl; life = refl; waiting = refl; admitted = refl; fresh = refl; moved = refl; hears = refl }
+leaves_all w = record { size = refl; boundary = refl; life = refl; waiting = refl; admitted = refl; moved = refl; hears = refl }
 
 -- one after another
 pub leaves_on : (u v w : Work) → Leaves u v → Leaves v w → Leaves u w
@@ -435,21 +434,23 @@ leaves_on u v w h k = record {
   life = k.life ∙ h.life;
   waiting = k.waiting ∙ h.waiting;
   admitted = k.admitted ∙ h.admitted;
-  fresh = k.fresh ∙ h.fresh;
   moved = k.moved ∙ h.moved;
   hears = k.hears ∙ h.hears;
 }
 
 -- one answer leaves them
 pub answered_leaves : (w : Work) (p : ℕ) (o : Outcome) → Leaves w (answered w p o)
-answered_leaves w p o = chosen (Leaves w) (is_open_at w.conn.requests p) _ w (λ t. record { size = refl; boundary = refl; life = refl; waiting = refl; admitted = refl; fresh = refl; moved = refl; hears = refl }) (λ f. leaves_all w)
+answered_leaves w p o = chosen (Leaves w) (is_open_at w.conn.requests p) _ w (λ t. record { size = refl; boundary = refl; life = refl; waiting = refl; admitted = refl; moved = refl; hears = refl }) (λ f. leaves_all w)
 
 -- so does what one settled message comes to
 pub one_leaves : (w : Work) (s : Settled) → Leaves w (settled_one w s)
 one_leaves w s =
-    chosen (Leaves w) (s.id == renewal_id) (renewing w (replied w.conn.renewal (is_done s.verdict))) (answered w s.id (outcome_of s.verdict))
-    (λ t. record { size = refl; boundary = refl; life = refl; waiting = refl; admitted = refl; fresh = refl; moved = refl; hears = refl })
-    (λ f. answered_leaves w s.id (outcome_of s.verdict))
+    chosen (Leaves w) (s.id == renewal_id) (renewing w (replied w.conn.renewal (is_done s.verdict))) (settled_other w s)
+    (λ t. record { size = refl; boundary = refl; life = refl; waiting = refl; admitted = refl; moved = refl; hears = refl })
+    (λ f.
+    chosen (Leaves w) (s.id == repeat_id) (served w) (answered w s.id (outcome_of s.verdict))
+    (λ t. chosen (Leaves w) (is_repeating w.conn) (all_fresh (repeating w again.Nothing)) w (λ r. record { size = refl; boundary = refl; life = refl; waiting = refl; admitted = refl; moved = refl; hears = refl }) (λ n. leaves_all w))
+    (λ n. answered_leaves w s.id (outcome_of s.verdict)))
 
 -- so do the answers to what was settled
 pub settled_leaves : (w : Work) (ss : List Settled) → Leaves w (settled_each w ss)
