@@ -12,7 +12,7 @@ use Rattle.driver_model.specs.Push.{is_disconnection}
 use Rattle.mux_conn.specs.declared.act.LinkAct.{LinkAct}
 use Rattle.mux_conn.specs.declared.act.LinkAct.TheVariants as act
 use Rattle.shared_session.specs.Turn.{shown}
-use Rattle.legal_trace.specs.Ledger.{Ledger, End, Ending, Start, by_shutdown, by_fault, by_opening, by_attempt, begins, offers, tells, sources, times, parts, ends, ending, ending_up, ending_unready, ending_asked, ending_alive, ending_by, ending_or_shutdown, error_in, is_answered, again_of, is_fault, is_over, is_ready, is_served, is_set_up, is_unreadable, lacks_credentials, lasting, noted, setup_result, opening_error, authorized_by, awaits_credentials, bytes_came, dials, hears, is_renewal_open, is_repeating, lost_by, may_renew, refused_in, renewed_by, unrenewed_by, unrepeated_by, with_news}
+use Rattle.legal_trace.specs.Ledger.{Ledger, End, Ending, Start, by_shutdown, by_fault, by_opening, by_attempt, begins, offers, tells, sources, times, repeats_timed, parts, ends, ending, ending_up, ending_unready, ending_asked, ending_alive, ending_by, ending_or_shutdown, error_in, is_answered, again_of, is_fault, is_over, is_ready, is_served, is_set_up, is_unreadable, lacks_credentials, lasting, noted, setup_result, opening_error, authorized_by, awaits_credentials, bytes_came, dials, hears, is_renewal_open, is_repeating, lost_by, may_renew, refused_in, renewed_by, unrenewed_by, unrepeated_by, with_news}
 use Rattle.legal_trace.specs.Book.{Book, entered, push_line}
 use Rattle.legal_trace.specs.Legal.{MayClose, MayStand}
 use Rattle.legal_trace.proofs.Came.{holds_bytes}
@@ -224,6 +224,7 @@ pub record KeepsLines (P : Ledger → Type 0) : Type 0 where
   pub told : (l : Ledger) → P l → P (noted l tells)
   pub sourced : (l : Ledger) → P l → P (noted l sources)
   pub timed : (l : Ledger) → P l → P (noted l times)
+  pub repeat_timed : (l : Ledger) → P l → P (noted l repeats_timed)
   pub parted : (l : Ledger) → P l → P (noted l parts)
 
 new_keeps : (turn : ℕ) → KeepsLines (IsNewEnd turn)
@@ -233,6 +234,7 @@ new_keeps turn = record {
   told = λ l h. record { heard = h.heard; unwanted = h.unwanted; end = h.end };
   sourced = λ l h. record { heard = h.heard; unwanted = h.unwanted; end = h.end };
   timed = λ l h. record { heard = h.heard; unwanted = h.unwanted; end = h.end };
+  repeat_timed = λ l h. record { heard = h.heard; unwanted = h.unwanted; end = h.end };
   parted = λ l h. record { heard = h.heard; unwanted = h.unwanted; end = h.end };
 }
 
@@ -243,6 +245,7 @@ old_keeps end = record {
   told = λ l h. record { down = h.down; was = h.was };
   sourced = λ l h. record { down = h.down; was = h.was };
   timed = λ l h. record { down = h.down; was = h.was };
+  repeat_timed = λ l h. record { down = h.down; was = h.was };
   parted = λ l h. record { down = h.down; was = h.was };
 }
 
@@ -257,10 +260,12 @@ act_keeps P keeps b l m t c (act.Round n) may end h = h
 act_keeps P keeps b l m t c (act.Took n count) may end h = h
 act_keeps P keeps b l m t c (act.Timer n ms) may end h = h
 act_keeps P keeps b l m t c (act.RenewalTimer k ms) may end h = mine_keeps P (l == m) (b.link m) times (λ x. keeps.timed (b.link m) h) h
+act_keeps P keeps b l m t c (act.RepeatTimer ms) may end h = mine_keeps P (l == m) (b.link m) repeats_timed (λ x. keeps.repeat_timed (b.link m) h) h
 act_keeps P keeps b l m t c act.NeedCreds may end h = mine_keeps P (l == m) (b.link m) sources (λ x. keeps.sourced (b.link m) h) h
 act_keeps P keeps b l m t c act.NeedRenewals may end h = mine_keeps P (l == m) (b.link m) sources (λ x. keeps.sourced (b.link m) h) h
 act_keeps P keeps b l m t c (act.SetUp message need len) may end h = mine_keeps P (l == m) (b.link m) _ (λ x. keeps.begun (b.link m) _ h) h
 act_keeps P keeps b l m t c (act.Renewed message need len) may end h = mine_keeps P (l == m) (b.link m) _ (λ x. keeps.begun (b.link m) _ h) h
+act_keeps P keeps b l m t c (act.Repeated message need len) may end h = mine_keeps P (l == m) (b.link m) _ (λ x. keeps.begun (b.link m) _ h) h
 act_keeps P keeps b l m t c (act.Push info) may end h = mine_keeps P (l == m) (b.link m) (push_line info.kind) (λ x. push_keeps P keeps (b.link m) info.kind h) h
 act_keeps P keeps b l m t c (act.Message n) may end h = mine_keeps P (b.current == m) (b.link m) tells (λ x. keeps.told (b.link m) h) h
 act_keeps P keeps b l m t c (act.Monitor v) may end h = mine_keeps P (b.current == m) (b.link m) tells (λ x. keeps.told (b.link m) h) h
@@ -282,7 +287,7 @@ old_kept b l t c end a may h = act_keeps (IsOldEnd end) (old_keeps end) b l l t 
 
 -- what a link has heard
 heard_keeps : (n : News) → KeepsLines (λ l. l.heard ≡ n)
-heard_keeps n = record { begun = λ l s h. h; offered = λ l bytes h. h; told = λ l h. h; sourced = λ l h. h; timed = λ l h. h; parted = λ l h. h }
+heard_keeps n = record { begun = λ l s h. h; offered = λ l bytes h. h; told = λ l h. h; sourced = λ l h. h; timed = λ l h. h; repeat_timed = λ l h. h; parted = λ l h. h }
 
 pub heard_kept : (b : Book) (l m t c : ℕ) (n : News) (a : LinkAct) → MayStand b (shown l t c a) → (b.link m).heard ≡ n → ((entered b (shown l t c a)).link m).heard ≡ n
 heard_kept b l m t c n a may h = act_keeps (λ x. x.heard ≡ n) (heard_keeps n) b l m t c a may (λ closes mine. h) h
