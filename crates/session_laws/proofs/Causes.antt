@@ -31,10 +31,12 @@ fault_of (act.Round n) = []
 fault_of (act.Took n count) = []
 fault_of (act.Timer n ms) = []
 fault_of (act.RenewalTimer k ms) = []
+fault_of (act.RepeatTimer ms) = []
 fault_of act.NeedCreds = []
 fault_of act.NeedRenewals = []
 fault_of (act.SetUp message need len) = []
 fault_of (act.Renewed message need len) = []
+fault_of (act.Repeated message need len) = []
 fault_of (act.Push info) = []
 fault_of (act.Message m) = []
 fault_of (act.Monitor v) = []
@@ -74,10 +76,12 @@ act_adds b l t c (act.Round n) = record { errors = (quiet b.errors b.failed).0; 
 act_adds b l t c (act.Took n count) = record { errors = (quiet b.errors b.failed).0; failed = (quiet b.errors b.failed).1; turns = refl; shut = refl; running = refl; rest = refl }
 act_adds b l t c (act.Timer n ms) = record { errors = (quiet b.errors b.failed).0; failed = (quiet b.errors b.failed).1; turns = refl; shut = refl; running = refl; rest = refl }
 act_adds b l t c (act.RenewalTimer k ms) = record { errors = (quiet b.errors b.failed).0; failed = (quiet b.errors b.failed).1; turns = refl; shut = refl; running = refl; rest = refl }
+act_adds b l t c (act.RepeatTimer ms) = record { errors = (quiet b.errors b.failed).0; failed = (quiet b.errors b.failed).1; turns = refl; shut = refl; running = refl; rest = refl }
 act_adds b l t c act.NeedCreds = record { errors = (quiet b.errors b.failed).0; failed = (quiet b.errors b.failed).1; turns = refl; shut = refl; running = refl; rest = refl }
 act_adds b l t c act.NeedRenewals = record { errors = (quiet b.errors b.failed).0; failed = (quiet b.errors b.failed).1; turns = refl; shut = refl; running = refl; rest = refl }
 act_adds b l t c (act.SetUp message need len) = record { errors = (quiet b.errors b.failed).0; failed = (quiet b.errors b.failed).1; turns = refl; shut = refl; running = refl; rest = refl }
 act_adds b l t c (act.Renewed message need len) = record { errors = (quiet b.errors b.failed).0; failed = (quiet b.errors b.failed).1; turns = refl; shut = refl; running = refl; rest = refl }
+act_adds b l t c (act.Repeated message need len) = record { errors = (quiet b.errors b.failed).0; failed = (quiet b.errors b.failed).1; turns = refl; shut = refl; running = refl; rest = refl }
 act_adds b l t c (act.Push info) = record { errors = (quiet b.errors b.failed).0; failed = (quiet b.errors b.failed).1; turns = refl; shut = refl; running = refl; rest = refl }
 act_adds b l t c (act.Message m) = record { errors = (quiet b.errors b.failed).0; failed = (quiet b.errors b.failed).1; turns = refl; shut = refl; running = refl; rest = refl }
 act_adds b l t c (act.Monitor v) = record { errors = (quiet b.errors b.failed).0; failed = (quiet b.errors b.failed).1; turns = refl; shut = refl; running = refl; rest = refl }
@@ -135,10 +139,12 @@ act_causes opened (act.Round n) = refl
 act_causes opened (act.Took n count) = refl
 act_causes opened (act.Timer n ms) = refl
 act_causes opened (act.RenewalTimer k ms) = refl
+act_causes opened (act.RepeatTimer ms) = refl
 act_causes opened act.NeedCreds = refl
 act_causes opened act.NeedRenewals = refl
 act_causes opened (act.SetUp message need len) = refl
 act_causes opened (act.Renewed message need len) = refl
+act_causes opened (act.Repeated message need len) = refl
 act_causes opened (act.Push info) = refl
 act_causes opened (act.Message m) = refl
 act_causes opened (act.Monitor v) = refl
