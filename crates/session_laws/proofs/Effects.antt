@@ -81,7 +81,9 @@ fired before c started word n (purpose.Response owner.Monitor) h good is = absur
 fired before c started word n (purpose.Backoff g) h good is =
     let silent_is : news_of c.timers c.sources c.single.link (event.Fired n) ≡ silence = ap (of_timer c.single.link) is in
     by_news before c started word (event.Fired n) (news_of c.timers c.sources c.single.link (event.Fired n)) silence silent_is (unheard before c started word (event.Fired n) h good (λ m. ap (is_clock_of m) is) silent_is)
-fired before c started word n (purpose.Resubscription l) h good is = absurd (h.sound.tied.numbers.aims n (purpose.Resubscription l) is)
+fired before c started word n (purpose.Resubscription l) h good is =
+    by_link before c started word l (event.Fired n) unrepeated h good (λ m. ap (is_clock_of m) is) (ap (of_timer c.single.link) is)
+    (λ same own. inl (repeat_over before c started word (event.Fired n) h good (λ m. ap (is_clock_of m) is) own))
 fired before c started word n (purpose.Response (owner.Try m round)) h good is =
     let aim : (m < length c.table) × (round ≡ 0) = h.sound.tied.numbers.aims n (purpose.Response (owner.Try m round)) is in
     let first = is ∙ ap (λ k. Some (purpose.Response (owner.Try m k))) aim.1 in

@@ -62,7 +62,7 @@ timer_harmless m count link (Some (purpose.Connect l)) less aim = inl (else_sile
 timer_harmless m count link (Some (purpose.Response who)) less aim = inl refl
 timer_harmless m count link (Some (purpose.Renewal l k)) less aim = inl (else_silent l m _ (λ e. absurd (let le = aim (purpose.Renewal l k) refl in omega (arith, le, less, e))))
 timer_harmless m count link (Some (purpose.Backoff g)) less aim = inl refl
-timer_harmless m count link (Some (purpose.Resubscription l)) less aim = absurd (aim (purpose.Resubscription l) refl)
+timer_harmless m count link (Some (purpose.Resubscription l)) less aim = inl (else_silent l m _ (λ e. absurd (let le = aim (purpose.Resubscription l) refl in omega (arith, le, less, e))))
 
 source_harmless : (m link : ℕ) (asked renewed : Bool) (x : Option SourceUse) (first later : News) → link < m → ((what : SourceUse) → x ≡ Some what → IsUse what link asked renewed) → IsHarmless (of_source m x first later)
 source_harmless m link asked renewed None first later less used = inl refl
