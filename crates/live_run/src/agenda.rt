@@ -16,6 +16,8 @@ pub(crate) struct Target {
     pub(crate) link: u32,
     pub(crate) host: Bytes,
     pub(crate) port: u16,
+    /// The generation whose link it is: 0 where there are none.
+    pub(crate) generation: u32,
 }
 
 /// What the actions of a session ask of the world and is not done yet.
@@ -35,6 +37,10 @@ pub(crate) struct Agenda {
     pub(crate) timers: Queue<Pending>,
     /// The moment of the pass.
     pub(crate) moment: u64,
+    /// The generation that began last, whose links are asked for now: 0 before the first.
+    pub(crate) generation: u32,
+    /// The last generation that was dialled: 0 before the first. Its number, and each below it, is claimed of the dial.
+    pub(crate) claimed: u32,
 }
 
 /// The place of the dial of a link, if it is to be dialled.
@@ -77,6 +83,7 @@ fn asks(action: &Action) -> bool
         } => true,
         Action::Close { link: _ } => true,
         Action::Write { link: _, bytes: _ } => true,
+        Action::Generation { number: _ } => true,
         _ => false,
     }
 }
@@ -94,6 +101,8 @@ impl Agenda {
             unclosed: Queue::new(alloc),
             timers: Queue::new(alloc),
             moment: 0,
+            generation: 0,
+            claimed: 0,
         }
     }
 
@@ -116,7 +125,13 @@ impl Agenda {
     {
         match action {
             Action::Connect { link, host, port } => {
-                self.dials.push_back(Target { link, host, port })
+                let generation = self.generation;
+                self.dials.push_back(Target {
+                    link,
+                    host,
+                    port,
+                    generation,
+                })
             }
             Action::Timer {
                 timer,
@@ -129,6 +144,10 @@ impl Agenda {
             Action::Close { link } => self.note_close(link),
             Action::Write { link, bytes } => {
                 put_offer(&mut self.links, link, bytes);
+                Ok(())
+            }
+            Action::Generation { number } => {
+                self.generation = number;
                 Ok(())
             }
             _ => unreachable!(),
@@ -167,16 +186,19 @@ impl Agenda {
         self.note_all(early.into_vec())
     }
 
-    /// The first dial, which is taken out, was answered.
+    /// The first dial, which is taken out, was answered. It was of a link of this generation.
     pub(crate) fn after_dial(
         &mut self,
         alloc: Global,
         link: u32,
+        generation: u32,
         answer: Dialed,
     ) -> Result<(), AllocError>
         ensures { OnOk result ((target : Target) → (host : List ℕ) → (port : ℕ)
+            → target.generation ≡ generation
             → self.new ≡ answered (to_dial target self.old) (Call.Dial link host port answer)) }
     {
+        self.claimed = self.claimed.max(generation);
         match answer {
             Dialed::Failed(_) => Ok(()),
             Dialed::Yes => {

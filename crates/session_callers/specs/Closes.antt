@@ -35,3 +35,11 @@ AreOf config word cs = Each (λ (c : Known). (c.view.config ≡ config) × (c.vi
 -- where callers share a session of some configuration and word, these are they
 abbrev pub IsShared : List Known → Config → ℕ → Type 0
 IsShared cs its_config its_word = (config : Config) (word : ℕ) → AreOf config word cs → (its_config ≡ config) × (its_word ≡ word)
+
+-- the caller has neither read nor claimed a number of the dial
+abbrev pub IsUndialled : Known → Type 0
+IsUndialled c = (c.view.dial ≡ 0) × (c.view.claims ≡ [])
+
+-- where none of these callers has, the one that is left of them hasn't
+abbrev pub HasDialled : List Known → Known → Type 0
+HasDialled cs kept = Each IsUndialled cs → IsUndialled kept

@@ -28,7 +28,7 @@ fn knows_more(caller: &Caller, count: u64) -> bool
 }
 
 /// Whether one of these callers shows that more than so many were made.
-fn do_know_more(mut callers: &[Caller], count: u64) -> bool
+pub(crate) fn do_know_more(mut callers: &[Caller], count: u64) -> bool
     ensures { result ≡ do_know_more count callers.entry.now }
 {
     while let [caller, rest @ ..] = callers {
