@@ -18,9 +18,10 @@ use Rattle.session_callers.specs.declared.board.View.{View}
 use Rattle.session_callers.specs.declared.board.Ended.{Ended}
 use Rattle.session_callers.specs.declared.board.Stage.{Stage}
 use Rattle.session_callers.specs.declared.board.Stage.TheVariants.{Idle, Waiting, Served, Holding, Split}
-use Rattle.session_callers.specs.Rule.{total, same, below, between, times, has, draws, out, more, numbered, callers, makes, Now, KnowsAll, InTurn, Ascends, Each, Fits, MaySpend, IsPlaced, words_of, Ruled, Sat, At, ticket_of, in_hand, history, submissions_in, waiting, served, MayGive, given, drew, looked, took, gave, raised, dialled}
+use Rattle.session_callers.specs.Rule.{total, same, below, between, times, has, draws, out, more, numbered, callers, makes, Now, KnowsAll, InTurn, Ascends, Each, Fits, MaySpend, IsPlaced, words_of, Ruled, Sat, At, ticket_of, in_hand, history, submissions_in, waiting, served, MayGive, given, drew, looked, looked_for_all, took, gave, raised, dialled}
 use Rattle.session_callers.proofs.Totals.{total_set, total_at, total_two, total_gap, total_le, prefix_all, prefix_more, prefix_length, times_last, ascends_up, ascends_last, below_up, same_self, each_up, each_counted}
 use Rattle.session_callers.proofs.Counts.{Delta, counted_set, each_set, Later, ended_later, fronts_later, fits_later, makes_up}
+use Rattle.session_callers.proofs.Whole.{owns_history}
 
 abbrev St : Type 0
 St = State (Option Home) View
@@ -148,9 +149,9 @@ draws_next slots id me st idle caller s r deep at fits =
       (t, ap (λ ws. slice_index ws 0) r.words, refl),
     )
 
--- load serving
-pub looks : (slots id : ℕ) (me : Sat) (st : At) (t : ℕ) → me.0.stage ≡ Waiting t → Allows Ruled slots id me 1 (λ n. n) (looked st me)
-looks slots id me st t is s r deep at fits = dite (ℕ_discrete (slice_index s.words 1) (ticket_of v.stage % 2 ^ 64)) hit miss
+-- load serving, by a seat that may have all callers
+pub looks_for_all : (slots id : ℕ) (me : Sat) (st : At) (t : ℕ) → me.0.stage ≡ Waiting t → Allows Ruled slots id me 1 (λ n. n) (looked_for_all st me)
+looks_for_all slots id me st t is s r deep at fits = dite (ℕ_discrete (slice_index s.words 1) (ticket_of v.stage % 2 ^ 64)) hit miss
   where
     v : View
     v = me.0
@@ -162,7 +163,7 @@ looks slots id me st t is s r deep at fits = dite (ℕ_discrete (slice_index s.w
     same_words = ap (λ ws. set ws 1 (slice_index ws 1)) r.words
 
     Goal : Type 0
-    Goal = (w : View) × (a : Act (Option Home)) × Valid s.homes me.1 a × Ruled (stepped s 1 (slice_index s.words 1) id me.1 w a) × looked st me (slice_index s.words 1) (w, carried_after me.1 a)
+    Goal = (w : View) × (a : Act (Option Home)) × Valid s.homes me.1 a × Ruled (stepped s 1 (slice_index s.words 1) id me.1 w a) × looked_for_all st me (slice_index s.words 1) (w, carried_after me.1 a)
 
     hit : slice_index s.words 1 ≡ ticket_of v.stage % 2 ^ 64 → Goal
     hit e =
@@ -209,7 +210,7 @@ looks slots id me st t is s r deep at fits = dite (ℕ_discrete (slice_index s.w
               })
               (later_same r.now)
               (λ j u _ e. (r.each j u e).turn),
-          ((λ _. (r.now.log, r.now.mark, r.now.made, mine.seen, refl)), (λ n. absurd (n e))),
+          ((λ _. (r.now.log, r.now.mark, r.now.made, mine.seen, refl, owns_history s r id v at (ap out is))), (λ n. absurd (n e))),
         )
 
     miss : slice_index s.words 1 ≢ ticket_of v.stage % 2 ^ 64 → Goal
@@ -221,6 +222,12 @@ looks slots id me st t is s r deep at fits = dite (ℕ_discrete (slice_index s.w
           record { ticket = r.ticket; now = r.now; words = same_words; counted = r.counted; spent = r.spent; place = r.place; each = r.each },
       ((λ e. absurd (n e)), (λ _. refl)),
     )
+
+-- the same by any seat
+pub looks : (slots id : ℕ) (me : Sat) (st : At) (t : ℕ) → me.0.stage ≡ Waiting t → Allows Ruled slots id me 1 (λ n. n) (looked st me)
+looks slots id me st t is s r deep at fits =
+    let all = looks_for_all slots id me st t is s r deep at fits in
+    (all.0, all.1, all.2, all.3, ((λ e. let hit = all.4.0 e in (hit.0, hit.1, hit.2, hit.3, hit.4)), all.4.1))
 
 -- exchange out
 pub takes_out : (slots id : ℕ) (me : Sat) (st : At) (t : ℕ) → me.0.stage ≡ Served t → Allows Ruled slots id me 0 (λ n. n) (took st me)

@@ -1,7 +1,8 @@
 -- Whether all callers were handed in.
 use Rattle.std.specs.Prelude.{◌≡◌, ◌⊎◌, ℕ, nat_le, nat_lt, Bool, true, false, ◌||◌, List, [], ◌∷◌, length}
 use Rattle.driver_model.specs.declared.config.Config.{Config}
-use Rattle.session_callers.specs.Calls.{Known}
+use Rattle.atomic_table.specs.Seated.{TableId}
+use Rattle.session_callers.specs.Calls.{Gathered, Known, Place}
 use Rattle.session_callers.specs.Rule.{Each}
 use Rattle.session_callers.specs.declared.session.SharedSession.{SharedSession}
 use Rattle.session_callers.specs.declared.closing.CloseError.{CloseError}
@@ -40,6 +41,9 @@ IsShared cs its_config its_word = (config : Config) (word : ℕ) → AreOf confi
 abbrev pub IsUndialled : Known → Type 0
 IsUndialled c = (c.view.dial ≡ 0) × (c.view.claims ≡ [])
 
--- where none of these callers has, the one that is left of them hasn't
-abbrev pub HasDialled : List Known → Known → Type 0
-HasDialled cs kept = Each IsUndialled cs → IsUndialled kept
+abbrev pub AreUndialled : List Known → Type 0
+AreUndialled cs = Each IsUndialled cs
+
+-- the seat of a table, which holds nothing, has taken in these callers
+abbrev pub IsGathered : TableId → ℕ → List Known → Place → Type 0
+IsGathered z made cs seat = (seat.table_id ≡ z) × (seat.me.1 ≡ []) × Gathered made cs seat.me.0

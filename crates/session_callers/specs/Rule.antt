@@ -255,6 +255,26 @@ looked st m found m' =
     (found ≡ ticket_of m.0.stage % 2 ^ 64 → (seen : List Event) × (failure : Failure) × (made : ℕ) × IsPrefix m.0.seen seen × (m' ≡ (served m.0 seen failure made, m.1)))
     × (found ≢ ticket_of m.0.stage % 2 ^ 64 → m' ≡ m)
 
+-- a view has all callers: they are so many, with numbers below that, and none of them has seen more
+pub record HasAll (m : ℕ) (v : View) : Type 0 where
+  pub some : 1 ≤ m
+  pub all : m ≤ callers v
+  pub low : Each (λ (n : ℕ). n < m) v.number
+  pub low_ended : Each (λ (e : Ended). e.number < m) v.ended
+  pub made : v.made ≤ m
+  pub made_ended : Each (λ (e : Ended). e.made ≤ m) v.ended
+
+-- each place of the history is the view's own, which begins with all that it and those had seen that were joined into it
+abbrev pub OwnsAll : View → List Event → Type 0
+OwnsAll v seen = ((p : ℕ) → owns p v ≡ below p (length seen)) × Each (λ (xs : List Event). IsPrefix xs seen) v.fronts
+
+-- the same, which also tells a view that has all callers that the history is its own
+abbrev pub looked_for_all : At → Sat → ℕ → Sat → Type 0
+looked_for_all st m found m' =
+    (found ≡ ticket_of m.0.stage % 2 ^ 64
+    → (seen : List Event) × (failure : Failure) × (made : ℕ) × IsPrefix m.0.seen seen × (m' ≡ (served m.0 seen failure made, m.1)) × ((k : ℕ) → HasAll k m.0 → OwnsAll m.0 seen))
+    × (found ≢ ticket_of m.0.stage % 2 ^ 64 → m' ≡ m)
+
 -- the session that a seat knows
 abbrev pub home_of : View → Home
 home_of v = record { session = history v.config v.word v.seen v.failure; made = v.made; submissions = submissions_in v.seen }

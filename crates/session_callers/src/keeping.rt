@@ -4,14 +4,14 @@ ghost use mathlib.Core.List.{IsPrefix};
 ghost use Rattle.session_callers.specs.Rule.{Each, MaySpend, total, times, below};
 ghost use Rattle.session_callers.specs.Calls.{IsOf, with_claim};
 ghost use Rattle.session_callers.specs.Claims.{MatchClaim};
-ghost use Rattle.session_callers.specs.Closes.{do_know_more, HasDialled, IsMissing, IsShared};
+ghost use Rattle.session_callers.specs.Closes.{do_know_more, AreUndialled, IsMissing, IsShared, IsUndialled};
 
 use crate::board::{Home, Place};
 use crate::caller::Caller;
-use crate::closing::{CloseError, do_know_more};
+use crate::closing::{CloseError, do_know_more, gather};
 use crate::dial::{Claim, Dial};
 use crate::session::SharedSession;
-use crate::steps::{dial, draw, merge, take, wait};
+use crate::steps::{dial, draw, take, wait_for_all};
 use shared_session::Session;
 use std::marker::Model;
 use std::sync::Wait;
@@ -38,7 +38,7 @@ impl Model for Keeper {
 
 impl SharedSession {
     /// Takes the session out, where these callers are all that were made.
-    fn keep_all<R: Wait>(self, rt: &R, mut callers: Vec<Caller>, made: u64) -> (Session, Keeper)
+    fn keep_all<R: Wait>(self, rt: &R, callers: Vec<Caller>, made: u64) -> (Session, Keeper)
         requires of { Each (IsOf self.table.shared.table_id made) callers.items }
         requires all { (1 ≤ made) × (made ≤ length callers.items) }
         ensures begins { Each (λ caller. IsPrefix caller.view.seen result.0.events) callers.items }
@@ -47,26 +47,11 @@ impl SharedSession {
             ≡ below p (length result.0.events) }
         ensures shared { IsShared callers.items result.0.config result.0.word }
         ensures spent { MaySpend result.0.config result.0.word result.0.events result.0.failure }
-        ensures dialled { HasDialled callers.items result.1 }
+        ensures undialled { AreUndialled callers.items → IsUndialled result.1 }
     {
-        let Some(last) = callers.pop() else {
-            unreachable!()
-        };
-        let Caller {
-            seat,
-            front: _,
-            generation,
-            number: _,
-            made: _,
-        } = last;
-        let mut seat = seat;
-        let mut generation = generation;
-        while let Some(next) = callers.pop() {
-            generation = generation.max(next.generation);
-            merge(&self.table.shared, &mut seat, next);
-        }
+        let (mut seat, generation) = gather(&self.table.shared, callers, made);
         let ticket = draw(&self.table.shared, &mut seat);
-        wait(rt, &self.table.shared, &mut seat, ticket);
+        wait_for_all(rt, &self.table.shared, &mut seat, ticket, made);
         let Home {
             session,
             made: _,
@@ -104,7 +89,7 @@ impl SharedSession {
         ensures all { OnOk result (
             do_know_more (length callers.items) callers.items ≡ false
             ) }
-        ensures dialled { IfOk result (λ kept. HasDialled callers.items kept.1) }
+        ensures undialled { IfOk result (λ kept. AreUndialled callers.items → IsUndialled kept.1) }
         ensures missing { IfErr result (λ error. IsMissing error self callers.items) }
     {
         let count = callers.len() as u64;
