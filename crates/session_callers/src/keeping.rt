@@ -119,7 +119,8 @@ impl Keeper {
             (λ n. (n ≡ g + 1) × (self.new.view ≡ with_claim self.old.view n))
             (λ n. (g < n) × (self.new.view ≡ record self.old.view { dial = n })) }
     {
-        let found = dial(&self.shared.table.shared, &mut self.seat, g);
+        let shared = &self.shared;
+        let found = dial(&shared.table.shared, &mut self.seat, g);
         if found == g {
             self.generation = g + 1;
             Claim::Claimed(Dial { number: g + 1 })
