@@ -10,10 +10,7 @@ use Rattle.live_lines.specs.declared.flying.FlightError.{FlightError}
 use Rattle.live_lines.specs.declared.flying.FlightError.TheVariants as flight
 use Rattle.live_lines.specs.declared.planning.Plan.{Plan}
 use Rattle.live_lines.specs.Plans.{refused_of}
-use Rattle.live_run.specs.Agenda.{agenda_of}
-use Rattle.live_run.specs.Claims.{HasClaimed}
-use Rattle.live_run.specs.Deeds.{after_each}
-use Rattle.live_run.specs.Driven.{Driven}
+use Rattle.live_run.specs.Driven.{DrivenWith}
 use Rattle.outside.specs.World.{Adds}
 use Rattle.outside.specs.declared.world.Call.{Call}
 use Rattle.outside.specs.declared.world.Call.TheVariants as call
@@ -63,8 +60,7 @@ pub record IsFlight (plan : Plan) (lines : List Line) (old new : Option (List Ca
   pub asked : Adds old middle (call.Word word)
   pub opened : History
   pub submitted : AreSubmitted plan word lines f.numbers.items opened
-  pub driven : Driven (trace_of plan.config word opened.events) middle new opened f.session (length lines) f.ending
-  pub claims : HasClaimed (after_each (agenda_of (trace_of plan.config word opened.events)) driven.deeds).claimed f.keeper
+  pub driven : DrivenWith f.keeper (trace_of plan.config word opened.events) middle new opened f.session (length lines) f.ending
 
 -- numbers ran out: behind so many events the step of some event that isn't bad would be spent
 pub record RanOut (config : Config) (count : ℕ) : Type 0 where

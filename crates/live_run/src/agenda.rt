@@ -1,4 +1,4 @@
-ghost use Rattle.std.specs.Prelude.{◌≡◌, ℕ, List, IfSome, OnOk, None, true};
+ghost use Rattle.std.specs.Prelude.{◌≡◌, ℕ, List, IfSome, OnOk, None, true, max};
 ghost use Rattle.live_run.specs.Agenda.{agenda_of, answered, asks, begun, behind, first_due, noted, noted_each, undialled};
 ghost use Rattle.live_run.specs.Places.{AreOthers, IsFirstAt, target_link};
 ghost use Rattle.live_run.specs.Steps.{to_dial};
@@ -167,8 +167,10 @@ impl Agenda {
     }
 
     /// Notes what actions ask, in order.
+    #[tactic(auto, using(crate::proofs::Claiming::claimed_each))]
     pub(crate) fn note_all(&mut self, actions: Vec<Action>) -> Result<(), AllocError>
-        ensures { OnOk result (self.new ≡ noted_each self.old actions.items) }
+        ensures noted { OnOk result (self.new ≡ noted_each self.old actions.items) }
+        ensures claims { OnOk result (self.new.claimed ≡ self.old.claimed) }
     {
         let mut rest = Queue::from_vec(actions);
         while let Some(action) = rest.pop_front() {
@@ -179,43 +181,46 @@ impl Agenda {
 
     /// A pass begins at this moment. What was asked before the first pass is noted then.
     pub(crate) fn begin(&mut self, alloc: Global, moment: u64) -> Result<(), AllocError>
-        ensures { OnOk result (self.new ≡ begun self.old moment) }
+        ensures begun { OnOk result (self.new ≡ begun self.old moment) }
+        ensures claims { OnOk result (self.new.claimed ≡ self.old.claimed) }
     {
         self.moment = moment;
         let early = std::mem::replace(&mut self.early, Seq::new(alloc));
         self.note_all(early.into_vec())
     }
 
-    /// The first dial, which is taken out, was answered. It was of a link of this generation.
+    /// The first dial, which is taken out, was answered.
     pub(crate) fn after_dial(
         &mut self,
         alloc: Global,
-        link: u32,
-        generation: u32,
+        target: &Target,
         answer: Dialed,
     ) -> Result<(), AllocError>
-        ensures { OnOk result ((target : Target) → (host : List ℕ) → (port : ℕ)
-            → target.generation ≡ generation
-            → self.new ≡ answered (to_dial target self.old) (Call.Dial link host port answer)) }
+        ensures noted { OnOk result ((host : List ℕ) → (port : ℕ)
+            → self.new ≡ answered (to_dial target.now self.old) (Call.Dial target.now.link host port answer)) }
+        ensures claims { OnOk result (
+            self.new.claimed ≡ max self.old.claimed target.now.generation
+            ) }
     {
-        self.claimed = self.claimed.max(generation);
+        self.claimed = self.claimed.max(target.generation);
         match answer {
             Dialed::Failed(_) => Ok(()),
             Dialed::Yes => {
                 let offer = Bytes::new(alloc);
                 self.links.push_back(Link {
-                    number: link,
+                    number: target.link,
                     offer,
                 })?;
-                self.unclosed.push_back(link)
+                self.unclosed.push_back(target.link)
             }
         }
     }
 
     /// A read of a link was answered.
     pub(crate) fn after_read(&mut self, link: u32, answer: LinkGot)
-        ensures { (room : ℕ) → (bytes : List ℕ)
+        ensures noted { (room : ℕ) → (bytes : List ℕ)
             → self.new ≡ answered self.old (Call.Read link room answer bytes) }
+        ensures claims { self.new.claimed ≡ self.old.claimed }
     {
         match answer {
             LinkGot::Read(_) => {}
@@ -227,8 +232,9 @@ impl Agenda {
 
     /// The offer of a link was answered.
     pub(crate) fn after_write(&mut self, alloc: Global, link: u32, answer: LinkPut)
-        ensures { (piece : List ℕ)
+        ensures noted { (piece : List ℕ)
             → self.new ≡ answered self.old (Call.Write link piece answer) }
+        ensures claims { self.new.claimed ≡ self.old.claimed }
     {
         match answer {
             LinkPut::Took(_) => put_offer(&mut self.links, link, Bytes::new(alloc)),

@@ -142,15 +142,13 @@ pub(crate) fn dial_link<W: World>(
         Broke error (W.told world.old) (W.told world.new) session.old session.new
         (to_dial target agenda.old)) }
 {
-    let link = target.link;
-    let generation = target.generation;
-    if !claim_up_to(keeper, agenda.claimed, generation) {
+    if !claim_up_to(keeper, agenda.claimed, target.generation) {
         return Err(StepError::NoMemory);
     }
     let name = host_text(&target.host);
-    let answer = world.dial(link, name, target.port);
-    let news = dial_news(link, answer);
-    match agenda.after_dial(alloc, link, generation, answer) {
+    let answer = world.dial(target.link, name, target.port);
+    let news = dial_news(target.link, answer);
+    match agenda.after_dial(alloc, &target, answer) {
         Ok(()) => {}
         Err(_) => return Err(StepError::NoMemory),
     }

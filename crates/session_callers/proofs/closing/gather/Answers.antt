@@ -25,9 +25,9 @@ loop-next-preserved c =
       each.0,
       ap (λ n. max n next.view.dial) i.4 ∙ sym (ap (λ x. x.0.dial) m.joined),
       (λ undialled.
-        let u = i.5 undialled in
-        let both = each_split IsUndialled left next (subst (λ l. Each IsUndialled l) divided u.0) in
-        (both.0, ap (λ x. x.0.dial) m.joined ∙ ap (λ n. max n next.view.dial) u.1 ∙ both.1.0, ap (λ x. x.0.claims) m.joined ∙ u.2)),
+          let u = i.5 undialled in
+          let both = each_split IsUndialled left next (subst (λ l. Each IsUndialled l) divided u.0) in
+          (both.0, ap (λ x. x.0.dial) m.joined ∙ ap (λ n. max n next.view.dial) u.1 ∙ both.1.0, ap (λ x. x.0.claims) m.joined ∙ u.2)),
     )
 
 -- the callers that were taken in are all
