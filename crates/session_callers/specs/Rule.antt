@@ -268,11 +268,11 @@ pub record HasAll (m : ℕ) (v : View) : Type 0 where
 abbrev pub OwnsAll : View → List Event → Type 0
 OwnsAll v seen = ((p : ℕ) → owns p v ≡ below p (length seen)) × Each (λ (xs : List Event). IsPrefix xs seen) v.fronts
 
--- the same, which also tells a view that has all callers that the history is its own
+-- the same of a view that has all callers: the history is its own
 abbrev pub looked_for_all : At → Sat → ℕ → Sat → Type 0
 looked_for_all st m found m' =
     (found ≡ ticket_of m.0.stage % 2 ^ 64
-    → (seen : List Event) × (failure : Failure) × (made : ℕ) × IsPrefix m.0.seen seen × (m' ≡ (served m.0 seen failure made, m.1)) × ((k : ℕ) → HasAll k m.0 → OwnsAll m.0 seen))
+    → (seen : List Event) × (failure : Failure) × (made : ℕ) × IsPrefix m.0.seen seen × (m' ≡ (served m.0 seen failure made, m.1)) × OwnsAll m.0 seen)
     × (found ≢ ticket_of m.0.stage % 2 ^ 64 → m' ≡ m)
 
 -- the session that a seat knows

@@ -43,6 +43,7 @@ pub(crate) fn do_know_more(mut callers: &[Caller], count: u64) -> bool
 /// The seats of callers as one, and the greatest number of the dial that it has read. They are all that were made: `made` is
 /// above their numbers, none of them saw more callers than that, and they are so many.
 pub(crate) fn gather(board: &Board, mut callers: Vec<Caller>, made: u64) -> (Place, u64)
+    requires sized { (board.now.table_id.words ≡ 3) × (board.now.table_id.slots ≡ 1) }
     requires of { Each (IsOf board.now.table_id made) callers.items }
     requires all { (1 ≤ made) × (made ≤ length callers.items) }
     ensures gathered { IsGathered board.now.table_id made callers.items result.0 }

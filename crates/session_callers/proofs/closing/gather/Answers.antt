@@ -9,7 +9,7 @@ use Rattle.session_callers.proofs.closing.gather.Goals as goal
 pub loop-next-preserved : goal.loop-next-preserved
 loop-next-preserved c =
     let i = c.loop-next.invariant in
-    let left = c.pop-in-loop-next.new.callers.items in
+    let left = c.pop-in-loop-next.new.self.items in
     let next = c.in-Some-pop.next in
     let divided : c.loop-next.callers.items ≡ left ++ next ∷ [] = search rules in
     let each = each_split (IsOf c.args.board.now.table_id c.args.made) left next (subst (λ l. Each (IsOf c.args.board.now.table_id c.args.made) l) divided i.3) in
