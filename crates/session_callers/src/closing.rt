@@ -1,4 +1,4 @@
-ghost use Rattle.std.specs.Prelude.{◌≡◌, ℕ, ◌≤◌, [], IfOk, IfErr, OnOk, length, false};
+ghost use Rattle.std.specs.Prelude.{◌≡◌, ℕ, ◌≤◌, [], IfOk, IfErr, OnOk, length, false, max};
 ghost use mathlib.Core.List.{IsPrefix};
 ghost use Rattle.session_callers.specs.Rule.{Each, MaySpend, total, times, below};
 ghost use Rattle.session_callers.specs.Calls.{IsOf};
@@ -40,6 +40,13 @@ pub(crate) fn do_know_more(mut callers: &[Caller], count: u64) -> bool
     false
 }
 
+/// The greater of two numbers.
+fn greater(one: u64, other: u64) -> u64
+    ensures { result ≡ max one other }
+{
+    one.max(other)
+}
+
 /// The seats of callers as one, and the greatest number of the dial that it has read. They are all that were made: `made` is
 /// above their numbers, none of them saw more callers than that, and they are so many.
 pub(crate) fn gather(board: &Board, mut callers: Vec<Caller>, made: u64) -> (Place, u64)
@@ -54,17 +61,18 @@ pub(crate) fn gather(board: &Board, mut callers: Vec<Caller>, made: u64) -> (Pla
     let Some(last) = callers.pop() else {
         unreachable!()
     };
+    let mut dial = last.generation();
     let Caller {
         seat,
         front: _,
-        generation,
+        generation: _,
         number: _,
         made: _,
     } = last;
     let mut seat = seat;
-    let mut dial = generation;
     while let Some(next) = callers.pop() {
-        dial = dial.max(next.generation);
+        let read = next.generation();
+        dial = greater(dial, read);
         merge(board, &mut seat, next);
     }
     (seat, dial)

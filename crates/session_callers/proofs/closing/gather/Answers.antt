@@ -23,11 +23,11 @@ loop-next-preserved c =
         subst (λ v. Gathered c.args.made (next ∷ i.2.0) v) (sym (ap (λ x. x.0) m.joined)) (gathers_more c.args.board.now.table_id c.args.made i.2.0 c.loop-next.seat.me.0 next o.0.0 i.2.2 each.1 o.0.1 o.1),
       ),
       each.0,
-      ap (λ n. max n next.view.dial) i.4 ∙ sym (ap (λ x. x.0.dial) m.joined),
+      c.greater-dial.ensures ∙ ap (λ n. max c.loop-next.dial n) c.generation-read.ensures ∙ ap (λ n. max n next.view.dial) i.4 ∙ sym (ap (λ x. x.0.dial) m.joined),
       (λ undialled.
           let u = i.5 undialled in
           let both = each_split IsUndialled left next (subst (λ l. Each IsUndialled l) divided u.0) in
-          (both.0, ap (λ x. x.0.dial) m.joined ∙ ap (λ n. max n next.view.dial) u.1 ∙ both.1.0, ap (λ x. x.0.claims) m.joined ∙ u.2)),
+          (both.0, ap (λ x. x.0.dial) m.joined ∙ ap (λ n. max n next.view.dial) u.1 ∙ ap (λ n. max 0 n) both.1.0, ap (λ x. x.0.claims) m.joined ∙ u.2)),
     )
 
 -- the callers that were taken in are all

@@ -7,29 +7,29 @@ pub returns-clause-begins : goal.returns-clause-begins
 returns-clause-begins c =
     let g = c.gather-seat.ensures.gathered in
     let need = c.requires.all in
-    let got = c.take-home.ensures.value ∙ ap some c.in-Some-home.is in
-    (closed c.args.made c.args.callers.items c.gather-seat.result.0.me.0 g.2 need.0 need.1 _ _ _ c.in-Some-home.field-0 c.close_with-closed.ensures.values.2 got).0
+    let got = c.take-home.ensures.value ∙ ap some c.in-Some.is in
+    (closed c.args.made c.args.callers.items c.gather-seat.result.0.me.0 g.2 need.0 need.1 _ _ _ c.in-Some.field-0 c.close_with-closed.ensures.values.2 got).0
 
 pub returns-clause-mine : goal.returns-clause-mine
 returns-clause-mine c =
     let g = c.gather-seat.ensures.gathered in
     let need = c.requires.all in
-    let got = c.take-home.ensures.value ∙ ap some c.in-Some-home.is in
-    (closed c.args.made c.args.callers.items c.gather-seat.result.0.me.0 g.2 need.0 need.1 _ _ _ c.in-Some-home.field-0 c.close_with-closed.ensures.values.2 got).1
+    let got = c.take-home.ensures.value ∙ ap some c.in-Some.is in
+    (closed c.args.made c.args.callers.items c.gather-seat.result.0.me.0 g.2 need.0 need.1 _ _ _ c.in-Some.field-0 c.close_with-closed.ensures.values.2 got).1
 
 pub returns-clause-shared : goal.returns-clause-shared
 returns-clause-shared c =
     let g = c.gather-seat.ensures.gathered in
     let need = c.requires.all in
-    let got = c.take-home.ensures.value ∙ ap some c.in-Some-home.is in
-    (closed c.args.made c.args.callers.items c.gather-seat.result.0.me.0 g.2 need.0 need.1 _ _ _ c.in-Some-home.field-0 c.close_with-closed.ensures.values.2 got).2
+    let got = c.take-home.ensures.value ∙ ap some c.in-Some.is in
+    (closed c.args.made c.args.callers.items c.gather-seat.result.0.me.0 g.2 need.0 need.1 _ _ _ c.in-Some.field-0 c.close_with-closed.ensures.values.2 got).2
 
 pub returns-clause-spent : goal.returns-clause-spent
 returns-clause-spent c =
     let g = c.gather-seat.ensures.gathered in
     let need = c.requires.all in
-    let got = c.take-home.ensures.value ∙ ap some c.in-Some-home.is in
-    (closed c.args.made c.args.callers.items c.gather-seat.result.0.me.0 g.2 need.0 need.1 _ _ _ c.in-Some-home.field-0 c.close_with-closed.ensures.values.2 got).3
+    let got = c.take-home.ensures.value ∙ ap some c.in-Some.is in
+    (closed c.args.made c.args.callers.items c.gather-seat.result.0.me.0 g.2 need.0 need.1 _ _ _ c.in-Some.field-0 c.close_with-closed.ensures.values.2 got).3
 
 pub unreachable-requires : goal.unreachable-requires
 unreachable-requires c =
