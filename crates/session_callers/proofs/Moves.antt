@@ -5,7 +5,6 @@ use mathlib.Core.Logic.{dite}
 use Rattle.driver_model.specs.declared.config.Config.{Config}
 use Rattle.driver_model.specs.declared.event.Event.{Event}
 use Rattle.shared_session.specs.declared.session.Failure.{Failure}
-use Rattle.shared_session.specs.declared.session.Failure.TheVariants.{Sound, Spent}
 use mathlib.Core.Option.{none, some, some-ne-none, some-injective}
 use mathlib.Core.List.{IsPrefix}
 use native.Mathlib.Decide.{ℕ_discrete, dec_le}

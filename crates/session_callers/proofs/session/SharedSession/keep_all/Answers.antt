@@ -1,4 +1,4 @@
-use Rattle.std.proofs.Common.{◌≡◌, subst, sym, ap, ◌∙◌}
+use Rattle.std.proofs.Common.{subst, sym, ap, ◌∙◌}
 use mathlib.Core.List.{IsPrefix}
 use Rattle.session_callers.specs.Rule.{Each, HasAll, OwnsAll}
 use Rattle.session_callers.proofs.Gathering.{kept, waits_with_all}
