@@ -1,5 +1,6 @@
 pub mod Kept
 pub mod Spent
+pub mod Unrepeated
 pub mod Entries
 pub mod Begun
 pub mod Threads

@@ -1,5 +1,5 @@
 -- A number that has run out has run out for the rest of the turn.
-use Rattle.std.proofs.Common.{◌≡◌, ℕ, ◌^◌, ◌≤◌, nat_le, List, [], ◌∷◌, Bool, true, false, ◌&&◌, ◌||◌, Option, None, Some, refl, sym, ap, subst, ◌∙◌, arith, if◌then◌else◌}
+use Rattle.std.proofs.Common.{◌≡◌, ◌×◌, ℕ, ◌^◌, ◌≤◌, nat_le, List, [], ◌∷◌, Bool, true, false, ◌&&◌, ◌||◌, Option, None, Some, refl, sym, ap, subst, ◌∙◌, arith, if◌then◌else◌}
 use Rattle.std.proofs.Math.Nat.{le_refl}
 use Rattle.std.proofs.lemmas.Bool.Decides.{nat_tests}
 use Rattle.containers.proofs.Choices.{taken_if, left_if, not_both}
@@ -10,6 +10,7 @@ use Rattle.credentials.specs.Credentials.{Credentials}
 use Rattle.link_core.specs.Link.{LinkState, is_spent, holds_back, started_all}
 use Rattle.link_core.specs.Outbox.{can_offer}
 use Rattle.link_core.proofs.StartLemmas.{numbers_rise}
+use Rattle.mux_conn.specs.declared.again.Again.{Again}
 use Rattle.mux_conn.specs.declared.connection.MultiplexedConnection.{MultiplexedConnection}
 use Rattle.mux_conn.specs.declared.life.Greeting.{Greeting}
 use Rattle.mux_conn.specs.declared.life.Life.{Life}
@@ -208,7 +209,7 @@ moved_rises w =
 
 -- what the driver uses up itself is used up when requests were moved
 pub spent_said : (w : Work) → uses_up (said w) ≡ true → uses_up (moved_all w) ≡ true
-spent_said w h = uses_more (said w) (moved_all w) (moved_rises w) (ap (λ (r : Renewal). r.asked) (moved_kept w)) h
+spent_said w h = uses_more (said w) (moved_all w) (moved_rises w) (ap (λ (o : Renewal × Again). o.0.asked) (moved_kept w)) h
 
 -- new credentials give no smaller numbers
 renewal_timed_count : (w : Work) (number : ℕ) (within : Option ℕ) → count (renewal_timed w number within) ≡ count w
@@ -262,7 +263,7 @@ pub spent_moved : (w : Work) → uses_up (moved_all w) ≡ true → uses_up (pas
 spent_moved w h =
     let v = moved_all w in
     let same = begun_count v in
-    uses_more v (rounds_begun v) (omega (arith, same)) (ap (λ (r : Renewal). r.asked) (begun_kept v)) h
+    uses_more v (rounds_begun v) (omega (arith, same)) (ap (λ (o : Renewal × Again). o.0.asked) (begun_kept v)) h
 
 wait_count : (w : Work) (p : ℕ) (kind : Option WaitKind) → count (wait_shown w p kind) ≡ count w
 wait_count w p None = refl
@@ -296,7 +297,7 @@ flushed_count w = fresh_count (moved_shown (written w)) ∙ moved_count (written
 
 -- what a turn ends with leaves numbers that have run out
 pub spent_flushed : (w : Work) → uses_up w ≡ true → uses_up (flushed w) ≡ true
-spent_flushed w h = let same = flushed_count w in uses_more w (flushed w) (omega (arith, same)) (ap (λ (r : Renewal). r.asked) (flushed_kept w)) h
+spent_flushed w h = let same = flushed_count w in uses_more w (flushed w) (omega (arith, same)) (ap (λ (o : Renewal × Again). o.0.asked) (flushed_kept w)) h
 
 -- a number that runs out has run out at the end of the turn
 pub spent_turn : (w : Work) (news : News) → uses_up (passed (applied w news)) ≡ true → uses_up (stepped w news) ≡ true
