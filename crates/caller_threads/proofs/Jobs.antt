@@ -15,6 +15,7 @@ use Rattle.caller_threads.specs.Jobs.{callers_of, IsOfTable, IsNew, Fed, WasFed,
 use Rattle.caller_threads.proofs.Shares.{share_more, length_share, each_share, count_less}
 use Rattle.caller_threads.proofs.Places.{each_length, each_map, any_map, each_then, each_same, each_set, each_with, all_from, each_first, each_second, each_after, each_before, any_after, any_never, some_at}
 use Rattle.caller_threads.proofs.Submitting.{submitted_none, tried_so_far}
+use Rattle.driver_model.specs.Config.{kind_of}
 
 no_items : {A : Type 0} (xs : List A) → length xs ≡ 0 → xs ≡ []
 no_items [] e = refl
@@ -180,8 +181,8 @@ record IsFed (z : TableId) (lines share : List Line) (j m : Job) : Type 0 where
 -- it may run
 fed_ready : (z : TableId) (k c : ℕ) (lines : List Line) (j m : Job) → IsFed z lines (share k c lines) j m → IsReady z m
 fed_ready z k c lines j m h =
-    let its : Each (IsAllowed j.caller.view.config.kind) (share k c lines) = each_share (IsAllowed j.caller.view.config.kind) k c 0 lines h.allowed in
-    let given : AreAllowed m.lines j.caller = subst (Each (IsAllowed j.caller.view.config.kind)) (sym (h.fed.lines ∙ ap (λ l. l ++ share k c lines) h.new.lines)) its in
+    let its : Each (IsAllowed (kind_of j.caller.view.config)) (share k c lines) = each_share (IsAllowed (kind_of j.caller.view.config)) k c 0 lines h.allowed in
+    let given : AreAllowed m.lines j.caller = subst (Each (IsAllowed (kind_of j.caller.view.config))) (sym (h.fed.lines ∙ ap (λ l. l ++ share k c lines) h.new.lines)) its in
     record {
       of = ap (λ (v : Known). v.table) h.fed.caller ∙ h.of;
       allowed = subst (AreAllowed m.lines) (sym h.fed.caller) given;

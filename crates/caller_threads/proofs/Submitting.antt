@@ -2,6 +2,7 @@
 use Rattle.std.proofs.Common.{◌≡◌, ℕ, suc, ◌+◌, ◌-◌, ◌≤◌, List, [], ◌∷◌, ◌++◌, length, refl, sym, ap, ◌∙◌, subst, arith, append_assoc, append-nil, length-append}
 use Rattle.std.proofs.lemmas.Bool.{both_ways}
 use mathlib.Core.List.{IsPrefix}
+use Rattle.driver_model.specs.Config.{kind_of}
 use Rattle.driver_model.specs.declared.action.Action.{Action}
 use Rattle.driver_model.specs.declared.config.Config.{Config}
 use Rattle.driver_model.specs.declared.event.Event.{Event}
@@ -132,11 +133,11 @@ one_look v w error event shown after table turned refused = record {
   mine = refused.mine;
 }
 
-pub cause_of : (error : StepError) (v w : Known) (line : Line) (shown after : List Action) → IsAllowed v.view.config.kind line → Turned v.view w.view → Refused error v.view w.view (event_of line) shown after → IsCause error v w
+pub cause_of : (error : StepError) (v w : Known) (line : Line) (shown after : List Action) → IsAllowed (kind_of v.view.config) line → Turned v.view w.view → Refused error v.view w.view (event_of line) shown after → IsCause error v w
 unfolding is_bad
 cause_of BadEvent v w line shown after allowed turned refused =
-    let same : (state_after w.view.config w.view.word w.view.seen).kind ≡ v.view.config.kind = state_kind w.view.config w.view.word w.view.seen ∙ ap (λ (c : Config). c.kind) turned.config in
-    absurd (both_ways (has_no_form v.view.config.kind line.0) allowed (ap (λ (kind : SessionKind). has_no_form kind line.0) (sym same) ∙ refused.why.1))
+    let same : (state_after w.view.config w.view.word w.view.seen).kind ≡ (kind_of v.view.config) = state_kind w.view.config w.view.word w.view.seen ∙ ap (λ (c : Config). kind_of c) turned.config in
+    absurd (both_ways (has_no_form (kind_of v.view.config) line.0) allowed (ap (λ (kind : SessionKind). has_no_form kind line.0) (sym same) ∙ refused.why.1))
 cause_of (Spent n) v w line shown after allowed turned refused = ((let e = turned.drawn in omega arith), refused.why.0, refused.why.1, refused.spent refused.why.0)
 cause_of NoMemory v w line shown after allowed turned refused = tt
 

@@ -2,6 +2,7 @@
 use Rattle.std.specs.Prelude.{◌≡◌, ℕ, ◌+◌, ◌<◌, ◌≤◌, List, [], ◌∷◌, ◌++◌, length, false, IsPermutation}
 use Rattle.std.specs.List.Sorted.{IsNonDecreasingBy}
 use mathlib.Core.List.{IsPrefix}
+use Rattle.driver_model.specs.Config.{kind_of}
 use Rattle.driver_model.specs.declared.action.Action.{Action}
 use Rattle.driver_model.specs.declared.config.Config.{Config}
 use Rattle.driver_model.specs.declared.kind.SessionKind.{SessionKind}
@@ -30,7 +31,7 @@ IsAllowed kind line = has_no_form kind line.0 ≡ false
 
 -- a script of this caller's session may have each of them
 abbrev pub AreAllowed : List Line → Known → Type 0
-AreAllowed lines caller = Each (IsAllowed caller.view.config.kind) lines
+AreAllowed lines caller = Each (IsAllowed (kind_of caller.view.config)) lines
 
 abbrev pub event_of : Line → Event
 event_of line = submission_event line.0 line.1

@@ -1,5 +1,6 @@
 //! A caller with its lines.
 ghost use Rattle.std.specs.Prelude.{◌≡◌, IfOk, IfErr, OnOk, [], ◌∷◌};
+ghost use Rattle.driver_model.specs.Config.{kind_of};
 ghost use Rattle.caller_threads.specs.Submits.{IsAllowed, AreAllowed, HasSubmitted, HasTried};
 ghost use Rattle.caller_threads.specs.Submits.{HasLooked, IsCause};
 ghost use Rattle.caller_threads.specs.Jobs.{IsReady, HasRun};
@@ -44,7 +45,7 @@ fn submit_line<R: Wait>(
     line: (Submission, u64),
 ) -> Result<Turn, StepError>
     requires of { caller.old.table ≡ shared.now.table.shared.table_id }
-    requires allowed { IsAllowed caller.old.view.config.kind line }
+    requires allowed { IsAllowed (kind_of caller.old.view.config) line }
     ensures ok { IfOk result (λ turn. HasSubmitted caller.old caller.new (line ∷ []) (turn ∷ [])) }
     ensures err { IfErr result (λ error. HasLooked caller.old caller.new × IsCause error caller.old caller.new) }
 {

@@ -1,5 +1,6 @@
 -- A connection does the same where one request's outcome is looked away from, once its message has left the queue.
 use Rattle.std.proofs.Common.{◌≡◌, ◌≢◌, inl, ℕ, ◌==◌, ◌&&◌, ◌||◌, Bool, true, false, List, [], ◌∷◌, ◌++◌, if◌then◌else◌, refl, sym, ap, ◌∙◌, append_assoc, Option, Some, arith}
+use Rattle.std.specs.Prelude.{◌+◌, min, unwrap_or}
 use Rattle.std.proofs.lemmas.List.{append-nil}
 use Rattle.containers.proofs.Choices.{by_test, chosen, either, either_by, taken_if, left_if, eq_from, ne_from, eq_test, ne_test}
 use Rattle.redis_error.specs.declared.fault_kind.FaultKind.TheVariants as kinds
@@ -18,7 +19,7 @@ use Rattle.driver_model.specs.Hearing.{felt, hears_messages, hears_pushes}
 use Rattle.driver_model.specs.declared.hearing.Hearing.{Hearing}
 use Rattle.driver_model.specs.declared.hearing.Notice.{Notice}
 use Rattle.driver_model.specs.declared.hearing.Notice.TheVariants as notice
-use Rattle.driver_model.specs.News.{News, silence, connected, took, failed, shut, refused, overdue, authorized, denied, deserted, renewed, unrenewed, late, dropped}
+use Rattle.driver_model.specs.News.{News, silence, connected, took, failed, shut, refused, overdue, authorized, denied, deserted, renewed, unrenewed, late, unrepeated, dropped}
 use Rattle.driver_model.specs.News.{came}
 use Rattle.driver_model.specs.Shape.{outcome_of}
 use Rattle.link_core.specs.declared.message.Entry.{Entry}
@@ -33,19 +34,19 @@ use Rattle.mux_conn.specs.declared.act.LinkAct.{LinkAct}
 use Rattle.mux_conn.specs.declared.act.LinkAct.TheVariants as act
 use Rattle.mux_conn.specs.declared.connection.MultiplexedConnection.{MultiplexedConnection}
 use Rattle.mux_conn.specs.declared.life.Life.{Life}
-use Rattle.mux_conn.specs.declared.life.Life.TheVariants.{Dialing, Wanting, SettingUp, Ready, Ended}
+use Rattle.mux_conn.specs.declared.life.Life.TheVariants.{Resting, Dialing, Wanting, SettingUp, Ready, Ended}
 use Rattle.mux_conn.specs.declared.request.Progress.TheVariants as progress
 use Rattle.mux_conn.specs.declared.request.Request.{Request}
 use Rattle.mux_conn.specs.declared.request.Waiting.{Waiting}
 use Rattle.mux_conn.specs.Connection.{Work, acted, at_life, with_link, is_ready}
 use Rattle.mux_conn.specs.Requests.{is_open, is_open_at, name_at, permits_at, with_permits, given_back, closed, answered}
-use Rattle.mux_conn.specs.Effects.{settled_one, settled_each, failed_each, nobody_waits, waiting_failed, notice_act, noticed, noticed_each, told_each, greeting_error, dropped_at, dropped_by, cut_short, all_answered, ended, parted, opening_failed, authorized_at, connected_at, unauthorized_at, refused_at, overdue_at, taken_at, failed_at, broken_at, read_to, read_at, shut_at, applied}
+use Rattle.mux_conn.specs.Effects.{afresh, creation_told, given_up, settled_one, settled_each, failed_each, nobody_waits, waiting_failed, notice_act, noticed, noticed_each, told_each, greeting_error, dropped_at, dropped_by, cut_short, all_answered, ended, parted, opening_failed, authorized_at, connected_at, unauthorized_at, refused_at, overdue_at, taken_at, failed_at, broken_at, read_to, read_at, shut_at, applied}
 use Rattle.mux_conn.specs.Renewals.{renewing, with_renewal, expecting, expected, takes_more, late_for, is_unanswered, is_done, replied, renewal_id}
 use Rattle.cancel_laws.specs.ButFor.{hushed_each, hushed_link, hushed_life}
 use Rattle.cancel_laws.proofs.Requests.{names, name_stays, progress_twice, progress_apart, permits_other, permits_own, own_closed, closed_set, test_other}
 use Rattle.cancel_laws.proofs.Names.{IsOwn, own_name, other_name}
 use Rattle.cancel_laws.proofs.Links.{alike_hushed, hushed_came}
-use Rattle.cancel_laws.proofs.Kept.{other_act, IsPlain, notice_plain, At, There, answered_kept, settled_one_kept, settled_kept, telling_kept, failed_each_kept, over_kept, parted_kept}
+use Rattle.cancel_laws.proofs.Kept.{creation_kept, other_act, IsPlain, notice_plain, At, There, answered_kept, settled_one_kept, settled_kept, telling_kept, failed_each_kept, over_kept, parted_kept}
 use Rattle.cancel_laws.proofs.Values.{by_value, told_of, value_told, value_read, values_read, came_by_values, same_by_value}
 use Rattle.cancel_laws.proofs.Gone.{NoneQueued, IsGone, gone_kept}
 
@@ -266,12 +267,34 @@ bare_faulted n p w ss later h e =
     bare_all_answered n p (parted (cut_short w)) ss later (parted_kept (gone_kept n p) (cut_short w) g) e
     ∙ ap (λ (x : Work). all_answered x later) (bare_parted n p (cut_short w) ∙ ap parted (bare_cut_short n p w))
 
--- the end of an opening
+-- what is shown unless it was before
+bare_creation : (n p : ℕ) (w : Work) (e : Option RedisError) → bare n p (creation_told w e) ≡ creation_told (bare n p w) e
+bare_creation n p w e = by_told w.conn.told
+  where
+    v : Work
+    v = record w { conn = record w.conn { told = true } }
+
+    by_told : (told : Bool) → bare n p (record { conn = v.conn; acts = if told then w.acts else w.acts ++ act.Created e ∷ [] })
+        ≡ record { conn = (bare n p v).conn; acts = if told then (bare n p w).acts else (bare n p w).acts ++ act.Created e ∷ [] }
+    by_told true = refl
+    by_told false = bare_acted n p v (act.Created e) (λ m. refl)
+
+-- a connection that is without a link then
+bare_afresh : (n p : ℕ) (w : Work) → bare n p (record w { conn = afresh w.conn }) ≡ record (bare n p w) { conn = afresh (bare n p w).conn }
+bare_afresh n p w = ap (λ (free : ℕ). record { conn = record (afresh (bare n p w).conn) { free = free }; acts = (bare n p w).acts }) (min_left (unwrap_or w.conn.limit 0) (permits_at w.conn.requests p))
+  where
+    min_left : (a b : ℕ) → min a (a + b) ≡ a
+    min_left a b = omega arith
+
+-- the end of an opening, after which another attempt may follow
 bare_opening : (n p : ℕ) (w : Work) (e : RedisError) → At (There (IsGone n p)) w → bare n p (opening_failed w e) ≡ opening_failed (bare n p w) e
 bare_opening n p w e h =
-    let a = act.Created (Some e) in
-    let g : At (There (IsGone n p)) (acted (at_life w (Ended e)) a) = over_kept (gone_kept n p) w e a (λ m. refl) h in
-    bare_waiting n p (acted (at_life w (Ended e)) a) e g ∙ ap (λ (x : Work). waiting_failed x e) (bare_acted n p (at_life w (Ended e)) a (λ m. refl))
+    let v = creation_told (at_life w (Ended e)) (Some e) in
+    let over : At (There (IsGone n p)) (at_life w (Ended e)) = (gone_kept n p).end w.conn.limit w.conn.requests w.conn.life w.conn.moved w.acts e h in
+    let g : At (There (IsGone n p)) v = creation_kept (gone_kept n p) (at_life w (Ended e)) (Some e) over in
+    either (bare n p) w.conn.last (given_up w e) (record w { conn = afresh w.conn }) (given_up (bare n p w) e) (record (bare n p w) { conn = afresh (bare n p w).conn })
+    (λ t. bare_waiting n p v e g ∙ ap (λ (x : Work). waiting_failed x e) (bare_creation n p (at_life w (Ended e)) (Some e)))
+    (λ f. bare_afresh n p w)
 
 -- the end of one whose link is closed
 bare_given_up : (n p : ℕ) (w : Work) (e : RedisError) → At (There (IsGone n p)) w → bare n p (opening_failed (acted w act.Close) e) ≡ opening_failed (acted (bare n p w) act.Close) e
@@ -281,6 +304,7 @@ bare_given_up n p w e h = bare_opening n p (acted w act.Close) e h ∙ ap (λ (x
 --
 -- whether a link is set up doesn't depend on its row
 pub ready_same : (p : ℕ) (life : Life) → is_ready life ≡ is_ready (hushed_life p life)
+ready_same p Resting = refl
 ready_same p Dialing = refl
 ready_same p (Wanting l) = refl
 ready_same p (SettingUp l greeting) = refl
@@ -290,6 +314,7 @@ ready_same p (Ended e) = refl
 -- a fault of the link
 bare_failed : (n p : ℕ) (w : Work) (f : LinkFault) (life : Life) → At (There (IsGone n p)) w → bare n p (failed_at w f life) ≡ failed_at (bare n p w) f (hushed_life p life)
 bare_failed n p w f (Ready l) h = bare_faulted n p w _ _ h (fault_alike p (felt w.conn.hears f) l (hushed_link p l) [] [] (alike_hushed p l) refl).out
+bare_failed n p w f Resting h = refl
 bare_failed n p w f Dialing h = refl
 bare_failed n p w f (Wanting l) h = bare_given_up n p w error.Closed h
 bare_failed n p w f (SettingUp l greeting) h = bare_given_up n p w (greeting_error greeting l.row f) h
@@ -298,6 +323,7 @@ bare_failed n p w f (Ended e) h = refl
 -- the stream of messages is dropped
 bare_dropped_at : (n p : ℕ) (w : Work) (life : Life) → At (There (IsGone n p)) w → bare n p (dropped_at w life) ≡ dropped_at (bare n p w) (hushed_life p life)
 bare_dropped_at n p w (Ready l) h = bare_faulted n p w _ _ h (fault_alike p fault.Ended l (hushed_link p l) [] [] (alike_hushed p l) refl).out
+bare_dropped_at n p w Resting h = refl
 bare_dropped_at n p w Dialing h = bare_given_up n p w error.Closed h
 bare_dropped_at n p w (Wanting l) h = bare_given_up n p w error.Closed h
 bare_dropped_at n p w (SettingUp l greeting) h = bare_given_up n p w error.Closed h
@@ -309,6 +335,7 @@ bare_dropped n p w h = either (bare n p) (hears_messages w.conn.hears) (dropped_
 
 -- the connect
 bare_connected : (n p : ℕ) (w : Work) (life : Life) → NoneQueued p life → bare n p (connected_at w life) ≡ connected_at (bare n p w) (hushed_life p life)
+bare_connected n p w Resting none = refl
 bare_connected n p w Dialing none = absurd none
 bare_connected n p w (Wanting l) none = absurd none
 bare_connected n p w (SettingUp l greeting) none = absurd none
@@ -317,6 +344,7 @@ bare_connected n p w (Ended e) none = refl
 
 -- credentials for the setup
 bare_authorized : (n p : ℕ) (w : Work) (c : Credentials) (life : Life) → NoneQueued p life → bare n p (authorized_at w c life) ≡ authorized_at (bare n p w) c (hushed_life p life)
+bare_authorized n p w c Resting none = refl
 bare_authorized n p w c Dialing none = refl
 bare_authorized n p w c (Wanting l) none = absurd none
 bare_authorized n p w c (SettingUp l greeting) none = refl
@@ -325,6 +353,7 @@ bare_authorized n p w c (Ended e) none = refl
 
 -- that there are none
 bare_unauthorized : (n p : ℕ) (w : Work) (e : RedisError) (life : Life) → NoneQueued p life → bare n p (unauthorized_at w e life) ≡ unauthorized_at (bare n p w) e (hushed_life p life)
+bare_unauthorized n p w e Resting none = refl
 bare_unauthorized n p w e Dialing none = refl
 bare_unauthorized n p w e (Wanting l) none = absurd none
 bare_unauthorized n p w e (SettingUp l greeting) none = refl
@@ -333,6 +362,7 @@ bare_unauthorized n p w e (Ended x) none = refl
 
 -- the connect is refused
 bare_refused : (n p : ℕ) (w : Work) (f : FaultKind) (life : Life) → At (There (IsGone n p)) w → bare n p (refused_at w f life) ≡ refused_at (bare n p w) f (hushed_life p life)
+bare_refused n p w f Resting h = refl
 bare_refused n p w f Dialing h = bare_opening n p w (error.Io f) h
 bare_refused n p w f (Wanting l) h = refl
 bare_refused n p w f (SettingUp l greeting) h = refl
@@ -341,6 +371,7 @@ bare_refused n p w f (Ended e) h = refl
 
 -- the time to connect is over
 bare_overdue : (n p : ℕ) (w : Work) (life : Life) → At (There (IsGone n p)) w → bare n p (overdue_at w life) ≡ overdue_at (bare n p w) (hushed_life p life)
+bare_overdue n p w Resting h = refl
 bare_overdue n p w Dialing h = bare_given_up n p w (error.Io kinds.TimedOut) h
 bare_overdue n p w (Wanting l) h = bare_given_up n p w (error.Io kinds.TimedOut) h
 bare_overdue n p w (SettingUp l greeting) h = bare_given_up n p w (error.Io kinds.TimedOut) h
@@ -349,6 +380,7 @@ bare_overdue n p w (Ended e) h = refl
 
 -- bytes were taken
 bare_taken : (n p : ℕ) (w : Work) (count : ℕ) (life : Life) → bare n p (taken_at w count life) ≡ taken_at (bare n p w) count (hushed_life p life)
+bare_taken n p w count Resting = refl
 bare_taken n p w count Dialing = refl
 bare_taken n p w count (Wanting l) = refl
 bare_taken n p w count (SettingUp l greeting) = refl
@@ -410,6 +442,7 @@ bare_came n p w piece (Ready l) h =
     let k = (gone_kept n p).come w.conn.limit w.conn.requests l w.conn.moved w.acts what piece h in
     bare_read n p w r (piece_read what true (hushed_link p l) piece) k (hushed_came p what l piece) (bytes_alike p what true l (hushed_link p l) piece (alike_hushed p l) (inl refl)).0.strange
     (bare_told_each n p (with_link w r.link) what l piece k)
+bare_came n p w piece Resting h = refl
 bare_came n p w piece Dialing h = refl
 bare_came n p w piece (Wanting l) h = absurd h.none
 bare_came n p w piece (SettingUp l greeting) h = absurd h.none
@@ -418,6 +451,7 @@ bare_came n p w piece (Ended e) h = refl
 -- the shutdown
 bare_shut : (n p : ℕ) (w : Work) (life : Life) → At (There (IsGone n p)) w → bare n p (shut_at w life) ≡ shut_at (bare n p w) (hushed_life p life)
 bare_shut n p w (Ready l) h = bare_ended n p w _ _ h (close_alike p l (hushed_link p l) [] [] (alike_hushed p l) refl).out
+bare_shut n p w Resting h = bare_waiting n p w error.Closed h
 bare_shut n p w Dialing h = bare_ended n p w [] [] h refl
 bare_shut n p w (Wanting l) h = bare_ended n p w [] [] h refl
 bare_shut n p w (SettingUp l greeting) h = bare_ended n p w [] [] h refl
@@ -450,5 +484,6 @@ bare_applied n p w deserted h = bare_unauthorized n p w (error.AuthFailed []) w.
 bare_applied n p w (renewed c) h = ap (λ (x : MultiplexedConnection). record (bare n p w) { conn = x }) (bare_expecting p w.conn c)
 bare_applied n p w unrenewed h = refl
 bare_applied n p w (late k) h = ap (λ (x : MultiplexedConnection). record (bare n p w) { conn = x }) (bare_late_for p w.conn k)
+bare_applied n p w unrepeated h = refl
 bare_applied n p w dropped h = bare_dropped n p w h
 bare_applied n p w shut h = bare_shut n p w w.conn.life h

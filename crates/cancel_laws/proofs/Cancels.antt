@@ -1,5 +1,5 @@
 -- Over whole histories, the cancel of a started request changes nothing but its own outcome.
-use Rattle.std.proofs.Common.{◌≡◌, ◌≢◌, ℕ, ◌+◌, ◌<◌, nat_le, ◌||◌, Bool, true, false, List, [], ◌∷◌, ◌++◌, length, Option, Some, slice_get, refl, sym, ap, ◌∙◌, subst, append_assoc, arith, ◌==◌, ◌&&◌}
+use Rattle.std.proofs.Common.{◌≡◌, ◌≢◌, ℕ, ◌+◌, ◌<◌, nat_le, ◌||◌, Bool, true, false, List, [], ◌∷◌, ◌++◌, length, Option, Some, slice_get, refl, sym, ap, ◌∙◌, subst, append_assoc, arith, ◌==◌, ◌&&◌, is_some, None}
 use Rattle.std.proofs.Math.Bool.{or-false}
 use Rattle.std.proofs.lemmas.List.{append-nil}
 use Rattle.containers.proofs.Choices.{chosen, not_le_test, not_both}
@@ -8,37 +8,41 @@ use Rattle.driver_model.specs.declared.action.Action.{Action}
 use Rattle.driver_model.specs.declared.action.Action.TheVariants as action
 use Rattle.driver_model.specs.declared.action.Cause.TheVariants as cause
 use Rattle.driver_model.specs.declared.config.Config.{Config}
+use Rattle.driver_model.specs.Config.{manager_of}
 use Rattle.driver_model.specs.declared.event.Event.{Event}
 use Rattle.driver_model.specs.declared.event.EventKind.{EventKind}
 use Rattle.driver_model.specs.declared.event.EventKind.TheVariants as event
 use Rattle.driver_model.specs.declared.outcome.Outcome.{Outcome}
 use Rattle.mux_conn.specs.declared.connection.MultiplexedConnection.{MultiplexedConnection}
 use Rattle.mux_conn.specs.declared.life.Life.{Life}
-use Rattle.mux_conn.specs.declared.life.Life.TheVariants.{Dialing, Wanting, SettingUp, Ready, Ended}
+use Rattle.mux_conn.specs.declared.life.Life.TheVariants.{Resting, Dialing, Wanting, SettingUp, Ready, Ended}
 use Rattle.mux_conn.specs.declared.request.Pending.{Pending}
 use Rattle.mux_conn.specs.Requests.{if_there, is_open, is_waiting, is_admitted, is_open_at}
 use Rattle.mux_conn.specs.Connection.{Work}
 use Rattle.mux_conn.specs.Effects.{cancelled_in, left}
-use Rattle.mux_conn.specs.Passes.{passed}
 use Rattle.mux_conn.specs.Renewals.{renewal_id}
 use Rattle.shared_session.specs.declared.core_state.Core.{Core}
-use Rattle.shared_session.specs.Turn.{Turning, work_of, with_work, heard, left_by, counted, moved_on, numbered, exceeds_offer, is_bad, shown_each, actions_of, next_turn}
+use Rattle.shared_session.specs.Turn.{Turning, work_of, with_work, heard, left_by, counted, moved_on, numbered, exceeds_offer, is_bad, shown_each, actions_of, next_turn, effect}
 use Rattle.shared_session.specs.Replay.{opening_core, opening_actions, run_on, state_after, turns_on, trace_of, told_each, outcomes_in, outcome_at, is_bad_after}
 use Rattle.shared_session.proofs.Replays.{turns_after}
+use Rattle.shared_session.proofs.Plain.{plain_effects, plain_turn}
+use Rattle.shared_session.proofs.Stays.{turn_plain}
 use Rattle.cancel_laws.specs.ButFor.{all_unnumbered, but_for, hushed_life}
 use Rattle.cancel_laws.specs.Cancels.{cancel_of, HasStarted, GoesOn}
 use Rattle.cancel_laws.specs.Laws.{HasNoLimit}
 use Rattle.cancel_laws.proofs.Requests.{names_count, own_closed}
 use Rattle.cancel_laws.proofs.Names.{own_of}
 use Rattle.cancel_laws.proofs.Links.{none_from}
-use Rattle.cancel_laws.proofs.Kept.{At, There, AtCore, Unlimited, left_by_kept, passed_kept, flushed_kept, turn_kept}
+use Rattle.cancel_laws.proofs.Kept.{At, There, Unlimited}
+use Rattle.cancel_laws.proofs.KeptTurns.{AtCore, left_by_kept, turn_kept}
 use Rattle.cancel_laws.proofs.Gone.{NoneQueued, NoneInRow, NoneIs, IsAway, away_kept, IsHushed, hushed_kept, hushed_asks, quiet_life}
 use Rattle.cancel_laws.proofs.Moved.{own_left}
 use Rattle.cancel_laws.proofs.Once.{IsOnce, silenced_once, row_once}
 use Rattle.cancel_laws.proofs.Rest.{nothing_moves, left_idle}
-use Rattle.cancel_laws.proofs.Silent.{IsSilent, silent_kept}
+use Rattle.cancel_laws.proofs.Whole.{last_silent, turn_silent}
+use Rattle.cancel_laws.proofs.Silent.{IsSilent}
 use Rattle.cancel_laws.proofs.Turns.{bare_core, above, more_after, AreAlike, turn_gone, turn_unlimited}
-use Rattle.cancel_laws.proofs.Ready.{IsReady, ready_on, opening_ready, unlimited_after}
+use Rattle.cancel_laws.proofs.Ready.{IsReady, ready_on, opening_ready, unlimited_after, IsNamed, named_on, opening_named, ready_named}
 use Rattle.cancel_laws.proofs.Shown.{but_for-append, unnumbered-append, unshown_acts, shown_alike, alike_on, silent_shown}
 use Rattle.cancel_laws.proofs.Outcomes.{told-append, all_told_unnumbered, erased, other_outcome, erased_told, none_told}
 
@@ -47,19 +51,19 @@ use Rattle.cancel_laws.proofs.Outcomes.{told-append, all_told_unnumbered, erased
 -- where submission n is request p, whose message isn't in the queue, and permits aren't counted, the turn of its cancel is the request's cancel
 cancel_turn : (c : Core) (n : ℕ) (p : Pending) → AtCore Unlimited c → IsReady c → slice_get c.table n ≡ Some (Some p) → NoneQueued p.number c.single.connection.life
     → next_turn c (event.Cancel n) ≡ record { core = record c { turns = c.turns + 1; single = record c.single { connection = left c.single.connection p.number } }; acts = [] }
-unfolding next_turn
 cancel_turn c n p unlimited r there none =
     let t = heard (counted c) (event.Cancel n) in
     let d = left_by t (Some (Some p)) in
     let shut = or-false c.shut in
     let timers = append-nil c.timers in
     let sources = append-nil c.sources in
-    ap (λ (who : Option (Option Pending)). numbered (moved_on (left_by t who))) there
+    plain_turn c (event.Cancel n) r.plain
+    ∙ ap (λ (who : Option (Option Pending)). numbered (moved_on (left_by t who))) there
     ∙ ap (λ (w : Work). numbered (with_work d w)) (nothing_moves (work_of d) (left_idle c.single.connection p.number unlimited none r.idle))
     ∙ (λ i. record { core = record c { turns = c.turns + 1; shut = shut i; timers = timers i; sources = sources i; single = record c.single { connection = left c.single.connection p.number } }; acts = [] })
 
 -- a request has another number than the message that tells new credentials
-started_apart : (n : ℕ) (c : Core) (h : HasStarted n c) → IsReady c → renewal_id ≢ h.pending.number
+started_apart : (n : ℕ) (c : Core) (h : HasStarted n c) → IsNamed c → renewal_id ≢ h.pending.number
 started_apart n c h r =
     let there = get_within c.single.connection.requests h.pending.number h.request h.known in
     λ e. omega (arith, e, there, r.named.fewer, names_count c.single.connection.requests, h.numbered)
@@ -73,7 +77,7 @@ started_within : (n : ℕ) (c : Core) → HasStarted n c → n < length c.table
 started_within n c h = get_within c.table n (Some h.pending) h.there
 
 -- and it waits for nothing
-started_away : (n : ℕ) (c : Core) (h : HasStarted n c) → IsReady c → AtCore (IsAway n h.pending.number) c
+started_away : (n : ℕ) (c : Core) (h : HasStarted n c) → IsNamed c → AtCore (IsAway n h.pending.number) c
 started_away n c h r =
     let p = h.pending.number in
     record {
@@ -95,7 +99,7 @@ started_cancel n c h u r = cancel_turn c n h.pending u r h.there (started_none n
 
 -- it stays gone in the turn of its cancel
 cancel_gone : (n : ℕ) (c : Core) (h : HasStarted n c) → IsReady c → AtCore (IsAway n h.pending.number) (next_turn c (event.Cancel n)).core
-cancel_gone n c h r = turn_gone n h.pending.number c (event.Cancel n) (started_within n c h) (started_away n c h r)
+cancel_gone n c h r = turn_gone n h.pending.number c (event.Cancel n) r.plain (started_within n c h) (started_away n c h (ready_named c r))
 
 -- and it is open
 started_open : (n : ℕ) (c : Core) (h : HasStarted n c) → is_open_at c.single.connection.requests h.pending.number ≡ true
@@ -105,15 +109,16 @@ started_open n c h = ap (if_there is_open) h.known ∙ ap is_open h.placed
 cancel_alike : (n : ℕ) (c : Core) (h : HasStarted n c) → AtCore Unlimited c → IsReady c → AreAlike n h.pending.number c (next_turn c (event.Cancel n)).core
 cancel_alike n c h u r =
     let p = h.pending.number in
-    let gone = started_away n c h r in
+    let gone = started_away n c h (ready_named c r) in
     let within = started_within n c h in
     let own = own_left p c.single.connection gone.gone.none in
     record {
+      plain = r.plain;
       same =
           ap (λ (x : MultiplexedConnection). record (bare_core p c) { single = record c.single { connection = x } }) (sym own)
           ∙ ap (λ (x : Turning). bare_core p x.core) (sym (started_cancel n c h u r));
       unlimited = u;
-      unlimited_too = turn_unlimited c (event.Cancel n) u;
+      unlimited_too = turn_unlimited c (event.Cancel n) r.plain u;
       within = within;
       within_too = more_after n c (event.Cancel n) within;
       gone = gone;
@@ -124,23 +129,19 @@ cancel_alike n c h u r =
 left_closed : (c : MultiplexedConnection) (p : ℕ) → is_open_at (left c p).requests p ≡ false
 left_closed c p = chosen (λ (x : MultiplexedConnection). is_open_at x.requests p ≡ false) (is_open_at c.requests p) _ c (λ t. own_closed c.requests p) (λ f. f)
 
--- so it is silent in the turn of its cancel, whoever takes its permits
-cancel_silent_turn : (n : ℕ) (c : Core) (h : HasStarted n c) → IsReady c → At (IsSilent n h.pending.number) (work_of (next_turn c (event.Cancel n)))
-unfolding next_turn
-cancel_silent_turn n c h r =
+-- so it is silent behind its cancel
+cancel_effect : (n : ℕ) (c : Core) (h : HasStarted n c) → IsNamed c → At (IsSilent n h.pending.number) (work_of (effect (counted c) (event.Cancel n)))
+cancel_effect n c h r =
     let p = h.pending.number in
     let t = heard (counted c) (event.Cancel n) in
-    let who = slice_get c.table n in
     let g : At (IsAway n p) (work_of (left_by t (Some (Some h.pending)))) = left_by_kept (away_kept n p) t (Some (Some h.pending)) (started_away n c h r) in
     let s : At (IsSilent n p) (work_of (left_by t (Some (Some h.pending)))) =
     record { there = g.gone.there; own = g.gone.own; closed = left_closed c.single.connection p; unshown = refl } in
-    let l : At (IsSilent n p) (work_of (left_by t who)) = subst (λ (x : Option (Option Pending)). At (IsSilent n p) (work_of (left_by t x))) (sym h.there) s in
-    let w = work_of (left_by t who) in
-    flushed_kept (silent_kept n p) (passed w) (passed_kept (silent_kept n p) w l)
+    subst (λ (x : Option (Option Pending)). At (IsSilent n p) (work_of (left_by t x))) (sym h.there) s
 
 -- and from then on
-cancel_silent : (n : ℕ) (c : Core) (h : HasStarted n c) → IsReady c → AtCore (IsSilent n h.pending.number) (next_turn c (event.Cancel n)).core
-cancel_silent n c h r = let s = cancel_silent_turn n c h r in record { there = s.there; own = s.own; closed = s.closed; unshown = refl }
+cancel_silent : (n : ℕ) (c : Core) (h : HasStarted n c) → IsNamed c → AtCore (IsSilent n h.pending.number) (next_turn c (event.Cancel n)).core
+cancel_silent n c h r = let s = turn_silent c (event.Cancel n) n h.pending.number (cancel_effect n c h r) in record { there = s.there; own = s.own; closed = s.closed; unshown = refl }
 
 -- nobody awaits what the link of a cancelled request has for it
 left_quiet : (c : MultiplexedConnection) (p : ℕ) → is_open_at c.requests p ≡ true → NoneInRow p (cancelled_in c.life p) → NoneInRow p (left c p).life
@@ -151,7 +152,7 @@ cancel_hushed : (n : ℕ) (c : Core) (h : HasStarted n c) → AtCore Unlimited c
 cancel_hushed n c h u r =
     let p = h.pending.number in
     let x = c.single.connection in
-    let once : IsOnce p x.requests (Ready h.link) = subst (IsOnce p x.requests) h.up (r.once p (started_apart n c h r)) in
+    let once : IsOnce p x.requests (Ready h.link) = subst (IsOnce p x.requests) h.up (r.once p (started_apart n c h (ready_named c r))) in
     let quiet : NoneInRow p (cancelled_in x.life p) =
     subst (λ (life : Life). NoneInRow p (cancelled_in life p)) (sym h.up) (silenced_once p h.link.row (row_once p x.requests h.link h.request once h.known)) in
     record {
@@ -160,14 +161,16 @@ cancel_hushed n c h u r =
     }
 
 -- and never again
-hushed_on : (n p : ℕ) (c : Core) (es : List Event) → n < length c.table → AtCore (There (IsHushed n p)) c → AtCore (There (IsHushed n p)) (run_on c es)
-hushed_on n p c [] l h = h
-hushed_on n p c (e ∷ es) l h =
-    hushed_on n p (next_turn c e.kind).core es (more_after n c e.kind l) (turn_kept (hushed_kept n p) c (hushed_asks n p (length c.table) (above n c.table l)) e.kind h)
+hushed_on : (n p : ℕ) (c : Core) (es : List Event) → is_some c.manager ≡ false → n < length c.table → AtCore (There (IsHushed n p)) c → AtCore (There (IsHushed n p)) (run_on c es)
+hushed_on n p c [] plain l h = h
+hushed_on n p c (e ∷ es) plain l h =
+    hushed_on n p (next_turn c e.kind).core es (turn_plain c e.kind ∙ plain) (more_after n c e.kind l) (turn_kept (hushed_kept n p) c plain (hushed_asks n p (length c.table) (above n c.table l)) e.kind h)
 
 -- the turn of the cancel shows nothing, where permits aren't counted
 cancel_shows : (c : Core) (draw n : ℕ) (h : HasStarted n c) → AtCore Unlimited c → IsReady c → actions_of c (cancel_of draw n) ≡ action.Turn c.turns (cause.Event (cancel_of draw n)) ∷ []
-cancel_shows c draw n h u r = ap (λ (x : Turning). action.Turn c.turns (cause.Event (cancel_of draw n)) ∷ shown_each c.single.link (length c.timers) (length c.sources) x.acts) (started_cancel n c h u r)
+cancel_shows c draw n h u r =
+    ap (λ (xs : List Action). action.Turn c.turns (cause.Event (cancel_of draw n)) ∷ xs)
+    (plain_effects c (cancel_of draw n) r.plain ∙ ap (λ (x : Turning). shown_each c.single.link (length c.timers) (length c.sources) x.acts) (started_cancel n c h u r))
 
 -- histories
 --
@@ -194,22 +197,27 @@ trace_split config word before after =
     ∙ sym (append_assoc (opening_actions config word) (turns_on (opening_core config word) before) _)
 
 -- what is true after each history
-pub ready_after : (config : Config) (word : ℕ) (before : List Event) → IsReady (state_after config word before)
+pub ready_after : (config : Config) (word : ℕ) (before : List Event) → manager_of config ≡ None → IsReady (state_after config word before)
 unfolding state_after
-ready_after config word before = ready_on (opening_core config word) before (opening_ready config word)
+ready_after config word before stays = ready_on (opening_core config word) before (opening_ready config word stays)
+
+-- also where the session comes back
+pub named_after : (config : Config) (word : ℕ) (before : List Event) → IsNamed (state_after config word before)
+unfolding state_after
+named_after config word before = named_on (opening_core config word) before (opening_named config word)
 
 -- the number of the next turn
 number_after : (config : Config) (word : ℕ) (before : List Event) → (state_after config word before).turns ≡ length before + 1
 number_after config word before = omega (arith, turns_after config word before)
 
 -- the two sessions are alike after all later events
-alike_after : (config : Config) (word draw n : ℕ) (before after : List Event) → HasNoLimit config → (h : HasStarted n (state_after config word before))
+alike_after : (config : Config) (word draw n : ℕ) (before after : List Event) → manager_of config ≡ None → HasNoLimit config → (h : HasStarted n (state_after config word before))
     → AreAlike n h.pending.number (state_after config word (before ++ after)) (state_after config word (before ++ cancel_of draw n ∷ after))
-alike_after config word draw n before after free h =
+alike_after config word draw n before after stays free h =
     let c = state_after config word before in
     let p = h.pending.number in
     let d = (next_turn c (event.Cancel n)).core in
-    let a = cancel_alike n c h (unlimited_after config word before free) (ready_after config word before) in
+    let a = cancel_alike n c h (unlimited_after config word before stays free) (ready_after config word before stays) in
     subst (λ (x : Core). AreAlike n p x (state_after config word (before ++ cancel_of draw n ∷ after))) (sym (state_split config word before after))
     (subst (AreAlike n p (run_on c after)) (sym (state_split config word before (cancel_of draw n ∷ after))) (alike_on n p c d after a))
 
@@ -220,8 +228,7 @@ silent_after : (config : Config) (word n : ℕ) (before after : List Event) (h :
     → but_for n (turns_on (next_turn (state_after config word before) (event.Cancel n)).core after) ≡ all_unnumbered (turns_on (next_turn (state_after config word before) (event.Cancel n)).core after)
 silent_after config word n before after h =
     let c = state_after config word before in
-    let r = ready_after config word before in
-    silent_shown n h.pending.number (next_turn c (event.Cancel n)).core after (more_after n c (event.Cancel n) (started_within n c h)) (cancel_silent n c h r)
+    silent_shown n h.pending.number (next_turn c (event.Cancel n)).core after (more_after n c (event.Cancel n) (started_within n c h)) (cancel_silent n c h (named_after config word before))
 
 -- nor does the turn of the cancel
 silent_from : (config : Config) (word draw n : ℕ) (before after : List Event) (h : HasStarted n (state_after config word before))
@@ -229,18 +236,19 @@ silent_from : (config : Config) (word draw n : ℕ) (before after : List Event) 
 silent_from config word draw n before after h =
     let c = state_after config word before in
     let e = cancel_of draw n in
+    let silent = cancel_effect n c h (named_after config word before) in
     let more = turns_on (next_turn c (event.Cancel n)).core after in
     but_for-append n (actions_of c e) more
-    ∙ ap (λ (xs : List Action). xs ++ but_for n more) (unshown_acts n c e (cancel_silent_turn n c h (ready_after config word before)).unshown)
+    ∙ ap (λ (xs : List Action). xs ++ but_for n more) (unshown_acts n c e (turn_silent c (event.Cancel n) n h.pending.number silent).unshown (last_silent c (event.Cancel n) n h.pending.number silent))
     ∙ ap (λ (xs : List Action). all_unnumbered (actions_of c e) ++ xs) (silent_after config word n before after h) ∙ sym (unnumbered-append (actions_of c e) more)
 
 -- the trace with the cancel goes on as the one without it
-pub goes_on : (config : Config) (word draw n : ℕ) (before after : List Event) → HasNoLimit config → HasStarted n (state_after config word before) → GoesOn config word n before (cancel_of draw n) after
-goes_on config word draw n before after free h =
+pub goes_on : (config : Config) (word draw n : ℕ) (before after : List Event) → manager_of config ≡ None → HasNoLimit config → HasStarted n (state_after config word before) → GoesOn config word n before (cancel_of draw n) after
+goes_on config word draw n before after stays free h =
     let c = state_after config word before in
     let d = (next_turn c (event.Cancel n)).core in
-    let u = unlimited_after config word before free in
-    let r = ready_after config word before in
+    let u = unlimited_after config word before stays free in
+    let r = ready_after config word before stays in
     let number = ap (λ (k : ℕ). action.Turn k (cause.Event (cancel_of draw n)) ∷ []) (number_after config word before) in
     record {
       later = turns_on c after;
@@ -262,11 +270,11 @@ same_told n m k draw trace later later_with o e =
     ∙ sym (ap (λ (ps : List (Option Outcome)). outcome_at ps m) (told-append [] trace (action.Turn k (cause.Event (cancel_of draw n)) ∷ later_with)))
 
 -- all other submissions have the same outcomes
-pub same_outcomes : (config : Config) (word draw n m : ℕ) (before after : List Event) → HasNoLimit config → HasStarted n (state_after config word before) → m ≢ n
+pub same_outcomes : (config : Config) (word draw n m : ℕ) (before after : List Event) → manager_of config ≡ None → HasNoLimit config → HasStarted n (state_after config word before) → m ≢ n
     → outcome_at (outcomes_in (trace_of config word (before ++ after))) m ≡ outcome_at (outcomes_in (trace_of config word (before ++ cancel_of draw n ∷ after))) m
 unfolding outcomes_in goes_on
-same_outcomes config word draw n m before after free h o =
-    let g = goes_on config word draw n before after free h in
+same_outcomes config word draw n m before after stays free h o =
+    let g = goes_on config word draw n before after stays free h in
     let e = g.alike ∙ sym (silent_after config word n before after h) in
     ap (λ (xs : List Action). outcome_at (told_each [] xs) m) g.plain ∙ same_told n m (length before + 1) draw (trace_of config word before) g.later g.later_with o e
     ∙ sym (ap (λ (xs : List Action). outcome_at (told_each [] xs) m) g.with_more)
@@ -287,20 +295,21 @@ no_outcome config word draw n before after h =
 -- items, and events
 --
 -- the links are the same, but for the verdict that is not wanted
-pub same_items : (config : Config) (word draw n : ℕ) (before after : List Event) → HasNoLimit config → (h : HasStarted n (state_after config word before))
+pub same_items : (config : Config) (word draw n : ℕ) (before after : List Event) → manager_of config ≡ None → HasNoLimit config → (h : HasStarted n (state_after config word before))
     → hushed_life h.pending.number (state_after config word (before ++ after)).single.connection.life ≡ (state_after config word (before ++ cancel_of draw n ∷ after)).single.connection.life
-same_items config word draw n before after free h =
+same_items config word draw n before after stays free h =
     let c = state_after config word before in
     let p = h.pending.number in
-    let r = ready_after config word before in
+    let r = ready_after config word before stays in
     let d = (next_turn c (event.Cancel n)).core in
-    let s = hushed_on n p d after (more_after n c (event.Cancel n) (started_within n c h)) (cancel_hushed n c h (unlimited_after config word before free) r) in
-    ap (λ (x : Core). x.single.connection.life) (alike_after config word draw n before after free h).same
+    let s = hushed_on n p d after (turn_plain c (event.Cancel n) ∙ r.plain) (more_after n c (event.Cancel n) (started_within n c h)) (cancel_hushed n c h (unlimited_after config word before stays free) r) in
+    ap (λ (x : Core). x.single.connection.life) (alike_after config word draw n before after stays free h).same
     ∙ subst (λ (x : Core). hushed_life p x.single.connection.life ≡ x.single.connection.life) (sym (state_split config word before (cancel_of draw n ∷ after)))
     (quiet_life p (run_on d after).single.connection.life s.quiet)
 
 -- how many bytes are offered doesn't depend on the row
 too_much_same : (p count : ℕ) (life : Life) → exceeds_offer life count ≡ exceeds_offer (hushed_life p life) count
+too_much_same p count Resting = refl
 too_much_same p count Dialing = refl
 too_much_same p count (Wanting l) = refl
 too_much_same p count (SettingUp l greeting) = refl
@@ -328,11 +337,11 @@ bare_bad p c event.Shutdown = refl
 bare_bad p c event.DropStream = refl
 
 -- so the same events are bad
-pub same_bad : (config : Config) (word draw n : ℕ) (before after : List Event) (e : Event) → HasNoLimit config → HasStarted n (state_after config word before)
+pub same_bad : (config : Config) (word draw n : ℕ) (before after : List Event) (e : Event) → manager_of config ≡ None → HasNoLimit config → HasStarted n (state_after config word before)
     → is_bad_after config word (before ++ after) e ≡ is_bad_after config word (before ++ cancel_of draw n ∷ after) e
-same_bad config word draw n before after e free h =
+same_bad config word draw n before after e stays free h =
     let p = h.pending.number in
-    bare_bad p (state_after config word (before ++ after)) e.kind ∙ ap (λ (x : Core). is_bad x e.kind) (alike_after config word draw n before after free h).same
+    bare_bad p (state_after config word (before ++ after)) e.kind ∙ ap (λ (x : Core). is_bad x e.kind) (alike_after config word draw n before after stays free h).same
     ∙ sym (bare_bad p (state_after config word (before ++ cancel_of draw n ∷ after)) e.kind)
 
 -- and the cancel itself is not

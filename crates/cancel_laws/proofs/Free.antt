@@ -1,8 +1,9 @@
 -- A submission that is handed in on a link that is ready, and which nothing holds back, has started.
-use Rattle.std.proofs.Common.{◌≡◌, ◌≢◌, ◌≤◌, ◌^◌, ◌+◌, nat_le, length-append, ℕ, ◌==◌, not, ◌||◌, Bool, true, false, List, [], ◌∷◌, ◌++◌, length, Option, Some, slice_get, if◌then◌else◌, refl, sym, ap, ◌∙◌, subst, arith, inl, inr}
+use Rattle.std.proofs.Common.{◌≡◌, ◌≢◌, ◌≤◌, ◌^◌, ◌+◌, nat_le, length-append, ℕ, ◌==◌, not, ◌||◌, Bool, true, false, List, [], ◌∷◌, ◌++◌, length, Option, Some, slice_get, if◌then◌else◌, refl, sym, ap, ◌∙◌, subst, arith, inl, inr, ◌&&◌, None, is_some}
 use Rattle.std.proofs.Math.Bool.{or-false}
-use Rattle.containers.proofs.Choices.{chosen, if_true, if_false, left_if, ne_test, not_both}
-use Rattle.containers.proofs.Places.{get_set_same, get_within}
+use Rattle.containers.proofs.Choices.{chosen, if_true, if_false, left_if, ne_test, not_both, both_right}
+use Rattle.containers.proofs.Places.{get_set_same, get_within, get_set_other}
+use Rattle.std.specs.Prelude.{nat_lt}
 use Rattle.link_laws.proofs.Lists.{get_last}
 use Rattle.driver_model.specs.declared.config.Config.{Config}
 use Rattle.driver_model.specs.declared.event.Event.{Event}
@@ -18,26 +19,35 @@ use Rattle.link_core.specs.Link.{LinkState, Starting, enqueued, is_full, holds_b
 use Rattle.link_core.specs.Outbox.{can_offer}
 use Rattle.link_core.specs.Waiting.{without}
 use Rattle.mux_conn.specs.declared.connection.MultiplexedConnection.{MultiplexedConnection}
+use Rattle.mux_conn.specs.declared.act.LinkAct.{LinkAct}
+use Rattle.connection_info.specs.Protocol.{is_resp3}
+use Rattle.mux_conn.specs.declared.act.LinkAct.TheVariants as act
 use Rattle.mux_conn.specs.declared.life.Greeting.{Greeting}
 use Rattle.mux_conn.specs.declared.life.Life.{Life}
-use Rattle.mux_conn.specs.declared.life.Life.TheVariants.{Dialing, Wanting, SettingUp, Ready, Ended}
+use Rattle.mux_conn.specs.declared.life.Life.TheVariants.{Resting, Dialing, Wanting, SettingUp, Ready, Ended}
 use Rattle.mux_conn.specs.declared.request.Pending.{Pending}
 use Rattle.mux_conn.specs.declared.request.Progress.TheVariants as progress
 use Rattle.mux_conn.specs.declared.request.Request.{Request}
 use Rattle.mux_conn.specs.declared.request.Waiting.{Waiting}
 use Rattle.mux_conn.specs.declared.renewal.Renewal.{Renewal}
-use Rattle.mux_conn.specs.Connection.{Work, with_link, has_no_permit, admits_none_at, admits_none, has_room, has_room_at, in_front, is_due}
-use Rattle.mux_conn.specs.Requests.{if_there, is_waiting, is_waiting_at, name_at, permits_at, answered, waiting_of, asked}
-use Rattle.mux_conn.specs.Passes.{started, message_of, placed_at, told_at_place, seated, moved_up_all, put_behind, seated_or_behind, permits_taken, holding, let_in, admitted_at, admitted, still_waiting, still_admitted, admitted_each, admitted_all, passed}
+use Rattle.mux_conn.specs.Connection.{Work, with_link, has_no_permit, admits_none_at, admits_none, has_room, has_room_at, in_front, is_due, acted, is_ready, is_resting, is_used_up, work_with}
+use Rattle.mux_conn.specs.Requests.{if_there, is_waiting, is_waiting_at, name_at, permits_at, answered, waiting_of, asked, is_unbegun, is_unbegun_at, progressed}
+use Rattle.mux_conn.specs.Passes.{started, message_of, placed_at, told_at_place, seated, moved_up_all, put_behind, seated_or_behind, permits_taken, holding, let_in, admitted_at, admitted, still_waiting, still_admitted, admitted_each, admitted_all, passed, moved_all, round_begun, rounds_of, rounds_begun}
 use Rattle.mux_conn.specs.Turn.{written_at, written, flushed}
 use Rattle.shared_session.specs.declared.core_state.Core.{Core}
-use Rattle.shared_session.specs.Turn.{Turning, pending, work_of, heard, refused_with, counted, moved_on, numbered, next_turn}
+use Rattle.shared_session.specs.declared.generations.Comeback.{Comeback}
+use Rattle.shared_session.specs.declared.generations.Comeback.TheVariants as comeback
+use Rattle.shared_session.specs.declared.generations.Generations.{Generations}
+use Rattle.shared_session.specs.Generations.{came_back, comeback_in, has_cause, has_ended, heeding, is_caused, rests, wakes_in}
+use Rattle.shared_session.specs.Generations.{is_due as is_due_of}
+use Rattle.shared_session.specs.Turn.{Turning, pending, work_of, with_work, heard, refused_with, counted, moved_on, numbered, flushed_on, flushed_apart, ended_apart, ended_as, own_part, next_turn}
 use Rattle.shared_session.specs.Replay.{state_after}
 use Rattle.cancel_laws.specs.Cancels.{handed_in_at, IsFree, HasStarted}
 use Rattle.cancel_laws.proofs.Kept.{let_in_conn}
+use Rattle.cancel_laws.proofs.Requests.{other_test}
 use Rattle.cancel_laws.proofs.Rest.{IsThrough, IsStartedOn, IsIdle, conn_shown, renewed_stays, started_stays, none_moved_up, waits_conn}
-use Rattle.cancel_laws.proofs.Ready.{IsReady}
-use Rattle.cancel_laws.proofs.Cancels.{state_split, ready_after}
+use Rattle.cancel_laws.proofs.Ready.{IsNamed}
+use Rattle.cancel_laws.proofs.Cancels.{state_split, named_after}
 
 -- request p has had its place, and its message has left the queue of the link, which is up
 record IsStarted (p : ℕ) (c : MultiplexedConnection) : Type 0 where
@@ -74,6 +84,7 @@ written_from p w (Ready l) e h =
       gone = subst (λ (x : LinkState). without x.queue p ≡ x.queue) same h.gone;
     })
     (λ f. h)
+written_from p w Resting e h = h
 written_from p w Dialing e h = h
 written_from p w (Wanting l) e h = absurd (not_wanting h.link l (sym h.up ∙ e))
 written_from p w (SettingUp l greeting) e h = absurd (not_set_up h.link l greeting (sym h.up ∙ e))
@@ -134,10 +145,10 @@ room_alone r l none room =
     let same : in_front r + length l.queue ≡ length l.queue = omega (arith, count) in
     ap (λ (k : ℕ). not (nat_le l.size k)) same ∙ ap not room
 
--- a request that waits is let in, and takes its place
-admitted_starts : (w : Work) (q : Waiting) (l : LinkState) (x : Request) → slice_get w.conn.requests q.number ≡ Some x → w.conn.life ≡ Ready l → l.queue ≡ [] → holds_back l ≡ false → is_full l ≡ false → is_due w.conn.renewal ≡ false → q.awaited ≡ true
-    → IsStarted q.number (admitted_at w q w.conn.life).conn
-admitted_starts w q l x known up none goes room alone awaited =
+-- a request that is let in takes its place
+let_in_starts : (w : Work) (q : Waiting) (l : LinkState) (x : Request) → slice_get w.conn.requests q.number ≡ Some x → w.conn.life ≡ Ready l → l.queue ≡ [] → holds_back l ≡ false → is_full l ≡ false → is_due w.conn.renewal ≡ false → q.awaited ≡ true
+    → IsStarted q.number (seated_or_behind (let_in w q) q).conn
+let_in_starts w q l x known up none goes room alone awaited =
     let p = q.number in
     let count = permits_taken w.conn.limit w.conn.free q.shape in
     let d = let_in w q in
@@ -146,12 +157,64 @@ admitted_starts w q l x known up none goes room alone awaited =
     let life : d.conn.life ≡ Ready l = ap (λ (c : MultiplexedConnection). c.life) same ∙ up in
     let there : slice_get d.conn.requests p ≡ Some y = ap (λ (c : MultiplexedConnection). slice_get c.requests p) same ∙ get_set_same w.conn.requests p y (get_within w.conn.requests p x known) in
     let fits : has_room d.conn ≡ true = ap has_room same ∙ ap (λ (life : Life). has_room_at life (in_front w.conn.renewal)) up ∙ room_alone w.conn.renewal l alone room in
-    let sits : IsStarted p (seated_or_behind d q).conn = if_true (λ (z : Work). IsStarted p z.conn) (has_room d.conn) (seated d q) (put_behind d q) fits (place_starts d q l y there life none goes awaited) in
-    subst (λ (life : Life). IsStarted p (admitted_at w q life).conn) (sym up) sits
+    if_true (λ (z : Work). IsStarted p z.conn) (has_room d.conn) (seated d q) (put_behind d q) fits (place_starts d q l y there life none goes awaited)
+
+-- and one that waits is let in, once its round has begun
+admitted_starts : (w : Work) (q : Waiting) (l : LinkState) (x : Request) → slice_get w.conn.requests q.number ≡ Some x → w.conn.life ≡ Ready l → l.queue ≡ [] → holds_back l ≡ false → is_full l ≡ false → is_due w.conn.renewal ≡ false → q.awaited ≡ true
+    → IsStarted q.number (admitted_at w q w.conn.life).conn
+admitted_starts w q l x known up none goes room alone awaited =
+    let p = q.number in
+    let r = w.conn.requests in
+    let y : Request = record { name = name_at r p; progress = progress.Begun; permits = permits_at r p } in
+    let v = acted (progressed w p progress.Begun) (act.Round (name_at r p)) in
+    let begins : IsStarted p (seated_or_behind (let_in (round_begun w p) q) q).conn =
+    chosen (λ (u : Work). IsStarted p (seated_or_behind (let_in u q) q).conn) (w.conn.rounds && is_unbegun_at r p) v w
+    (λ t. let_in_starts v q l y (get_set_same r p y (get_within r p x known)) up none goes room alone awaited)
+    (λ f. let_in_starts w q l x known up none goes room alone awaited) in
+    subst (λ (life : Life). IsStarted p (admitted_at w q life).conn) (sym up) begins
+
+-- a round that begins leaves a message that has started
+round_started : (p : ℕ) (w : Work) (m : ℕ) → IsStarted p w.conn → IsStarted p (round_begun w m).conn
+round_started p w m h =
+    let r = w.conn.requests in
+    let past : is_unbegun_at r p ≡ false = ap (if_there is_unbegun) h.known ∙ ap is_unbegun h.placed in
+    chosen (λ (x : Work). IsStarted p x.conn) (w.conn.rounds && is_unbegun_at r m) (acted (progressed w m progress.Begun) (act.Round (name_at r m))) w
+    (λ t. record {
+      request = h.request;
+      known = get_set_other r m p (record { name = name_at r m; progress = progress.Begun; permits = permits_at r m }) (other_test is_unbegun r m p (both_right w.conn.rounds (is_unbegun_at r m) t) past) ∙ h.known;
+      placed = h.placed;
+      link = h.link;
+      up = h.up;
+      gone = h.gone;
+    })
+    (λ f. h)
+
+-- so do more of them
+rounds_started : (p : ℕ) (w : Work) (ms : List ℕ) → IsStarted p w.conn → IsStarted p (rounds_of w ms).conn
+rounds_started p w [] h = h
+rounds_started p w (m ∷ ms) h = rounds_started p (round_begun w m) ms (round_started p w m h)
+
+-- and those of all that go on waiting
+all_rounds_started : (p : ℕ) (w : Work) → IsStarted p w.conn → IsStarted p (rounds_begun w).conn
+all_rounds_started p w h = chosen (λ (x : Work). IsStarted p x.conn) (w.conn.rounds && is_ready w.conn.life) (rounds_of w w.conn.fresh) w (λ t. rounds_started p w w.conn.fresh h) (λ f. h)
+
+-- nor do rounds that begin change who waits
+rounds_waiting : (w : Work) (ms : List ℕ) → (rounds_of w ms).conn.waiting ≡ w.conn.waiting
+rounds_waiting w [] = refl
+rounds_waiting w (m ∷ ms) =
+    rounds_waiting (round_begun w m) ms
+    ∙ chosen (λ (x : Work). x.conn.waiting ≡ w.conn.waiting) (w.conn.rounds && is_unbegun_at w.conn.requests m) (acted (progressed w m progress.Begun) (act.Round (name_at w.conn.requests m))) w (λ t. refl) (λ f. refl)
+
+all_rounds_waiting : (w : Work) → (rounds_begun w).conn.waiting ≡ w.conn.waiting
+all_rounds_waiting w = chosen (λ (x : Work). x.conn.waiting ≡ w.conn.waiting) (w.conn.rounds && is_ready w.conn.life) (rounds_of w w.conn.fresh) w (λ t. rounds_waiting w w.conn.fresh) (λ f. refl)
+
+-- it has started, and nobody waits
+abbrev HasEmptied : ℕ → MultiplexedConnection → Type 0
+HasEmptied p c = IsStarted p c × (c.waiting ≡ [])
 
 -- so has one that comes where nobody waits
 asked_starts : (c : MultiplexedConnection) (name : ℕ) (packed : List ℕ) (shape : Shape) (timeout : Option ℕ) (l : LinkState) → IsIdle c → c.life ≡ Ready l → holds_back l ≡ false → is_full l ≡ false → has_no_permit c.limit c.free ≡ false
-    → IsStarted (length c.requests) (passed (record { conn = asked c name packed shape true timeout; acts = [] })).conn
+    → HasEmptied (length c.requests) (passed (record { conn = asked c name packed shape true timeout; acts = [] })).conn
 asked_starts c name packed shape timeout l idle up goes room permit =
     let p = length c.requests in
     let x : Request = record { name = name; progress = progress.Waiting; permits = 0 } in
@@ -167,11 +230,13 @@ asked_starts c name packed shape timeout l idle up goes room permit =
     let alone : IsStarted p (admitted v q).conn =
     if_true (λ (z : Work). IsStarted p z.conn) (is_waiting_at w.conn.requests p) (admitted_at v q v.conn.life) v (ap (if_there is_waiting) known) (admitted_starts v q l x known up none goes room undue refl) in
     let last : IsStarted p (still_waiting (admitted v q) []).conn = record { request = alone.request; known = alone.known; placed = alone.placed; link = alone.link; up = alone.up; gone = alone.gone } in
-    let one : IsStarted p (admitted_each v (q ∷ [])).conn = if_false (λ (z : Work). IsStarted p z.conn) (admits_none c) (still_waiting v (q ∷ [])) (still_waiting (admitted v q) []) moves last in
-    let all : IsStarted p (admitted_all w).conn = subst (λ (qs : List Waiting). IsStarted p (admitted_each v (qs ++ q ∷ [])).conn) (sym (m.waiting moves)) one in
-    subst (λ (z : Work). IsStarted p z.conn)
+    let one : HasEmptied p (admitted_each v (q ∷ [])).conn = if_false (λ (z : Work). HasEmptied p z.conn) (admits_none c) (still_waiting v (q ∷ [])) (still_waiting (admitted v q) []) moves (last, refl) in
+    let all : HasEmptied p (admitted_all w).conn = subst (λ (qs : List Waiting). HasEmptied p (admitted_each v (qs ++ q ∷ [])).conn) (sym (m.waiting moves)) one in
+    let moved : HasEmptied p (moved_all w).conn =
+    subst (λ (z : Work). HasEmptied p z.conn)
     (sym (ap (λ (z : Work). admitted_all (moved_up_all (started z))) (renewed_stays w m.seated.through.renewed)
-    ∙ ap (λ (z : Work). admitted_all (moved_up_all z)) (started_stays w c.life refl m.seated.through.queue) ∙ ap admitted_all (none_moved_up (still_admitted w []) c.admitted m.seated.admitted))) all
+    ∙ ap (λ (z : Work). admitted_all (moved_up_all z)) (started_stays w c.life refl m.seated.through.queue) ∙ ap admitted_all (none_moved_up (still_admitted w []) c.admitted m.seated.admitted))) all in
+    (all_rounds_started p (moved_all w) moved.0, all_rounds_waiting (moved_all w) ∙ moved.1)
   where
     queue_empty : (l : LinkState) → IsThrough l → holds_back l ≡ false → l.queue ≡ []
     queue_empty l (inl e) f = e
@@ -181,27 +246,64 @@ asked_starts c name packed shape timeout l idle up goes room permit =
     none_due true f = absurd (f refl)
     none_due false f = refl
 
+-- a manager whose link is set up, and for which nobody waits, does nothing of its own
+--
+-- no generation is to begin
+none_due : (g : Generations) (over : Bool) (c : MultiplexedConnection) (acts : List LinkAct) (l : LinkState) → c.life ≡ Ready l → c.waiting ≡ [] → is_due_of g over c acts ≡ false
+none_due g over c acts l up none =
+    ap (λ (b : Bool). not g.halted && b)
+    (chosen (λ (b : Bool). b ≡ false) (g.number == 0) (not (length c.waiting == 0)) (is_caused over c acts)
+    (λ z. ap (λ (ws : List Waiting). not (length ws == 0)) none)
+    (λ n. ap (λ (life : Life). has_ended life && (((not over && c.opened) && is_resp3 c.info.protocol) || has_cause c.opened acts)) up))
+    ∙ never (not g.halted)
+  where
+    never : (p : Bool) → (p && false) ≡ false
+    never true = refl
+    never false = refl
+
+-- nor anything else, unless its wait is over
+ready_stays : (m : Option Generations) (over : Bool) (c : Core) (acts : List LinkAct) (l : LinkState) → c.single.connection.life ≡ Ready l → c.single.connection.waiting ≡ [] → comeback_in m false over c acts ≡ comeback.Stays
+ready_stays None over c acts l up none = refl
+ready_stays (Some g) over c acts l up none =
+    chosen (λ (x : Comeback). x ≡ comeback.Stays) (is_used_up c.single.connection) comeback.Stays _ (λ t. refl)
+    (λ f. left_if (rests c) _ _ (ap (λ (life : Life). is_resting life && nat_lt c.single.link c.links) up)
+    ∙ chosen (λ (x : Comeback). x ≡ comeback.Stays) c.shut comeback.Stays _ (λ t. refl) (λ g1. left_if (is_due_of g over c.single.connection acts) _ comeback.Stays (none_due g over c.single.connection acts l up none)))
+
+-- a submission ends no wait
+not_woken : (m : Option Generations) (s : Submission) → wakes_in m (event.Submit s) ≡ false
+not_woken None s = refl
+not_woken (Some g) s = refl
+
 -- and its submission
-turn_starts : (c : Core) (s : Submission) → packed_bytes s ≢ [] → is_reply_awaited s ≡ true → IsReady c → IsFree c → lacks_resp3 c.single.connection.hears c.single.connection.info.protocol s ≡ false → HasStarted (length c.table) (next_turn c (event.Submit s)).core
+turn_starts : (c : Core) (s : Submission) → packed_bytes s ≢ [] → is_reply_awaited s ≡ true → IsNamed c → IsFree c → lacks_resp3 c.single.connection.hears c.single.connection.info.protocol s ≡ false → HasStarted (length c.table) (next_turn c (event.Submit s)).core
 unfolding next_turn
 turn_starts c s some awaited ready free spoken =
     let n = length c.table in
     let conn = c.single.connection in
     let p = length conn.requests in
+    let over = has_ended conn.life in
     let t = heard (counted c) (event.Submit s) in
     let asks : Bool → Turning = λ b. record t {
       core = record t.core { table = c.table ++ Some (pending p) ∷ []; single = record c.single { connection = asked conn n (packed_bytes s) (shape_of s) b c.timeout } };
     } in
-    let sits : IsStarted p (passed (work_of (asks true))).conn =
-    asked_starts conn n (packed_bytes s) (shape_of s) c.timeout free.link ready.idle free.ready free.goes free.room free.permit in
+    let ends : Turning → Turning = λ x. ended_as (is_some c.manager) (with_work x (passed (work_of x))) over (event.Submit s) in
+    let sits = asked_starts conn n (packed_bytes s) (shape_of s) c.timeout free.link ready.idle free.ready free.goes free.room free.permit in
     let few : length (c.table ++ Some (pending p) ∷ []) ≤ 2 ^ 32 = omega (arith, free.numbered, length-append c.table (Some (pending p) ∷ [])) in
-    let done : HasStarted n (numbered (moved_on (asks true))).core =
-    has_started n (numbered (moved_on (asks true))).core (pending p) (get_last c.table (Some (pending p))) few (all_flushed p (passed (work_of (asks true))) sits) in
-    let own : HasStarted n (numbered (moved_on (asks (is_reply_awaited s)))).core = subst (λ (b : Bool). HasStarted n (numbered (moved_on (asks b))).core) (sym awaited) done in
+    let there = get_last c.table (Some (pending p)) in
+    let m = numbered (with_work (asks true) (passed (work_of (asks true)))) in
+    let h = heeding m.core (event.Submit s) m.acts in
+    let flushes : Core → Core = λ d. record d { single = record d.single { connection = (flushed_apart d).conn } } in
+    let stays : own_part m over (event.Submit s) ≡ comeback.Stays =
+    ap (λ (woken : Bool). comeback_in h.manager woken over h m.acts) (not_woken m.core.manager s) ∙ ready_stays h.manager over h m.acts sits.0.link sits.0.up sits.1 in
+    let done : HasStarted n (ends (asks true)).core =
+    chosen (λ (x : Turning). HasStarted n x.core) (is_some c.manager) (ended_apart m over (event.Submit s)) (numbered (flushed_on (with_work (asks true) (passed (work_of (asks true))))))
+    (λ g. subst (λ (d : Core). HasStarted n (flushes d)) (sym (ap (came_back h) stays)) (has_started n (flushes h) (pending p) there few (all_flushed p (work_with h.single.connection []) sits.0)))
+    (λ g. has_started n (numbered (moved_on (asks true))).core (pending p) there few (all_flushed p (passed (work_of (asks true))) sits.0)) in
+    let own : HasStarted n (ends (asks (is_reply_awaited s))).core = subst (λ (b : Bool). HasStarted n (ends (asks b)).core) (sym awaited) done in
     let packed = if length (packed_bytes s) == 0 then refused_with t error.EmptyCommand else asks (is_reply_awaited s) in
-    if_false (λ (x : Turning). HasStarted n (numbered (moved_on x)).core) (c.shut || false) _ (if lacks_resp3 conn.hears conn.info.protocol s then refused_with t error.Resp3Required else packed) (or-false c.shut ∙ free.unshut)
-    (if_false (λ (x : Turning). HasStarted n (numbered (moved_on x)).core) (lacks_resp3 conn.hears conn.info.protocol s) _ packed spoken
-    (if_false (λ (x : Turning). HasStarted n (numbered (moved_on x)).core) (length (packed_bytes s) == 0) _ (asks (is_reply_awaited s)) (no_bytes (packed_bytes s) some) own))
+    if_false (λ (x : Turning). HasStarted n (ends x).core) (c.shut || false) _ (if lacks_resp3 conn.hears conn.info.protocol s then refused_with t error.Resp3Required else packed) (or-false c.shut ∙ free.unshut)
+    (if_false (λ (x : Turning). HasStarted n (ends x).core) (lacks_resp3 conn.hears conn.info.protocol s) _ packed spoken
+    (if_false (λ (x : Turning). HasStarted n (ends x).core) (length (packed_bytes s) == 0) _ (asks (is_reply_awaited s)) (no_bytes (packed_bytes s) some) own))
 
 -- whatever came before
 pub free_started : (config : Config) (word draw : ℕ) (before : List Event) (s : Submission) → packed_bytes s ≢ [] → is_reply_awaited s ≡ true → IsFree (state_after config word before)
@@ -209,4 +311,4 @@ pub free_started : (config : Config) (word draw : ℕ) (before : List Event) (s 
     → HasStarted (length (state_after config word before).table) (state_after config word (before ++ handed_in_at draw s ∷ []))
 free_started config word draw before s some awaited free spoken =
     let c = state_after config word before in
-    subst (HasStarted (length c.table)) (sym (state_split config word before (handed_in_at draw s ∷ []))) (turn_starts c s some awaited (ready_after config word before) free spoken)
+    subst (HasStarted (length c.table)) (sym (state_split config word before (handed_in_at draw s ∷ []))) (turn_starts c s some awaited (named_after config word before) free spoken)

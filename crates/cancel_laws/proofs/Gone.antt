@@ -4,7 +4,7 @@ use Rattle.containers.proofs.Choices.{ne_test}
 use Rattle.link_core.specs.declared.message.Entry.{Entry}
 use Rattle.mux_conn.specs.declared.act.LinkAct.{LinkAct}
 use Rattle.mux_conn.specs.declared.life.Life.{Life}
-use Rattle.mux_conn.specs.declared.life.Life.TheVariants.{Dialing, Wanting, SettingUp, Ready, Ended}
+use Rattle.mux_conn.specs.declared.life.Life.TheVariants.{Resting, Dialing, Wanting, SettingUp, Ready, Ended}
 use Rattle.mux_conn.specs.declared.request.Progress.{Progress}
 use Rattle.mux_conn.specs.declared.request.Progress.TheVariants as progress
 use Rattle.mux_conn.specs.declared.request.Request.{Request}
@@ -13,13 +13,15 @@ use Rattle.mux_conn.specs.Effects.{cancelled_in}
 use Rattle.mux_conn.specs.Passes.{message_of}
 use Rattle.mux_conn.specs.Renewals.{renewal_id}
 use Rattle.cancel_laws.specs.ButFor.{hushed_life}
-use Rattle.cancel_laws.proofs.Requests.{names, names_stay, names_push, progress_count, past_set, test_other, test_push, other_test}
+use Rattle.cancel_laws.proofs.Requests.{names, names_stay, names_push, progress_count, past_set, test_other, test_push, other_test, unbegun_waits}
 use Rattle.cancel_laws.proofs.Names.{IsOwn, own_push}
 use Rattle.cancel_laws.proofs.Links.{NoneOf, NoneWanted, none_push, none_without, none_started, none_came, quiet_behind, quiet_starts, quiet_came, quiet_silenced, quiet_stays}
-use Rattle.cancel_laws.proofs.Kept.{IsKept, IsKeptThere, There, kept_there, CanAsk}
+use Rattle.cancel_laws.proofs.Kept.{IsKept, IsKeptThere, There, kept_there}
+use Rattle.cancel_laws.proofs.KeptTurns.{CanAsk}
 
--- the link has been set up, and nobody awaits message p in its queue
+-- the link has been set up, and nobody awaits message p in its queue; or there is none
 abbrev pub NoneQueued : ℕ → Life → Type 0
+NoneQueued p Resting = Unit {0}
 NoneQueued p Dialing = ⊥
 NoneQueued p (Wanting l) = ⊥
 NoneQueued p (SettingUp l greeting) = ⊥
@@ -28,6 +30,7 @@ NoneQueued p (Ended e) = Unit {0}
 
 -- nor in its row
 abbrev pub NoneInRow : ℕ → Life → Type 0
+NoneInRow p Resting = Unit {0}
 NoneInRow p Dialing = Unit {0}
 NoneInRow p (Wanting l) = Unit {0}
 NoneInRow p (SettingUp l greeting) = Unit {0}
@@ -56,6 +59,7 @@ within_kept r p q now count l = omega (arith, progress_count r q now count)
 
 -- a cancel puts nothing into the queue
 none_cancelled : (p q : ℕ) (life : Life) → NoneQueued p life → NoneQueued p (cancelled_in life q)
+none_cancelled p q Resting h = h
 none_cancelled p q Dialing h = h
 none_cancelled p q (Wanting l) h = h
 none_cancelled p q (SettingUp l greeting) h = h
@@ -85,6 +89,14 @@ gone_there n p = record {
   go_on = λ r l k greeting few h. absurd h.none;
   repeat = λ r l k q greeting next few h. absurd h.none;
   ready = λ r l k greeting few h. absurd h.none;
+  round = λ r life q t h. record {
+    there = within_kept r p q progress.Begun (permits_at r q) h.there;
+    own = own_kept n p r q progress.Begun (permits_at r q) h.own;
+    apart = h.apart;
+    past = test_other is_waiting r q p progress.Begun (permits_at r q) (other_test is_waiting r q p (unbegun_waits r q t) h.past) ∙ h.past;
+    seated = past_set is_admitted r q p progress.Begun (permits_at r q) refl h.seated;
+    none = h.none;
+  };
   admit = λ r life q count t h. record {
     there = within_kept r p q progress.Admitted count h.there;
     own = own_kept n p r q progress.Admitted count h.own;
@@ -107,6 +119,7 @@ gone_there n p = record {
   write = λ r l k h. record { there = h.there; own = h.own; apart = h.apart; past = h.past; seated = h.seated; none = h.none };
   come = λ r l what piece h. record { there = h.there; own = h.own; apart = h.apart; past = h.past; seated = h.seated; none = none_came p what l piece h.none };
   end = λ r life e h. record { there = h.there; own = h.own; apart = h.apart; past = h.past; seated = h.seated; none = tt };
+  rest = λ r life h. record { there = h.there; own = h.own; apart = h.apart; past = h.past; seated = h.seated; none = tt };
 }
 
 -- so each part of a turn does
@@ -156,6 +169,7 @@ away_kept n p = record {
   go_on = λ lim r l k greeting ms xs few h. absurd h.gone.none;
   repeat = λ lim r l k q greeting next ms xs few h. absurd h.gone.none;
   ready = λ lim r l k greeting ms xs few h. absurd h.gone.none;
+  round = λ lim r life ms xs q t h. record { gone = (gone_there n p).round r life q t h.gone; unmoved = h.unmoved };
   admit = λ lim r life ms xs q count t h. record { gone = (gone_there n p).admit r life q count t h.gone; unmoved = h.unmoved };
   note = λ lim r life ms xs q t h. record { gone = h.gone; unmoved = none_is_push p ms q (other_test is_admitted r q p t h.gone.seated) h.unmoved };
   place = λ lim r l ms xs q t h. record { gone = (gone_there n p).place r l q t h.gone; unmoved = h.unmoved };
@@ -165,6 +179,7 @@ away_kept n p = record {
   write = λ lim r l ms xs k h. record { gone = (gone_there n p).write r l k h.gone; unmoved = h.unmoved };
   come = λ lim r l ms xs what piece h. record { gone = (gone_there n p).come r l what piece h.gone; unmoved = h.unmoved };
   end = λ lim r life ms xs e h. record { gone = (gone_there n p).end r life e h.gone; unmoved = h.unmoved };
+  rest = λ lim r life ms xs h. record { gone = (gone_there n p).rest r life h.gone; unmoved = h.unmoved };
   show = λ lim r life ms xs a plain h. record { gone = h.gone; unmoved = h.unmoved };
   calm = λ lim r life ms xs h. record { gone = h.gone; unmoved = tt };
 }
@@ -185,6 +200,7 @@ pub record IsHushed (n p : ℕ) (r : List Request) (life : Life) : Type 0 where
 
 -- a cancel makes nobody await a message
 quiet_cancelled : (p q : ℕ) (life : Life) → NoneInRow p life → NoneInRow p (cancelled_in life q)
+quiet_cancelled p q Resting h = h
 quiet_cancelled p q Dialing h = h
 quiet_cancelled p q (Wanting l) h = h
 quiet_cancelled p q (SettingUp l greeting) h = h
@@ -203,6 +219,7 @@ hushed_there n p = record {
   go_on = λ r l k greeting few h. absurd h.gone.none;
   repeat = λ r l k q greeting next few h. absurd h.gone.none;
   ready = λ r l k greeting few h. absurd h.gone.none;
+  round = λ r life q t h. record { gone = (gone_there n p).round r life q t h.gone; quiet = h.quiet };
   admit = λ r life q count t h. record { gone = (gone_there n p).admit r life q count t h.gone; quiet = h.quiet };
   place = λ r l q t h. record { gone = (gone_there n p).place r l q t h.gone; quiet = h.quiet };
   start = λ r l h. record { gone = (gone_there n p).start r l h.gone; quiet = quiet_starts p (record { link = l; out = [] }) l.queue h.gone.none h.quiet };
@@ -214,6 +231,7 @@ hushed_there n p = record {
   write = λ r l k h. record { gone = (gone_there n p).write r l k h.gone; quiet = h.quiet };
   come = λ r l what piece h. record { gone = (gone_there n p).come r l what piece h.gone; quiet = quiet_came p what l piece h.quiet };
   end = λ r life e h. record { gone = (gone_there n p).end r life e h.gone; quiet = tt };
+  rest = λ r life h. record { gone = (gone_there n p).rest r life h.gone; quiet = tt };
 }
 
 -- so each part of a turn does
@@ -226,6 +244,7 @@ hushed_asks n p m o = record { ask = λ lim r life ms xs h. record { gone = gone
 
 -- where nobody awaits it, its verdict is not wanted
 pub quiet_life : (p : ℕ) (life : Life) → NoneInRow p life → hushed_life p life ≡ life
+quiet_life p Resting h = refl
 quiet_life p Dialing h = refl
 quiet_life p (Wanting l) h = refl
 quiet_life p (SettingUp l greeting) h = refl

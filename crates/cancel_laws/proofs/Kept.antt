@@ -1,6 +1,6 @@
 -- What each part of a turn keeps: a fact of the limit of permits, of the requests, of the link's life, of those that were moved, and of what the turn has shown.
-use Rattle.std.proofs.Common.{◌≡◌, ℕ, ◌+◌, ◌≤◌, ◌==◌, ◌&&◌, ◌||◌, true, false, Bool, List, [], ◌∷◌, ◌++◌, length, Option, Some, None, slice_get, if◌then◌else◌, refl, ap, ◌∙◌, arith, nat_le}
-use Rattle.containers.proofs.Choices.{chosen}
+use Rattle.std.proofs.Common.{ℕ, true, false, Bool, List, [], length, Option, Some, None, refl, ap, arith, nat_le, ◌≡◌, ◌+◌, ◌≤◌, ◌==◌, ◌&&◌, ◌||◌, ◌∷◌, ◌++◌, ◌∙◌, if◌then◌else◌}
+use Rattle.containers.proofs.Choices.{chosen, both_right}
 use Rattle.redis_error.specs.declared.redis_error.RedisError.TheVariants as error
 use Rattle.redis_error.specs.declared.fault_kind.FaultKind.TheVariants as kinds
 use Rattle.redis_error.specs.declared.fault_kind.FaultKind.{FaultKind}
@@ -9,20 +9,13 @@ use Rattle.resp_value.specs.declared.value.Value.TheVariants.{Nil}
 use Rattle.credentials.specs.Credentials.{Credentials}
 use Rattle.connection_setup.specs.declared.judgement.SetupResult.{SetupResult}
 use Rattle.connection_setup.specs.declared.judgement.SetupResult.TheVariants as result
-use Rattle.driver_model.specs.declared.action.Owner.TheVariants as owner
-use Rattle.driver_model.specs.declared.action.Purpose.{Purpose}
-use Rattle.driver_model.specs.declared.action.Purpose.TheVariants as purpose
 use Rattle.driver_model.specs.declared.action.WaitKind.{WaitKind}
-use Rattle.driver_model.specs.declared.event.EventKind.{EventKind}
-use Rattle.driver_model.specs.declared.event.EventKind.TheVariants as event
-use Rattle.driver_model.specs.declared.event.Submission.{Submission}
 use Rattle.driver_model.specs.declared.news.LinkFault.{LinkFault}
 use Rattle.driver_model.specs.declared.news.LinkFault.TheVariants as fault
 use Rattle.driver_model.specs.declared.outcome.Outcome.{Outcome}
 use Rattle.driver_model.specs.declared.outcome.Outcome.TheVariants as outcome
-use Rattle.driver_model.specs.News.{News, news_of, silence, connected, took, failed, shut, refused, overdue, authorized, denied, deserted, renewed, unrenewed, late, dropped}
+use Rattle.driver_model.specs.News.{News, silence, connected, took, failed, shut, refused, overdue, authorized, denied, deserted, renewed, unrenewed, late, unrepeated, dropped}
 use Rattle.driver_model.specs.News.{came}
-use Rattle.driver_model.specs.Request.{packed_bytes, lacks_resp3}
 use Rattle.driver_model.specs.Setup.{says_nothing}
 use Rattle.driver_model.specs.Shape.{outcome_of}
 use Rattle.link_core.specs.declared.message.Queued.{Queued}
@@ -35,23 +28,19 @@ use Rattle.mux_conn.specs.declared.act.LinkAct.TheVariants as act
 use Rattle.mux_conn.specs.declared.connection.MultiplexedConnection.{MultiplexedConnection}
 use Rattle.mux_conn.specs.declared.life.Greeting.{Greeting}
 use Rattle.mux_conn.specs.declared.life.Life.{Life}
-use Rattle.mux_conn.specs.declared.life.Life.TheVariants.{Dialing, Wanting, SettingUp, Ready, Ended}
-use Rattle.mux_conn.specs.declared.request.Pending.{Pending}
+use Rattle.mux_conn.specs.declared.life.Life.TheVariants.{Resting, Dialing, Wanting, SettingUp, Ready, Ended}
 use Rattle.mux_conn.specs.declared.request.Progress.TheVariants as progress
 use Rattle.mux_conn.specs.declared.request.Request.{Request}
 use Rattle.mux_conn.specs.declared.request.Waiting.{Waiting}
-use Rattle.mux_conn.specs.Connection.{Work, acted, at_life, with_link, with_setup, with_wanting, has_room, admits_none, is_ready, is_due}
-use Rattle.mux_conn.specs.Requests.{is_open_at, is_waiting_at, is_admitted_at, name_at, with_permits, at_progress, answered}
-use Rattle.mux_conn.specs.Effects.{new_link, settled_one, settled_each, failed_each, nobody_waits, waiting_failed, ended, opening_failed, authorized_at, come_up, comes_to_want, connected_at, unauthorized_at, with_credentials, refused_at, overdue_at, taken_at, failed_at, broken_at, read_to, read_at, shut_at, all_fresh, made_ready, steps_of, greeting_queued, greeting_error, greeted, greeted_by, is_unreadable, dropped_at, dropped_by, sets_up, judged_by, set_up_by, answered_setup, applied, cancelled_in, left, timed_out, all_answered, behind_first, cut_short, heard_on, notice_act, noticed, noticed_each, parted, told_each}
+use Rattle.mux_conn.specs.Connection.{Work, acted, opened_on, at_life, with_link, with_setup, with_wanting, has_room, admits_none, is_ready, is_due}
+use Rattle.mux_conn.specs.Requests.{is_open_at, is_waiting_at, is_admitted_at, name_at, with_permits, at_progress, answered, is_unbegun_at, permits_at, progressed}
+use Rattle.mux_conn.specs.Effects.{afresh, creation_told, given_up, new_link, settled_one, settled_each, failed_each, nobody_waits, waiting_failed, ended, opening_failed, authorized_at, come_up, comes_to_want, connected_at, unauthorized_at, with_credentials, refused_at, overdue_at, taken_at, failed_at, broken_at, read_to, read_at, shut_at, all_fresh, made_ready, steps_of, greeting_queued, greeting_error, greeted, greeted_by, is_unreadable, dropped_at, dropped_by, sets_up, judged_by, set_up_by, answered_setup, applied, cancelled_in, all_answered, behind_first, cut_short, heard_on, notice_act, noticed, noticed_each, parted, told_each}
 use Rattle.mux_conn.specs.Renewals as renewals
 use Rattle.mux_conn.specs.Renewals.{renewing, expecting, takes_more, late_for, is_unanswered, renewal_id, renewal_queued, asked_next, renewal_act, renewal_timed, renewal_asked, renewal_told, renewal_moved}
-use Rattle.mux_conn.specs.Passes.{shown_each, greeting_act, greeted_each, started_at, started, message_of, placed_at, told_at_place, seated, still_admitted, moved_up, moved_up_each, moved_up_all, put_behind, seated_or_behind, permits_taken, holding, took_shown, took as holds, timer_asked, let_in, admitted_at, admitted, still_waiting, admitted_each, passed}
+use Rattle.mux_conn.specs.Passes.{shown_each, greeting_act, greeted_each, started_at, started, message_of, placed_at, told_at_place, seated, still_admitted, moved_up, moved_up_each, moved_up_all, put_behind, seated_or_behind, permits_taken, holding, took_shown, took as holds, timer_asked, let_in, admitted_at, admitted, still_waiting, admitted_each, passed, round_begun, rounds_of, rounds_begun, moved_all}
 use Rattle.mux_conn.specs.Turn.{written_at, written, moved_wait, fresh_wait, wait_shown, moved_each_shown, moved_shown, fresh_each_shown, flushed}
-use Rattle.shared_session.specs.declared.core_state.Core.{Core}
-use Rattle.shared_session.specs.Turn.{Turning, work_of, heard, counted, submitted, left_by, late_by, fired_by, requested, effect, next_turn}
 use Rattle.cancel_laws.proofs.Counts.{count_on, count_started, count_came}
-use Rattle.cancel_laws.proofs.Requests.{admitted_now}
-use Rattle.driver_model.specs.Kind.{is_single}
+use Rattle.cancel_laws.proofs.Requests.{admitted_now, begun_waits}
 use Rattle.driver_model.specs.Hearing.{felt, hears_messages, hears_pushes, is_watching}
 use Rattle.driver_model.specs.declared.hearing.Hearing.{Hearing}
 use Rattle.driver_model.specs.declared.hearing.Hearing.TheVariants as hearing
@@ -64,6 +53,7 @@ use Rattle.resp_value.specs.declared.push_kind.PushKind.TheVariants.{Disconnecti
 -- what an act shows, if it is not the outcome of submission n
 abbrev pub other_act : ℕ → LinkAct → List LinkAct
 other_act n (act.Created e) = act.Created e ∷ []
+other_act n (act.Round m) = act.Round m ∷ []
 other_act n (act.Took m count) = act.Took m count ∷ []
 other_act n (act.Timer m ms) = act.Timer m ms ∷ []
 other_act n (act.RenewalTimer k ms) = act.RenewalTimer k ms ∷ []
@@ -71,6 +61,7 @@ other_act n (act.Push info) = act.Push info ∷ []
 other_act n (act.Message m) = act.Message m ∷ []
 other_act n (act.Monitor v) = act.Monitor v ∷ []
 other_act n act.NeedCreds = act.NeedCreds ∷ []
+other_act n act.NeedRenewals = act.NeedRenewals ∷ []
 other_act n act.Close = act.Close ∷ []
 other_act n (act.Write bytes) = act.Write bytes ∷ []
 other_act n (act.Wait m kind) = act.Wait m kind ∷ []
@@ -96,6 +87,7 @@ pub record IsKept (P : Option ℕ → List Request → Life → List ℕ → Lis
   pub go_on : (lim : Option ℕ) (r : List Request) (l k : LinkState) (greeting : Greeting) (ms : List ℕ) (xs : List LinkAct) → count_on k ≤ count_on l → P lim r (SettingUp l greeting) ms xs → P lim r (SettingUp k greeting) ms xs
   pub repeat : (lim : Option ℕ) (r : List Request) (l k : LinkState) (q : Queued) (greeting next : Greeting) (ms : List ℕ) (xs : List LinkAct) → count_on k + 1 ≤ count_on l → P lim r (SettingUp l greeting) ms xs → P lim r (SettingUp (enqueued k q) next) ms xs
   pub ready : (lim : Option ℕ) (r : List Request) (l k : LinkState) (greeting : Greeting) (ms : List ℕ) (xs : List LinkAct) → count_on k + 1 ≤ count_on l → P lim r (SettingUp l greeting) ms xs → P lim r (Ready k) ms xs
+  pub round : (lim : Option ℕ) (r : List Request) (life : Life) (ms : List ℕ) (xs : List LinkAct) (q : ℕ) → is_unbegun_at r q ≡ true → P lim r life ms xs → P lim (at_progress r q progress.Begun) life ms xs
   pub admit : (lim : Option ℕ) (r : List Request) (life : Life) (ms : List ℕ) (xs : List LinkAct) (q count : ℕ) → is_waiting_at r q ≡ true → P lim r life ms xs → P lim (with_permits r q progress.Admitted count) life ms xs
   pub note : (lim : Option ℕ) (r : List Request) (life : Life) (ms : List ℕ) (xs : List LinkAct) (q : ℕ) → is_admitted_at r q ≡ true → P lim r life ms xs → P lim r life (ms ++ q ∷ []) xs
   pub place : (lim : Option ℕ) (r : List Request) (l : LinkState) (ms : List ℕ) (xs : List LinkAct) (q : Waiting) → is_admitted_at r q.number ≡ true → P lim r (Ready l) ms xs → P lim (at_progress r q.number progress.Placed) (Ready (enqueued l (message_of q))) ms xs
@@ -105,6 +97,7 @@ pub record IsKept (P : Option ℕ → List Request → Life → List ℕ → Lis
   pub write : (lim : Option ℕ) (r : List Request) (l : LinkState) (ms : List ℕ) (xs : List LinkAct) (k : ℕ) → P lim r (Ready l) ms xs → P lim r (Ready (wrote_of l k)) ms xs
   pub come : (lim : Option ℕ) (r : List Request) (l : LinkState) (ms : List ℕ) (xs : List LinkAct) (h : Hearing) (piece : List ℕ) → P lim r (Ready l) ms xs → P lim r (Ready (piece_read h true l piece).link) ms xs
   pub end : (lim : Option ℕ) (r : List Request) (life : Life) (ms : List ℕ) (xs : List LinkAct) (e : RedisError) → P lim r life ms xs → P lim r (Ended e) ms xs
+  pub rest : (lim : Option ℕ) (r : List Request) (life : Life) (ms : List ℕ) (xs : List LinkAct) → P lim r life ms xs → P lim r Resting ms xs
   pub show : (lim : Option ℕ) (r : List Request) (life : Life) (ms : List ℕ) (xs : List LinkAct) (a : LinkAct) → IsPlain a → P lim r life ms xs → P lim r life ms (xs ++ a ∷ [])
   pub calm : (lim : Option ℕ) (r : List Request) (life : Life) (ms : List ℕ) (xs : List LinkAct) → P lim r life ms xs → P lim r life [] xs
 
@@ -119,6 +112,7 @@ pub record IsKeptThere (P : List Request → Life → Type 0) : Type 0 where
   pub go_on : (r : List Request) (l k : LinkState) (greeting : Greeting) → count_on k ≤ count_on l → P r (SettingUp l greeting) → P r (SettingUp k greeting)
   pub repeat : (r : List Request) (l k : LinkState) (q : Queued) (greeting next : Greeting) → count_on k + 1 ≤ count_on l → P r (SettingUp l greeting) → P r (SettingUp (enqueued k q) next)
   pub ready : (r : List Request) (l k : LinkState) (greeting : Greeting) → count_on k + 1 ≤ count_on l → P r (SettingUp l greeting) → P r (Ready k)
+  pub round : (r : List Request) (life : Life) (q : ℕ) → is_unbegun_at r q ≡ true → P r life → P (at_progress r q progress.Begun) life
   pub admit : (r : List Request) (life : Life) (q count : ℕ) → is_waiting_at r q ≡ true → P r life → P (with_permits r q progress.Admitted count) life
   pub place : (r : List Request) (l : LinkState) (q : Waiting) → is_admitted_at r q.number ≡ true → P r (Ready l) → P (at_progress r q.number progress.Placed) (Ready (enqueued l (message_of q)))
   pub start : (r : List Request) (l : LinkState) → P r (Ready l) → P r (Ready (started_all (record { link = l; out = [] })).link)
@@ -127,6 +121,7 @@ pub record IsKeptThere (P : List Request → Life → Type 0) : Type 0 where
   pub write : (r : List Request) (l : LinkState) (k : ℕ) → P r (Ready l) → P r (Ready (wrote_of l k))
   pub come : (r : List Request) (l : LinkState) (h : Hearing) (piece : List ℕ) → P r (Ready l) → P r (Ready (piece_read h true l piece).link)
   pub end : (r : List Request) (life : Life) (e : RedisError) → P r life → P r (Ended e)
+  pub rest : (r : List Request) (life : Life) → P r life → P r Resting
 
 -- a fact of the requests and the life, whatever the limit is, and whatever a turn has moved and shown
 abbrev pub There : (List Request → Life → Type 0) → Option ℕ → List Request → Life → List ℕ → List LinkAct → Type 0
@@ -145,6 +140,7 @@ kept_there k = record {
   go_on = λ lim r l m greeting ms xs few h. k.go_on r l m greeting few h;
   repeat = λ lim r l m q greeting next ms xs few h. k.repeat r l m q greeting next few h;
   ready = λ lim r l m greeting ms xs few h. k.ready r l m greeting few h;
+  round = λ lim r life ms xs q t h. k.round r life q t h;
   admit = λ lim r life ms xs q count t h. k.admit r life q count t h;
   note = λ lim r life ms xs q t h. h;
   place = λ lim r l ms xs q t h. k.place r l q t h;
@@ -154,6 +150,7 @@ kept_there k = record {
   write = λ lim r l ms xs n h. k.write r l n h;
   come = λ lim r l ms xs what piece h. k.come r l what piece h;
   end = λ lim r life ms xs e h. k.end r life e h;
+  rest = λ lim r life ms xs h. k.rest r life h;
   show = λ lim r life ms xs a p h. h;
   calm = λ lim r life ms xs h. h;
 }
@@ -175,6 +172,7 @@ unlimited_kept = record {
   go_on = λ lim r l k greeting ms xs few h. h;
   repeat = λ lim r l k q greeting next ms xs few h. h;
   ready = λ lim r l k greeting ms xs few h. h;
+  round = λ lim r life ms xs q t h. h;
   admit = λ lim r life ms xs q count t h. h;
   note = λ lim r life ms xs q t h. h;
   place = λ lim r l ms xs q t h. h;
@@ -184,6 +182,7 @@ unlimited_kept = record {
   write = λ lim r l ms xs n h. h;
   come = λ lim r l ms xs what piece h. h;
   end = λ lim r life ms xs e h. h;
+  rest = λ lim r life ms xs h. h;
   show = λ lim r life ms xs a p h. h;
   calm = λ lim r life ms xs h. h;
 }
@@ -268,9 +267,20 @@ faulted_kept k w out h =
     let d = parted (cut_short w) in
     waiting_kept k (settled_each d out) error.Closed (settled_kept k d out (parted_kept k (cut_short w) (over_kept k w error.Closed act.Close (λ n. refl) h)))
 
--- the end of an opening
+-- what is shown unless it was before
+pub creation_kept : {P : Option ℕ → List Request → Life → List ℕ → List LinkAct → Type 0} → IsKept P → (w : Work) (e : Option RedisError) → At P w → At P (creation_told w e)
+creation_kept {P = P} k w e h =
+    chosen (λ (xs : List LinkAct). P w.conn.limit w.conn.requests w.conn.life w.conn.moved xs) w.conn.told w.acts (w.acts ++ act.Created e ∷ [])
+    (λ t. h)
+    (λ f. k.show w.conn.limit w.conn.requests w.conn.life w.conn.moved w.acts (act.Created e) (λ n. refl) h)
+
+-- the end of an opening, after which another attempt may follow
 opening_kept : {P : Option ℕ → List Request → Life → List ℕ → List LinkAct → Type 0} → IsKept P → (w : Work) (e : RedisError) → At P w → At P (opening_failed w e)
-opening_kept k w e h = waiting_kept k (acted (at_life w (Ended e)) (act.Created (Some e))) e (over_kept k w e (act.Created (Some e)) (λ n. refl) h)
+opening_kept {P = P} k w e h =
+    let over : At P (at_life w (Ended e)) = k.end w.conn.limit w.conn.requests w.conn.life w.conn.moved w.acts e h in
+    chosen (At P) w.conn.last (given_up w e) (record w { conn = afresh w.conn })
+    (λ t. waiting_kept k (creation_told (at_life w (Ended e)) (Some e)) e (creation_kept k (at_life w (Ended e)) (Some e) over))
+    (λ f. k.calm w.conn.limit w.conn.requests Resting w.conn.moved w.acts (k.rest w.conn.limit w.conn.requests w.conn.life w.conn.moved w.acts h))
 
 -- the end of one whose link is closed
 given_up_kept : {P : Option ℕ → List Request → Life → List ℕ → List LinkAct → Type 0} → IsKept P → (w : Work) (e : RedisError) → At P w → At P (opening_failed (acted w act.Close) e)
@@ -281,9 +291,9 @@ given_up_kept k w e h = opening_kept k (acted w act.Close) e (k.show w.conn.limi
 -- a link is set up, and a source of new credentials is asked for, where they are to come
 made_ready_kept : {P : Option ℕ → List Request → Life → List ℕ → List LinkAct → Type 0} → IsKept P → (w : Work) (l : LinkState) → P w.conn.limit w.conn.requests (Ready l) w.conn.moved w.acts → At P (made_ready w l)
 made_ready_kept {P = P} k w l g =
-    let d = acted (with_link (all_fresh w) l) (act.Created None) in
-    let h : At P d = k.show w.conn.limit w.conn.requests (Ready l) w.conn.moved w.acts (act.Created None) (λ n. refl) g in
-    chosen (At P) w.conn.renewal.wanted (acted d act.NeedCreds) d (λ t. k.show d.conn.limit d.conn.requests d.conn.life d.conn.moved d.acts act.NeedCreds (λ n. refl) h) (λ f. h)
+    let d = creation_told (opened_on (all_fresh w) l) None in
+    let h : At P d = creation_kept k (opened_on (all_fresh w) l) None g in
+    chosen (At P) w.conn.renewal.wanted (acted d act.NeedRenewals) d (λ t. k.show d.conn.limit d.conn.requests d.conn.life d.conn.moved d.acts act.NeedRenewals (λ n. refl) h) (λ f. h)
 
 -- a link comes up, where the fact is true of it while it waits for credentials
 come_up_kept : {P : Option ℕ → List Request → Life → List ℕ → List LinkAct → Type 0} → IsKept P → (w : Work) (l : LinkState) → P w.conn.limit w.conn.requests (Wanting l) w.conn.moved w.acts → At P (come_up w l)
@@ -304,6 +314,7 @@ connected_kept {P = P} k w Dialing g h =
     chosen (At P) w.conn.renewal.wanted (comes_to_want w link) (come_up w link)
     (λ t. k.show w.conn.limit w.conn.requests (Wanting link) w.conn.moved w.acts act.NeedCreds (λ n. refl) wanting)
     (λ f. come_up_kept k w link wanting)
+connected_kept k w Resting g h = h
 connected_kept k w (Wanting l) g h = h
 connected_kept k w (SettingUp l greeting) g h = h
 connected_kept k w (Ready l) g h = h
@@ -312,6 +323,7 @@ connected_kept k w (Ended e) g h = h
 -- credentials come
 authorized_kept : {P : Option ℕ → List Request → Life → List ℕ → List LinkAct → Type 0} → IsKept P → (w : Work) (c : Credentials) (life : Life) → P w.conn.limit w.conn.requests life w.conn.moved w.acts → At P w → At P (authorized_at w c life)
 authorized_kept k w c (Wanting l) g h = come_up_kept k (with_credentials w c) l g
+authorized_kept k w c Resting g h = h
 authorized_kept k w c Dialing g h = h
 authorized_kept k w c (SettingUp l greeting) g h = h
 authorized_kept k w c (Ready l) g h = h
@@ -320,6 +332,7 @@ authorized_kept k w c (Ended e) g h = h
 -- or there are none
 unauthorized_kept : {P : Option ℕ → List Request → Life → List ℕ → List LinkAct → Type 0} → IsKept P → (w : Work) (e : RedisError) (life : Life) → At P w → At P (unauthorized_at w e life)
 unauthorized_kept k w e (Wanting l) h = given_up_kept k w e h
+unauthorized_kept k w e Resting h = h
 unauthorized_kept k w e Dialing h = h
 unauthorized_kept k w e (SettingUp l greeting) h = h
 unauthorized_kept k w e (Ready l) h = h
@@ -327,6 +340,7 @@ unauthorized_kept k w e (Ended x) h = h
 
 -- the connect is refused
 refused_kept : {P : Option ℕ → List Request → Life → List ℕ → List LinkAct → Type 0} → IsKept P → (w : Work) (f : FaultKind) (life : Life) → At P w → At P (refused_at w f life)
+refused_kept k w f Resting h = h
 refused_kept k w f Dialing h = opening_kept k w (error.Io f) h
 refused_kept k w f (Wanting l) h = h
 refused_kept k w f (SettingUp l greeting) h = h
@@ -335,6 +349,7 @@ refused_kept k w f (Ended e) h = h
 
 -- the time to connect is over
 overdue_kept : {P : Option ℕ → List Request → Life → List ℕ → List LinkAct → Type 0} → IsKept P → (w : Work) (life : Life) → At P w → At P (overdue_at w life)
+overdue_kept k w Resting h = h
 overdue_kept k w Dialing h = given_up_kept k w (error.Io kinds.TimedOut) h
 overdue_kept k w (Wanting l) h = given_up_kept k w (error.Io kinds.TimedOut) h
 overdue_kept k w (SettingUp l greeting) h = given_up_kept k w (error.Io kinds.TimedOut) h
@@ -344,6 +359,7 @@ overdue_kept k w (Ended e) h = h
 -- bytes were taken
 taken_kept : {P : Option ℕ → List Request → Life → List ℕ → List LinkAct → Type 0} → IsKept P → (w : Work) (count : ℕ) (life : Life) → P w.conn.limit w.conn.requests life w.conn.moved w.acts → At P w → At P (taken_at w count life)
 taken_kept k w count (Ready l) g h = k.write w.conn.limit w.conn.requests l w.conn.moved w.acts count g
+taken_kept k w count Resting g h = h
 taken_kept k w count Dialing g h = h
 taken_kept k w count (Wanting l) g h = k.wait_on w.conn.limit w.conn.requests l (wrote_of l count) w.conn.moved w.acts (omega arith) g
 taken_kept k w count (SettingUp l greeting) g h = k.go_on w.conn.limit w.conn.requests l (wrote_of l count) greeting w.conn.moved w.acts (omega arith) g
@@ -352,6 +368,7 @@ taken_kept k w count (Ended e) g h = h
 -- a fault
 failed_kept : {P : Option ℕ → List Request → Life → List ℕ → List LinkAct → Type 0} → IsKept P → (w : Work) (f : LinkFault) (life : Life) → At P w → At P (failed_at w f life)
 failed_kept k w f (Ready l) h = faulted_kept k w (faulted (record { link = l; out = [] }) (felt w.conn.hears f)).out h
+failed_kept k w f Resting h = h
 failed_kept k w f Dialing h = h
 failed_kept k w f (Wanting l) h = given_up_kept k w error.Closed h
 failed_kept k w f (SettingUp l greeting) h = given_up_kept k w (greeting_error greeting l.row f) h
@@ -360,6 +377,7 @@ failed_kept k w f (Ended e) h = h
 -- the stream of messages is dropped
 dropped_at_kept : {P : Option ℕ → List Request → Life → List ℕ → List LinkAct → Type 0} → IsKept P → (w : Work) (life : Life) → At P w → At P (dropped_at w life)
 dropped_at_kept k w (Ready l) h = faulted_kept k w (faulted (record { link = l; out = [] }) fault.Ended).out h
+dropped_at_kept k w Resting h = h
 dropped_at_kept k w Dialing h = given_up_kept k w error.Closed h
 dropped_at_kept k w (Wanting l) h = given_up_kept k w error.Closed h
 dropped_at_kept k w (SettingUp l greeting) h = given_up_kept k w error.Closed h
@@ -407,6 +425,7 @@ answered_setup_kept k w l m greeting ps (s ∷ ss) few g h =
 -- bytes come
 came_kept : {P : Option ℕ → List Request → Life → List ℕ → List LinkAct → Type 0} → IsKept P → (w : Work) (piece : List ℕ) (life : Life) → P w.conn.limit w.conn.requests life w.conn.moved w.acts → At P w → At P (read_at w piece life)
 came_kept k w piece (Ready l) g h = read_kept k w (piece_read w.conn.hears true l piece) (k.come w.conn.limit w.conn.requests l w.conn.moved w.acts w.conn.hears piece g)
+came_kept k w piece Resting g h = h
 came_kept k w piece Dialing g h = h
 came_kept k w piece (Wanting l) g h =
     let r = piece_read hearing.Nothing false l piece in
@@ -420,6 +439,7 @@ came_kept k w piece (Ended e) g h = h
 -- the shutdown
 shut_kept : {P : Option ℕ → List Request → Life → List ℕ → List LinkAct → Type 0} → IsKept P → (w : Work) (life : Life) → At P w → At P (shut_at w life)
 shut_kept k w (Ready l) h = ended_kept k w (closed_all (record { link = l; out = [] })).out h
+shut_kept k w Resting h = waiting_kept k w error.Closed h
 shut_kept k w Dialing h = ended_kept k w [] h
 shut_kept k w (Wanting l) h = ended_kept k w [] h
 shut_kept k w (SettingUp l greeting) h = ended_kept k w [] h
@@ -435,7 +455,7 @@ late_for_kept : {P : Option ℕ → List Request → Life → List ℕ → List 
 late_for_kept {P = P} k w n h = chosen (λ (x : MultiplexedConnection). At P (record w { conn = x })) (is_unanswered w.conn.renewal n) _ w.conn (λ t. h) (λ f. h)
 
 -- all news
-applied_kept : {P : Option ℕ → List Request → Life → List ℕ → List LinkAct → Type 0} → IsKept P → (w : Work) (what : News) → At P w → At P (applied w what)
+pub applied_kept : {P : Option ℕ → List Request → Life → List ℕ → List LinkAct → Type 0} → IsKept P → (w : Work) (what : News) → At P w → At P (applied w what)
 applied_kept k w silence h = h
 applied_kept k w connected h = connected_kept k w w.conn.life h h
 applied_kept k w (refused f) h = refused_kept k w f w.conn.life h
@@ -449,6 +469,7 @@ applied_kept k w deserted h = unauthorized_kept k w (error.AuthFailed []) w.conn
 applied_kept k w (renewed c) h = expecting_kept k w c h
 applied_kept k w unrenewed h = h
 applied_kept k w (late n) h = late_for_kept k w n h
+applied_kept k w unrepeated h = h
 applied_kept k w dropped h = dropped_kept k w h
 applied_kept k w shut h = shut_kept k w w.conn.life h
 
@@ -483,6 +504,7 @@ started_at_kept k w (Wanting l) g h = h
 started_at_kept k w (SettingUp l greeting) g h =
     let s = started_all (record { link = l; out = [] }) in
     greeted_each_kept k (with_setup w s.link greeting) greeting s.out (k.go_on w.conn.limit w.conn.requests l s.link greeting w.conn.moved w.acts (count_started l) g)
+started_at_kept k w Resting g h = h
 started_at_kept k w Dialing g h = h
 started_at_kept k w (Ended e) g h = h
 
@@ -499,6 +521,7 @@ renewal_moved_kept {P = P} k w (Ready l) (c ∷ cs) g h =
     chosen (At P) (holds_back l) w (renewal_told w l c cs) (λ t. h)
     (λ f. k.show w.conn.limit w.conn.requests (Ready (begun l q)) w.conn.moved w.acts (renewal_act (start_of l.started q)) (λ n. refl) (k.renew w.conn.limit w.conn.requests l w.conn.moved w.acts q refl g))
 renewal_moved_kept k w (Ready l) [] g h = h
+renewal_moved_kept k w Resting cs g h = h
 renewal_moved_kept k w Dialing cs g h = h
 renewal_moved_kept k w (Wanting l) cs g h = h
 renewal_moved_kept k w (SettingUp l greeting) cs g h = h
@@ -535,6 +558,7 @@ seated_at_kept k w q (Ready l) t g h =
     let r = w.conn.requests in
     let ms = w.conn.moved in
     started_kept k (told_at_place d q) (told_kept k d q (k.place lim r l (ms ++ q.number ∷ []) w.acts q t (k.note lim r (Ready l) ms w.acts q.number t g)))
+seated_at_kept k w q Resting t g h = started_kept k (told_at_place w q) (told_kept k w q h)
 seated_at_kept k w q Dialing t g h = started_kept k (told_at_place w q) (told_kept k w q h)
 seated_at_kept k w q (Wanting l) t g h = started_kept k (told_at_place w q) (told_kept k w q h)
 seated_at_kept k w q (SettingUp l greeting) t g h = started_kept k (told_at_place w q) (told_kept k w q h)
@@ -561,6 +585,33 @@ moved_up_all_kept k w h = moved_up_each_kept k (still_admitted w []) w.conn.admi
 seated_or_behind_kept : {P : Option ℕ → List Request → Life → List ℕ → List LinkAct → Type 0} → IsKept P → (w : Work) (q : Waiting) → is_admitted_at w.conn.requests q.number ≡ true → At P w → At P (seated_or_behind w q)
 seated_or_behind_kept {P = P} k w q t h =
     chosen (At P) (has_room w.conn) (seated w q) (put_behind w q) (λ u. seated_kept k w q t h) (λ f. k.note w.conn.limit w.conn.requests w.conn.life w.conn.moved w.acts q.number t h)
+
+-- rounds
+--
+-- one begins
+pub round_kept : {P : Option ℕ → List Request → Life → List ℕ → List LinkAct → Type 0} → IsKept P → (w : Work) (q : ℕ) → At P w → At P (round_begun w q)
+round_kept {P = P} k w q h =
+    let c = w.conn in
+    let d = progressed w q progress.Begun in
+    let a = act.Round (name_at c.requests q) in
+    chosen (At P) (c.rounds && is_unbegun_at c.requests q) (acted d a) w
+    (λ t. k.show c.limit d.conn.requests c.life c.moved w.acts a (λ n. refl) (k.round c.limit c.requests c.life c.moved w.acts q (both_right c.rounds (is_unbegun_at c.requests q) t) h))
+    (λ f. h)
+
+-- who waits waits on then
+pub round_waits : (w : Work) (q : ℕ) → is_waiting_at w.conn.requests q ≡ true → is_waiting_at (round_begun w q).conn.requests q ≡ true
+round_waits w q t =
+    chosen (λ (x : Work). is_waiting_at x.conn.requests q ≡ true) (w.conn.rounds && is_unbegun_at w.conn.requests q) (acted (progressed w q progress.Begun) (act.Round (name_at w.conn.requests q))) w
+    (λ u. begun_waits w.conn.requests q (permits_at w.conn.requests q) t) (λ f. t)
+
+-- more of them begin
+rounds_of_kept : {P : Option ℕ → List Request → Life → List ℕ → List LinkAct → Type 0} → IsKept P → (w : Work) (qs : List ℕ) → At P w → At P (rounds_of w qs)
+rounds_of_kept k w [] h = h
+rounds_of_kept k w (q ∷ qs) h = rounds_of_kept k (round_begun w q) qs (round_kept k w q h)
+
+-- and those of all that go on waiting
+rounds_kept : {P : Option ℕ → List Request → Life → List ℕ → List LinkAct → Type 0} → IsKept P → (w : Work) → At P w → At P (rounds_begun w)
+rounds_kept {P = P} k w h = chosen (At P) (w.conn.rounds && is_ready w.conn.life) (rounds_of w w.conn.fresh) w (λ t. rounds_of_kept k w w.conn.fresh h) (λ f. h)
 
 -- permits
 --
@@ -606,8 +657,11 @@ let_in_kept k w q t h =
 -- a request that waits for the connection, or for a permit, is moved
 admitted_at_kept : {P : Option ℕ → List Request → Life → List ℕ → List LinkAct → Type 0} → IsKept P → (w : Work) (q : Waiting) (life : Life) → is_waiting_at w.conn.requests q.number ≡ true → At P w → At P (admitted_at w q life)
 admitted_at_kept k w q (Ready l) t h =
-    seated_or_behind_kept k (let_in w q) q (let_in_admitted w q t) (let_in_kept k w q t h)
+    let v = round_begun w q.number in
+    let u = round_waits w q.number t in
+    seated_or_behind_kept k (let_in v q) q (let_in_admitted v q u) (let_in_kept k v q u (round_kept k w q.number h))
 admitted_at_kept k w q (Ended e) t h = answered_kept k w q.number (outcome.Fault e) h
+admitted_at_kept k w q Resting t h = h
 admitted_at_kept k w q Dialing t h = h
 admitted_at_kept k w q (Wanting l) t h = h
 admitted_at_kept k w q (SettingUp l greeting) t h = h
@@ -623,11 +677,15 @@ admitted_each_kept k w [] h = h
 admitted_each_kept {P = P} k w (q ∷ qs) h = chosen (At P) (admits_none w.conn) _ _ (λ t. h) (λ f. admitted_each_kept k (admitted w q) qs (admitted_kept k w q h))
 
 -- what a turn moves
-pub passed_kept : {P : Option ℕ → List Request → Life → List ℕ → List LinkAct → Type 0} → IsKept P → (w : Work) → At P w → At P (passed w)
-passed_kept k w h =
+pub moved_all_kept : {P : Option ℕ → List Request → Life → List ℕ → List LinkAct → Type 0} → IsKept P → (w : Work) → At P w → At P (moved_all w)
+moved_all_kept k w h =
     let v = renewals.renewed w in
     let d = moved_up_all (started v) in
     admitted_each_kept k (still_waiting d []) d.conn.waiting (moved_up_all_kept k (started v) (started_kept k v (renewed_kept k w h)))
+
+-- and the rounds that begin behind that
+pub passed_kept : {P : Option ℕ → List Request → Life → List ℕ → List LinkAct → Type 0} → IsKept P → (w : Work) → At P w → At P (passed w)
+passed_kept k w h = rounds_kept k (moved_all w) (moved_all_kept k w h)
 
 -- what a turn ends with
 --
@@ -641,6 +699,7 @@ written_at_kept {P = P} k w (SettingUp l greeting) g h =
     chosen (At P) (can_offer l.outbox) _ w
     (λ t. k.show w.conn.limit w.conn.requests (SettingUp (offered_of l) greeting) w.conn.moved w.acts (act.Write l.outbox.unwritten) (λ n. refl) (k.go_on w.conn.limit w.conn.requests l (offered_of l) greeting w.conn.moved w.acts (omega arith) g))
     (λ f. h)
+written_at_kept k w Resting g h = h
 written_at_kept k w Dialing g h = h
 written_at_kept k w (Wanting l) g h = h
 written_at_kept k w (Ended e) g h = h
@@ -673,90 +732,3 @@ pub flushed_kept : {P : Option ℕ → List Request → Life → List ℕ → Li
 flushed_kept k w h =
     let d = moved_shown (written w) in
     fresh_each_shown_kept k (record d { conn = record d.conn { fresh = [] } }) d.conn.fresh (moved_shown_kept k (written w) (written_kept k w h))
-
--- whole turns
---
--- a fact that the next submission, of that number, keeps too
-pub record CanAsk (P : Option ℕ → List Request → Life → List ℕ → List LinkAct → Type 0) (m : ℕ) : Type 0 where
-  pub ask : (lim : Option ℕ) (r : List Request) (life : Life) (ms : List ℕ) (xs : List LinkAct) → P lim r life ms xs → P lim (r ++ record { name = m; progress = progress.Waiting; permits = 0 } ∷ []) life ms xs
-  pub refuse : (lim : Option ℕ) (r : List Request) (life : Life) (ms : List ℕ) (xs : List LinkAct) (o : Outcome) → P lim r life ms xs → P lim r life ms (xs ++ act.Outcome m o ∷ [])
-
--- the connection hears its link's news
-pub heard_kept : {P : Option ℕ → List Request → Life → List ℕ → List LinkAct → Type 0} → IsKept P → (t : Turning) (kind : EventKind) → At P (work_of t) → At P (work_of (heard t kind))
-heard_kept k t kind h = applied_kept k (work_of t) (news_of t.core.timers t.core.sources t.core.single.link kind) h
-
--- a request is left
-left_kept : {P : Option ℕ → List Request → Life → List ℕ → List LinkAct → Type 0} → IsKept P → (c : MultiplexedConnection) (xs : List LinkAct) (q : ℕ) → P c.limit c.requests c.life c.moved xs → P (left c q).limit (left c q).requests (left c q).life (left c q).moved xs
-left_kept {P = P} k c xs q h = chosen (λ (x : MultiplexedConnection). P x.limit x.requests x.life x.moved xs) (is_open_at c.requests q) _ c (λ t. k.cancel c.limit c.requests c.life c.moved xs q t h) (λ f. h)
-
--- a submission is left
-pub left_by_kept : {P : Option ℕ → List Request → Life → List ℕ → List LinkAct → Type 0} → IsKept P → (t : Turning) (who : Option (Option Pending)) → At P (work_of t) → At P (work_of (left_by t who))
-left_by_kept k t None h = h
-left_by_kept k t (Some None) h = h
-left_by_kept k t (Some (Some p)) h = left_kept k t.core.single.connection t.acts p.number h
-
--- the time of a request is over
-timed_out_kept : {P : Option ℕ → List Request → Life → List ℕ → List LinkAct → Type 0} → IsKept P → (w : Work) (q : ℕ) → At P w → At P (timed_out w q)
-timed_out_kept {P = P} k w q h =
-    let d = at_life w (cancelled_in w.conn.life q) in
-    answered_kept k (if is_open_at w.conn.requests q then d else w) q (outcome.Fault (error.Io kinds.TimedOut))
-    (chosen (At P) (is_open_at w.conn.requests q) d w (λ t. k.hush w.conn.limit w.conn.requests w.conn.life w.conn.moved w.acts q h) (λ f. h))
-
--- and that of a submission
-late_kept : {P : Option ℕ → List Request → Life → List ℕ → List LinkAct → Type 0} → IsKept P → (t : Turning) (who : Option (Option Pending)) → At P (work_of t) → At P (work_of (late_by t who))
-late_kept k t None h = h
-late_kept k t (Some None) h = h
-late_kept k t (Some (Some p)) h = timed_out_kept k (work_of t) p.number h
-
--- a timer fires
-pub fired_kept : {P : Option ℕ → List Request → Life → List ℕ → List LinkAct → Type 0} → IsKept P → (t : Turning) (what : Option Purpose) → At P (work_of t) → At P (work_of (fired_by t what))
-fired_kept k t None h = h
-fired_kept k t (Some (purpose.Connect l)) h = h
-fired_kept k t (Some (purpose.Response owner.Setup)) h = h
-fired_kept k t (Some (purpose.Response owner.Auth)) h = h
-fired_kept k t (Some (purpose.Response owner.Monitor)) h = h
-fired_kept k t (Some (purpose.Renewal l number)) h = h
-fired_kept k t (Some (purpose.Response (owner.Try n round))) h = late_kept k t (slice_get t.core.table n) h
-
--- a submission is handed in
-submitted_kept : {P : Option ℕ → List Request → Life → List ℕ → List LinkAct → Type 0} → (t : Turning) → CanAsk P (length t.core.table) → (s : Submission) → At P (work_of t) → At P (work_of (submitted t s))
-submitted_kept {P = P} t k s h =
-    let c = t.core.single.connection in
-    chosen (λ (x : Turning). At P (work_of x)) t.core.shut _ _ (λ u. k.refuse c.limit c.requests c.life c.moved t.acts (outcome.Fault error.Closed) h)
-    (λ f. chosen (λ (x : Turning). At P (work_of x)) (lacks_resp3 c.hears c.info.protocol s) _ _ (λ u. k.refuse c.limit c.requests c.life c.moved t.acts (outcome.Fault error.Resp3Required) h)
-    (λ d. chosen (λ (x : Turning). At P (work_of x)) (length (packed_bytes s) == 0) _ _ (λ u. k.refuse c.limit c.requests c.life c.moved t.acts (outcome.Fault error.EmptyCommand) h) (λ g. k.ask c.limit c.requests c.life c.moved t.acts h)))
-
--- what an event is to the submissions
-requested_kept : {P : Option ℕ → List Request → Life → List ℕ → List LinkAct → Type 0} → IsKept P → (t : Turning) → CanAsk P (length t.core.table) → (kind : EventKind) → At P (work_of t) → At P (work_of (requested t kind))
-requested_kept k t a (event.Submit s) h = submitted_kept t a s h
-requested_kept k t a (event.Cancel n) h = left_by_kept k t (slice_get t.core.table n) h
-requested_kept k t a (event.Connected l) h = h
-requested_kept k t a (event.Refused l f) h = h
-requested_kept k t a (event.Fired n) h = fired_kept k t (slice_get t.core.timers n) h
-requested_kept {P = P} k t a (event.Timeout ms) h =
-    chosen (λ (c : Core). P c.single.connection.limit c.single.connection.requests c.single.connection.life c.single.connection.moved t.acts) (is_single t.core.kind) (record t.core { timeout = ms }) t.core (λ y. h) (λ y. h)
-requested_kept k t a (event.Creds c auth) h = h
-requested_kept k t a (event.CredsError c text) h = h
-requested_kept k t a (event.CredsEnd c) h = h
-requested_kept k t a (event.Wrote l count) h = h
-requested_kept k t a (event.Bytes l piece) h = h
-requested_kept k t a (event.Ended l) h = h
-requested_kept k t a (event.ReadFault l kind) h = h
-requested_kept k t a (event.WriteFault l kind) h = h
-requested_kept k t a event.Shutdown h = h
-requested_kept k t a event.DropStream h = h
-
--- the event's own effect
-pub effect_kept : {P : Option ℕ → List Request → Life → List ℕ → List LinkAct → Type 0} → IsKept P → (t : Turning) → CanAsk P (length t.core.table) → (kind : EventKind) → At P (work_of t) → At P (work_of (effect t kind))
-effect_kept k t a kind h = requested_kept k (heard t kind) a kind (heard_kept k t kind h)
-
--- the fact between turns
-abbrev pub AtCore : (Option ℕ → List Request → Life → List ℕ → List LinkAct → Type 0) → Core → Type 0
-AtCore P c = P c.single.connection.limit c.single.connection.requests c.single.connection.life c.single.connection.moved []
-
--- a whole turn
-pub turn_kept : {P : Option ℕ → List Request → Life → List ℕ → List LinkAct → Type 0} → IsKept P → (c : Core) → CanAsk P (length c.table) → (kind : EventKind) → AtCore P c → At P (work_of (next_turn c kind))
-unfolding next_turn
-turn_kept k c a kind h =
-    let w = work_of (effect (counted c) kind) in
-    flushed_kept k (passed w) (passed_kept k w (effect_kept k (counted c) a kind h))

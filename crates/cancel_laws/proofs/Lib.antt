@@ -4,6 +4,7 @@ pub mod Requests
 pub mod Names
 pub mod Links
 pub mod Kept
+pub mod KeptTurns
 pub mod Gone
 pub mod Values
 pub mod Bare
@@ -11,6 +12,7 @@ pub mod Moved
 pub mod Once
 pub mod Silent
 pub mod Rest
+pub mod Whole
 pub mod Turns
 pub mod Ready
 pub mod Shown

@@ -1,7 +1,7 @@
 -- A connection moves its requests, and tells new credentials, the same where one request's outcome is looked away from, once its
 -- message has left the queue.
 use Rattle.std.proofs.Common.{◌≡◌, ◌≢◌, ℕ, ◌-◌, ◌<◌, ◌==◌, ◌&&◌, Bool, true, false, List, [], ◌∷◌, ◌++◌, length, if◌then◌else◌, refl, sym, ap, ◌∙◌, Option, Some, None, arith}
-use Rattle.containers.proofs.Choices.{by_test, chosen, either, either_by, left_if, eq_from, ne_from}
+use Rattle.containers.proofs.Choices.{by_test, chosen, either, either_by, left_if, eq_from, ne_from, both_right}
 use Rattle.redis_error.specs.declared.fault_kind.FaultKind.TheVariants as kinds
 use Rattle.redis_error.specs.declared.redis_error.RedisError.TheVariants as error
 use Rattle.credentials.specs.Credentials.{Credentials}
@@ -17,22 +17,22 @@ use Rattle.link_laws.proofs.Cancels.{start_alike}
 use Rattle.mux_conn.specs.declared.act.LinkAct.TheVariants as act
 use Rattle.mux_conn.specs.declared.connection.MultiplexedConnection.{MultiplexedConnection}
 use Rattle.mux_conn.specs.declared.life.Life.{Life}
-use Rattle.mux_conn.specs.declared.life.Life.TheVariants.{Dialing, Wanting, SettingUp, Ready, Ended}
+use Rattle.mux_conn.specs.declared.life.Life.TheVariants.{Resting, Dialing, Wanting, SettingUp, Ready, Ended}
 use Rattle.mux_conn.specs.declared.request.Progress.TheVariants as progress
 use Rattle.mux_conn.specs.declared.request.Request.{Request}
 use Rattle.mux_conn.specs.declared.request.Waiting.{Waiting}
 use Rattle.mux_conn.specs.Connection.{Work, acted, at_life, with_link, with_setup, has_no_permit, admits_none_at, admits_none, has_room, has_room_at, in_front, is_due, is_ready, first_queued}
-use Rattle.mux_conn.specs.Requests.{is_waiting, is_admitted, is_placed, is_open_at, is_waiting_at, is_admitted_at, is_placed_at, name_at, permits_at, with_permits, given_back, closed, answered, waiting_of, asked}
+use Rattle.mux_conn.specs.Requests.{is_waiting, is_admitted, is_placed, is_open_at, is_waiting_at, is_admitted_at, is_placed_at, name_at, permits_at, with_permits, given_back, closed, answered, waiting_of, asked, is_unbegun, is_unbegun_at, progressed}
 use Rattle.mux_conn.specs.Effects.{cancelled_in, left, timed_out}
 use Rattle.mux_conn.specs.Renewals as renewals
 use Rattle.mux_conn.specs.Renewals.{renewing, renewal_id, renewal_queued, asked_next, told_next, renewal_act, renewal_timed, renewal_asked, renewal_told, renewal_moved}
-use Rattle.mux_conn.specs.Passes.{shown_each, starts_with, started_at, started, message_of, placed_at, told_at_place, seated, still_admitted, moved_up, moved_up_each, moved_up_all, put_behind, seated_or_behind, permits_taken, holding, took_shown, took as holds, timer_asked, let_in, admitted_at, admitted, still_waiting, admitted_each, admitted_all, passed}
+use Rattle.mux_conn.specs.Passes.{shown_each, starts_with, started_at, started, message_of, placed_at, told_at_place, seated, still_admitted, moved_up, moved_up_each, moved_up_all, put_behind, seated_or_behind, permits_taken, holding, took_shown, took as holds, timer_asked, let_in, admitted_at, admitted, still_waiting, admitted_each, admitted_all, passed, round_begun, rounds_of, rounds_begun, moved_all}
 use Rattle.mux_conn.specs.Turn.{written_at, written, is_from, moved_wait, early_wait, fresh_wait, wait_shown, moved_each_shown, moved_shown, fresh_each_shown, fresh_shown, waits_shown, flushed}
 use Rattle.cancel_laws.specs.ButFor.{hushed_link, hushed_life}
-use Rattle.cancel_laws.proofs.Requests.{names, name_stays, progress_apart, progress_push, progress_count, permits_other, permits_push, goes_apart, own_closed, test_other, same_test, other_test}
+use Rattle.cancel_laws.proofs.Requests.{names, name_stays, progress_apart, progress_push, progress_count, permits_other, permits_push, goes_apart, own_closed, test_other, same_test, other_test, unbegun_waits, unbegun_not}
 use Rattle.cancel_laws.proofs.Names.{IsOwn}
 use Rattle.cancel_laws.proofs.Links.{alike_hushed, none_leaves, hushed_begun, hushed_started, hushed_cancelled, own_cancelled}
-use Rattle.cancel_laws.proofs.Kept.{At, There, renewed_kept, started_kept, told_kept, moved_up_kept, moved_up_all_kept, let_in_admitted, let_in_kept, admitted_kept, unlimited_kept, written_kept, wait_kept, moved_shown_kept}
+use Rattle.cancel_laws.proofs.Kept.{At, There, renewed_kept, started_kept, told_kept, moved_up_kept, moved_up_all_kept, let_in_admitted, let_in_kept, admitted_kept, unlimited_kept, written_kept, wait_kept, moved_shown_kept, round_kept, round_waits, moved_all_kept}
 use Rattle.cancel_laws.proofs.Gone.{NoneQueued, NoneIs, IsGone, gone_kept, IsAway, away_kept}
 use Rattle.cancel_laws.proofs.Bare.{bare_conn, bare, bare_acted, open_same, closed_stays, closed_twice, closed_apart, answered_own, answered_other, bare_answered, ready_same}
 
@@ -50,6 +50,7 @@ bare_asked p c name packed shape awaited timeout l =
 
 -- the cancel of request p itself
 own_life : (p : ℕ) (life : Life) → NoneQueued p life → hushed_life p (cancelled_in life p) ≡ hushed_life p life
+own_life p Resting h = refl
 own_life p Dialing h = refl
 own_life p (Wanting l) h = refl
 own_life p (SettingUp l greeting) h = refl
@@ -70,6 +71,7 @@ own_left p c none =
 
 -- the cancel of another request, on the link
 other_life : (p q : ℕ) (life : Life) → hushed_life p (cancelled_in life q) ≡ cancelled_in (hushed_life p life) q
+other_life p q Resting = refl
 other_life p q Dialing = refl
 other_life p q (Wanting l) = refl
 other_life p q (SettingUp l greeting) = refl
@@ -152,6 +154,7 @@ bare_started_at n p w (Ready l) none =
     let link = hushed_started p l none in
     let out = (start_alike p l (hushed_link p l) [] (alike_hushed p l)).out in
     bare_shown n p (with_link w s.link) s.out ∙ (λ i. starts_with (bare n p w) (record { link = link i; out = out i }))
+bare_started_at n p w Resting none = refl
 bare_started_at n p w Dialing none = refl
 bare_started_at n p w (Wanting l) none = absurd none
 bare_started_at n p w (SettingUp l greeting) none = absurd none
@@ -172,6 +175,7 @@ bare_renewal_moved n p w (Ready l) (c ∷ cs) apart =
     either (bare n p) (holds_back l) w (renewal_told w l c cs) (bare n p w) (renewal_told (bare n p w) (hushed_link p l) c cs) (λ t. refl)
     (λ f. bare_acted n p d a (λ m. refl) ∙ ap (λ (k : LinkState). acted (with_link (renewing (bare n p w) (told_next w.conn.renewal cs)) k) a) (hushed_begun p l q apart))
 bare_renewal_moved n p w (Ready l) [] apart = refl
+bare_renewal_moved n p w Resting cs apart = refl
 bare_renewal_moved n p w Dialing cs apart = refl
 bare_renewal_moved n p w (Wanting l) cs apart = refl
 bare_renewal_moved n p w (SettingUp l greeting) cs apart = refl
@@ -222,6 +226,7 @@ bare_seated_at n p w q (Ready l) t g h =
     let k : At (There (IsGone n p)) d = (gone_kept n p).place w.conn.limit w.conn.requests l (w.conn.moved ++ q.number ∷ []) w.acts q t g in
     bare_started n p (told_at_place d q) (told_kept (gone_kept n p) d q k) ∙ ap started (bare_told n p d q k)
     ∙ ap (λ (x : Work). started (told_at_place x q)) (bare_placed n p w q l (other_test is_admitted w.conn.requests q.number p t g.seated))
+bare_seated_at n p w q Resting t g h = bare_started n p (told_at_place w q) (told_kept (gone_kept n p) w q h) ∙ ap started (bare_told n p w q h)
 bare_seated_at n p w q Dialing t g h = bare_started n p (told_at_place w q) (told_kept (gone_kept n p) w q h) ∙ ap started (bare_told n p w q h)
 bare_seated_at n p w q (Wanting l) t g h = bare_started n p (told_at_place w q) (told_kept (gone_kept n p) w q h) ∙ ap started (bare_told n p w q h)
 bare_seated_at n p w q (SettingUp l greeting) t g h = bare_started n p (told_at_place w q) (told_kept (gone_kept n p) w q h) ∙ ap started (bare_told n p w q h)
@@ -241,6 +246,7 @@ bare_moved_up n p w q h =
 
 -- whether the queue has room doesn't depend on the row
 room_same : (p count : ℕ) (life : Life) → has_room_at life count ≡ has_room_at (hushed_life p life) count
+room_same p count Resting = refl
 room_same p count Dialing = refl
 room_same p count (Wanting l) = refl
 room_same p count (SettingUp l greeting) = refl
@@ -262,6 +268,36 @@ bare_seated_or_behind n p w q t h =
     either_by (bare n p) (has_room w.conn) (has_room (bare_conn p w.conn)) (seated w q) (put_behind w q) (seated (bare n p w) q) (put_behind (bare n p w) q) (room_same p (in_front w.conn.renewal) w.conn.life)
     (λ u. bare_seated n p w q t h)
     (λ f. refl)
+
+-- rounds
+--
+-- one begins, which is shown by a name, which stays
+bare_round : (n p : ℕ) (w : Work) (q : ℕ) → At (There (IsGone n p)) w → bare n p (round_begun w q) ≡ round_begun (bare n p w) q
+bare_round n p w q h =
+    let r = w.conn.requests in
+    let d = progressed w q progress.Begun in
+    let a = act.Round (name_at r q) in
+    let there = with_permits r p progress.Closed 0 in
+    either_by (bare n p) (w.conn.rounds && is_unbegun_at r q) (w.conn.rounds && is_unbegun_at there q) (acted d a) w (acted (progressed (bare n p w) q progress.Begun) (act.Round (name_at there q))) (bare n p w)
+    (ap (λ (b : Bool). w.conn.rounds && b) (same_test is_unbegun r p q refl (unbegun_not r p h.past)))
+    (λ t.
+    let o = other_test is_waiting r q p (unbegun_waits r q (both_right w.conn.rounds (is_unbegun_at r q) t)) h.past in
+    let goes = goes_apart r q p progress.Begun o in
+    let free = ap (given_back w.conn.limit w.conn.free) (permits_other r q p progress.Begun (permits_at r q) o) in
+    bare_acted n p d a (λ m. refl)
+    ∙ (λ i. acted (record (bare n p w) { conn = record (bare_conn p w.conn) { requests = goes i; free = free i } }) (act.Round (sym (name_stays r p q progress.Closed 0) i))))
+    (λ f. refl)
+
+-- more of them begin
+bare_rounds_of : (n p : ℕ) (w : Work) (qs : List ℕ) → At (There (IsGone n p)) w → bare n p (rounds_of w qs) ≡ rounds_of (bare n p w) qs
+bare_rounds_of n p w [] h = refl
+bare_rounds_of n p w (q ∷ qs) h = bare_rounds_of n p (round_begun w q) qs (round_kept (gone_kept n p) w q h) ∙ ap (λ (x : Work). rounds_of x qs) (bare_round n p w q h)
+
+-- and those of all that go on waiting
+bare_rounds : (n p : ℕ) (w : Work) → At (There (IsGone n p)) w → bare n p (rounds_begun w) ≡ rounds_begun (bare n p w)
+bare_rounds n p w h =
+    either_by (bare n p) (w.conn.rounds && is_ready w.conn.life) (w.conn.rounds && is_ready (hushed_life p w.conn.life)) (rounds_of w w.conn.fresh) w (rounds_of (bare n p w) w.conn.fresh) (bare n p w)
+    (ap (λ (b : Bool). w.conn.rounds && b) (ready_same p w.conn.life)) (λ t. bare_rounds_of n p w w.conn.fresh h) (λ f. refl)
 
 -- permits
 --
@@ -317,9 +353,13 @@ bare_let_in n p w q none o =
 bare_admitted_at : (n p : ℕ) (w : Work) (q : Waiting) (life : Life) → is_waiting_at w.conn.requests q.number ≡ true → w.conn.limit ≡ None → At (There (IsGone n p)) w
     → bare n p (admitted_at w q life) ≡ admitted_at (bare n p w) q (hushed_life p life)
 bare_admitted_at n p w q (Ready l) t none h =
-    bare_seated_or_behind n p (let_in w q) q (let_in_admitted w q t) (let_in_kept (gone_kept n p) w q t h)
-    ∙ ap (λ (x : Work). seated_or_behind x q) (bare_let_in n p w q none (other_test is_waiting w.conn.requests q.number p t h.past))
+    let v = round_begun w q.number in
+    let u = round_waits w q.number t in
+    bare_seated_or_behind n p (let_in v q) q (let_in_admitted v q u) (let_in_kept (gone_kept n p) v q u (round_kept (gone_kept n p) w q.number h))
+    ∙ ap (λ (x : Work). seated_or_behind x q) (bare_let_in n p v q (round_kept unlimited_kept w q.number none) (other_test is_waiting w.conn.requests q.number p t h.past))
+    ∙ ap (λ (x : Work). seated_or_behind (let_in x q) q) (bare_round n p w q.number h)
 bare_admitted_at n p w q (Ended e) t none h = bare_answered n p w q.number (outcome.Fault e) h
+bare_admitted_at n p w q Resting t none h = refl
 bare_admitted_at n p w q Dialing t none h = refl
 bare_admitted_at n p w q (Wanting l) t none h = refl
 bare_admitted_at n p w q (SettingUp l greeting) t none h = refl
@@ -334,6 +374,7 @@ bare_admitted n p w q none h =
 
 -- where permits aren't counted, whether requests can be moved at all depends neither on the row nor on permits
 stuck_same : (p : ℕ) (life : Life) (lim : Option ℕ) (j k : ℕ) → lim ≡ None → admits_none_at life (has_no_permit lim j) ≡ admits_none_at (hushed_life p life) (has_no_permit lim k)
+stuck_same p Resting lim j k none = refl
 stuck_same p Dialing lim j k none = refl
 stuck_same p (Wanting l) lim j k none = refl
 stuck_same p (SettingUp l greeting) lim j k none = refl
@@ -350,8 +391,8 @@ bare_admitted_each n p w (q ∷ qs) none h =
     ∙ ap (λ (x : Work). admitted_each x qs) (bare_admitted n p w q none h))
 
 -- what a turn moves, where permits aren't counted
-pub bare_passed : (n p : ℕ) (w : Work) → w.conn.limit ≡ None → At (There (IsGone n p)) w → bare n p (passed w) ≡ passed (bare n p w)
-bare_passed n p w none h =
+bare_moved_all : (n p : ℕ) (w : Work) → w.conn.limit ≡ None → At (There (IsGone n p)) w → bare n p (moved_all w) ≡ moved_all (bare n p w)
+bare_moved_all n p w none h =
     let v = renewals.renewed w in
     let d = started v in
     let e = moved_up_all d in
@@ -363,6 +404,10 @@ bare_passed n p w none h =
     ∙ ap (λ (x : Work). admitted_all (moved_up_all x)) (bare_started n p v g)
     ∙ ap (λ (x : Work). admitted_all (moved_up_all (started x))) (bare_renewed n p w h)
 
+-- and the rounds that begin behind that
+pub bare_passed : (n p : ℕ) (w : Work) → w.conn.limit ≡ None → At (There (IsGone n p)) w → bare n p (passed w) ≡ passed (bare n p w)
+bare_passed n p w none h = bare_rounds n p (moved_all w) (moved_all_kept (gone_kept n p) w h) ∙ ap rounds_begun (bare_moved_all n p w none h)
+
 -- what a turn ends with
 --
 -- bytes are offered
@@ -372,11 +417,13 @@ bare_written_at n p w (Ready l) =
 bare_written_at n p w (Wanting l) = refl
 bare_written_at n p w (SettingUp l greeting) =
     either (bare n p) (can_offer l.outbox) _ w _ (bare n p w) (λ t. bare_acted n p (with_setup w (offered_of l) greeting) (act.Write l.outbox.unwritten) (λ m. refl)) (λ f. refl)
+bare_written_at n p w Resting = refl
 bare_written_at n p w Dialing = refl
 bare_written_at n p w (Ended e) = refl
 
 -- nor does it what a request waits for that waits for the connection
 early_same : (p : ℕ) (life : Life) → early_wait life ≡ early_wait (hushed_life p life)
+early_same p Resting = refl
 early_same p Dialing = refl
 early_same p (Wanting l) = refl
 early_same p (SettingUp l greeting) = refl
@@ -392,6 +439,7 @@ bare_wait n p w q (Some kind) =
 
 -- nor does who is the first of the queue depend on the row
 first_same : (p : ℕ) (life : Life) → first_queued life ≡ first_queued (hushed_life p life)
+first_same p Resting = refl
 first_same p Dialing = refl
 first_same p (Wanting l) = refl
 first_same p (SettingUp l greeting) = refl

@@ -13,7 +13,7 @@ use Rattle.link_core.specs.Link.{LinkState, Starting, Reading, entry_of, holds_b
 use Rattle.link_core.specs.Row.{silenced}
 use Rattle.link_core.specs.Waiting.{is_wanted, without}
 use Rattle.mux_conn.specs.declared.life.Life.{Life}
-use Rattle.mux_conn.specs.declared.life.Life.TheVariants.{Dialing, Wanting, SettingUp, Ready, Ended}
+use Rattle.mux_conn.specs.declared.life.Life.TheVariants.{Resting, Dialing, Wanting, SettingUp, Ready, Ended}
 use Rattle.mux_conn.specs.declared.request.Progress.{Progress}
 use Rattle.mux_conn.specs.declared.request.Progress.TheVariants as progress
 use Rattle.mux_conn.specs.declared.request.Request.{Request}
@@ -23,7 +23,9 @@ use Rattle.mux_conn.specs.Passes.{message_of}
 use Rattle.mux_conn.specs.Renewals.{renewal_id}
 use Rattle.cancel_laws.proofs.Counts.{count_on, count_push}
 use Rattle.cancel_laws.proofs.Links.{NoneWanted}
-use Rattle.cancel_laws.proofs.Kept.{IsKept, IsKeptThere, There, kept_there, CanAsk}
+use Rattle.cancel_laws.proofs.Kept.{IsKept, IsKeptThere, There, kept_there}
+use Rattle.cancel_laws.proofs.Requests.{unbegun_waits}
+use Rattle.cancel_laws.proofs.KeptTurns.{CanAsk}
 
 -- 1 for that message, and 0 for any other
 abbrev pub one : ℕ → ℕ → ℕ
@@ -45,6 +47,7 @@ places p (q ∷ qs) = one p q.id + places p qs
 
 -- and on a link
 abbrev pub all_of : ℕ → Life → ℕ
+all_of p Resting = 0
 all_of p Dialing = 0
 all_of p (Wanting l) = 0
 all_of p (SettingUp l greeting) = 0
@@ -54,6 +57,7 @@ all_of p (Ended e) = 0
 -- how often it may, by its progress
 abbrev pub share_by : Progress → ℕ
 share_by progress.Waiting = 0
+share_by progress.Begun = 0
 share_by progress.Admitted = 0
 share_by progress.Placed = 1
 share_by progress.Closed = 1
@@ -69,6 +73,7 @@ share r p = share_of (slice_get r p)
 
 -- a link that waits for credentials has no message, and one that is set up has one at most, that of the setup
 abbrev pub HasOne : Life → Type 0
+HasOne Resting = Unit {0}
 HasOne Dialing = Unit {0}
 HasOne (Wanting l) = count_on l ≤ 0
 HasOne (SettingUp l greeting) = count_on l ≤ 1
@@ -85,6 +90,7 @@ pub record IsOnce (p : ℕ) (r : List Request) (life : Life) : Type 0 where
 -- no request may have more than one
 share_most : (x : Progress) → share_by x ≤ 1
 share_most progress.Waiting = omega arith
+share_most progress.Begun = omega arith
 share_most progress.Admitted = omega arith
 share_most progress.Placed = omega arith
 share_most progress.Closed = omega arith
@@ -92,6 +98,7 @@ share_most progress.Closed = omega arith
 -- one that waits for a place may have none
 share_least : (x : Progress) → is_admitted x ≡ true → share_by x ≡ 0
 share_least progress.Waiting e = cc
+share_least progress.Begun e = cc
 share_least progress.Admitted e = refl
 share_least progress.Placed e = cc
 share_least progress.Closed e = cc
@@ -99,6 +106,7 @@ share_least progress.Closed e = cc
 -- nor may one that waits for the connection
 share_first : (x : Progress) → is_waiting x ≡ true → share_by x ≡ 0
 share_first progress.Waiting e = refl
+share_first progress.Begun e = refl
 share_first progress.Admitted e = cc
 share_first progress.Placed e = cc
 share_first progress.Closed e = cc
@@ -112,12 +120,12 @@ share_set (y ∷ r) (suc p) zero x count e = omega arith
 share_set (y ∷ r) (suc p) (suc q) x count e = share_set r p q x count e
 
 -- nor where it has waited for the connection
-share_admit : (r : List Request) (p q count : ℕ) → is_waiting_at r q ≡ true → share r p ≤ share (with_permits r q progress.Admitted count) p
-share_admit [] p q count t = omega arith
-share_admit (y ∷ r) zero zero count t = omega (arith, share_first y.progress t)
-share_admit (y ∷ r) zero (suc q) count t = omega arith
-share_admit (y ∷ r) (suc p) zero count t = omega arith
-share_admit (y ∷ r) (suc p) (suc q) count t = share_admit r p q count t
+share_admit : (r : List Request) (p q : ℕ) (x : Progress) (count : ℕ) → is_waiting_at r q ≡ true → share r p ≤ share (with_permits r q x count) p
+share_admit [] p q x count t = omega arith
+share_admit (y ∷ r) zero zero x count t = omega (arith, share_first y.progress t)
+share_admit (y ∷ r) zero (suc q) x count t = omega arith
+share_admit (y ∷ r) (suc p) zero x count t = omega arith
+share_admit (y ∷ r) (suc p) (suc q) x count t = share_admit r p q x count t
 
 -- one more request takes nothing away
 share_push : (r : List Request) (p : ℕ) (x : Request) → share r p ≤ share (r ++ x ∷ []) p
@@ -181,6 +189,7 @@ starts_same p s (q ∷ qs) =
 
 -- a cancel brings no message
 cancelled_once : (p q : ℕ) (life : Life) → all_of p (cancelled_in life q) ≤ all_of p life
+cancelled_once p q Resting = omega arith
 cancelled_once p q Dialing = omega arith
 cancelled_once p q (Wanting l) = omega arith
 cancelled_once p q (SettingUp l greeting) = omega arith
@@ -189,6 +198,7 @@ cancelled_once p q (Ended e) = omega arith
 
 -- it changes nothing of a setup
 cancelled_alone : (q : ℕ) (life : Life) → HasOne life → HasOne (cancelled_in life q)
+cancelled_alone q Resting h = h
 cancelled_alone q Dialing h = h
 cancelled_alone q (Wanting l) h = h
 cancelled_alone q (SettingUp l greeting) h = h
@@ -227,7 +237,8 @@ once_there p apart = record {
   go_on = λ r l k greeting few h. record { within = omega arith; alone = omega (arith, few, h.alone) };
   repeat = λ r l k q greeting next few h. record { within = omega arith; alone = omega (arith, few, h.alone, count_push k q) };
   ready = λ r l k greeting few h. record { within = omega (arith, few, h.alone, times_count p k.row, places_count p k.queue); alone = tt };
-  admit = λ r life q count t h. record { within = omega (arith, h.within, share_admit r p q count t); alone = h.alone };
+  round = λ r life q t h. record { within = omega (arith, h.within, share_admit r p q progress.Begun (permits_at r q) (unbegun_waits r q t)); alone = h.alone };
+  admit = λ r life q count t h. record { within = omega (arith, h.within, share_admit r p q progress.Admitted count t); alone = h.alone };
   place = λ r l q t h. record { within = omega (arith, placed_once p q.number r (all_of p (Ready l)) t h.within, places_push p l.queue (message_of q)); alone = tt };
   start = λ r l h. record { within = omega (arith, h.within, starts_same p (record { link = l; out = [] }) l.queue); alone = tt };
   renew = λ r l q own h.
@@ -238,6 +249,7 @@ once_there p apart = record {
   come = λ r l what piece h. chosen (λ (x : Reading). IsOnce p r (Ready x.link)) l.broken (nothing_read l) (came_all what true l (l.rest ++ piece)) (λ t. h)
       (λ f. record { within = omega (arith, h.within, times_values p what (dealing_with l.row) (values (l.rest ++ piece))); alone = tt });
   end = λ r life e h. record { within = omega arith; alone = tt };
+  rest = λ r life h. record { within = omega arith; alone = tt };
 }
 
 -- so each part of a turn does

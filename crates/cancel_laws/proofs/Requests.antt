@@ -1,12 +1,12 @@
 -- Requests by their numbers: what a change of progress does, and what it leaves alone.
 use Rattle.std.proofs.Common.{◌≡◌, ◌≢◌, ℕ, zero, suc, ◌<◌, Bool, true, false, List, [], ◌∷◌, ◌++◌, length, Some, slice_get, refl, sym, ap, ◌∙◌, arith, length-set, ◌==◌}
-use Rattle.containers.proofs.Choices.{by_test, eq_from, ne_from}
+use Rattle.containers.proofs.Choices.{by_test, eq_from, ne_from, not_both}
 use Rattle.containers.proofs.Places.{get_set_other}
 use Rattle.link_laws.proofs.Lists.{get_before}
 use Rattle.mux_conn.specs.declared.request.Progress.{Progress}
 use Rattle.mux_conn.specs.declared.request.Progress.TheVariants as progress
 use Rattle.mux_conn.specs.declared.request.Request.{Request}
-use Rattle.mux_conn.specs.Requests.{if_there, is_open, is_waiting, is_admitted, is_open_at, is_waiting_at, is_admitted_at, name_at, permits_or_none, permits_at, with_permits, at_progress}
+use Rattle.mux_conn.specs.Requests.{if_there, is_open, is_waiting, is_admitted, is_open_at, is_waiting_at, is_admitted_at, name_at, permits_or_none, permits_at, with_permits, at_progress, is_unbegun, is_unbegun_at}
 
 -- the names of requests, in order
 abbrev pub names : List Request → List ℕ
@@ -148,6 +148,7 @@ waiting_open r q t = test_open is_waiting still_open r q t
   where
     still_open : (x : Progress) → is_waiting x ≡ true → is_open x ≡ true
     still_open progress.Waiting t = refl
+    still_open progress.Begun t = refl
     still_open progress.Admitted t = refl
     still_open progress.Placed t = cc
     still_open progress.Closed t = cc
@@ -158,6 +159,7 @@ admitted_open r q t = test_open is_admitted still_open r q t
   where
     still_open : (x : Progress) → is_admitted x ≡ true → is_open x ≡ true
     still_open progress.Waiting t = refl
+    still_open progress.Begun t = cc
     still_open progress.Admitted t = refl
     still_open progress.Placed t = cc
     still_open progress.Closed t = cc
@@ -171,3 +173,28 @@ admitted_now (x ∷ r) (suc q) count t = admitted_now r q count t
 -- one that is closed stays closed where another goes on
 pub closed_set : (r : List Request) (q p : ℕ) (now : Progress) (count : ℕ) → is_open_at r q ≡ true → is_open_at r p ≡ false → is_open_at (with_permits r q now count) p ≡ false
 closed_set r q p now count t f = test_other is_open r q p now count (other_test is_open r q p t f) ∙ f
+
+-- rounds
+--
+-- one whose round has not begun waits
+pub unbegun_waits : (r : List Request) (q : ℕ) → is_unbegun_at r q ≡ true → is_waiting_at r q ≡ true
+unbegun_waits [] q t = cc
+unbegun_waits (x ∷ r) zero t = waits x.progress t
+  where
+    waits : (x : Progress) → is_unbegun x ≡ true → is_waiting x ≡ true
+    waits progress.Waiting t = refl
+    waits progress.Begun t = cc
+    waits progress.Admitted t = cc
+    waits progress.Placed t = cc
+    waits progress.Closed t = cc
+unbegun_waits (x ∷ r) (suc q) t = unbegun_waits r q t
+
+-- so one that doesn't wait isn't one
+pub unbegun_not : (r : List Request) (p : ℕ) → is_waiting_at r p ≡ false → is_unbegun_at r p ≡ false
+unbegun_not r p f = by_test (is_unbegun_at r p) _ (λ t. absurd (not_both (is_waiting_at r p) f (unbegun_waits r p t))) (λ g. g)
+
+-- one that waits waits on once its round has begun
+pub begun_waits : (r : List Request) (q count : ℕ) → is_waiting_at r q ≡ true → is_waiting_at (with_permits r q progress.Begun count) q ≡ true
+begun_waits [] q count t = cc
+begun_waits (x ∷ r) zero count t = refl
+begun_waits (x ∷ r) (suc q) count t = begun_waits r q count t

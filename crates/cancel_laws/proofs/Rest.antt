@@ -13,15 +13,16 @@ use Rattle.mux_conn.specs.declared.act.LinkAct.TheVariants as act
 use Rattle.mux_conn.specs.declared.connection.MultiplexedConnection.{MultiplexedConnection}
 use Rattle.mux_conn.specs.declared.life.Greeting.{Greeting}
 use Rattle.mux_conn.specs.declared.life.Life.{Life}
-use Rattle.mux_conn.specs.declared.life.Life.TheVariants.{Dialing, Wanting, SettingUp, Ready, Ended}
+use Rattle.mux_conn.specs.declared.life.Life.TheVariants.{Resting, Dialing, Wanting, SettingUp, Ready, Ended}
+use Rattle.mux_conn.specs.declared.request.Progress.TheVariants as progress
 use Rattle.mux_conn.specs.declared.request.Waiting.{Waiting}
 use Rattle.mux_conn.specs.declared.renewal.Renewal.{Renewal}
 use Rattle.mux_conn.specs.Connection.{Work, acted, at_life, with_link, with_setup, has_no_permit, admits_none_at, admits_none, has_room, has_room_at, in_front, is_due, is_held_back, is_ready, are_some}
 use Rattle.mux_conn.specs.Renewals as renewals
 use Rattle.mux_conn.specs.Renewals.{renewing, asked_next, renewal_timed, renewal_asked, renewal_told, renewal_moved}
-use Rattle.mux_conn.specs.Requests.{is_open_at, is_waiting_at, is_admitted_at, name_at, closed, answered}
+use Rattle.mux_conn.specs.Requests.{is_open_at, is_waiting_at, is_admitted_at, name_at, closed, answered, is_unbegun_at, progressed}
 use Rattle.mux_conn.specs.Effects.{cancelled_in, left}
-use Rattle.mux_conn.specs.Passes.{shown_each, starts_with, greeting_act, greeted_each, greets_with, started_at, started, placed_at, told_at_place, seated, still_admitted, moved_up, moved_up_each, moved_up_all, put_behind, seated_or_behind, let_in, admitted_at, admitted, still_waiting, admitted_each, admitted_all, passed}
+use Rattle.mux_conn.specs.Passes.{shown_each, starts_with, greeting_act, greeted_each, greets_with, started_at, started, placed_at, told_at_place, seated, still_admitted, moved_up, moved_up_each, moved_up_all, put_behind, seated_or_behind, let_in, admitted_at, admitted, still_waiting, admitted_each, admitted_all, passed, moved_all, round_begun, rounds_of, rounds_begun}
 use Rattle.mux_conn.specs.Turn.{written_at, written, moved_wait, fresh_wait, wait_shown, moved_each_shown, moved_shown, fresh_each_shown, fresh_shown, waits_shown, flushed}
 use Rattle.cancel_laws.proofs.Links.{none_leaves}
 use Rattle.cancel_laws.proofs.Kept.{let_in_conn}
@@ -35,6 +36,7 @@ IsThrough l = (l.queue ≡ []) ⊎ (holds_back l ≡ true)
 
 -- so is a link that is up
 abbrev pub HasStartedAll : Life → Type 0
+HasStartedAll Resting = Unit {0}
 HasStartedAll Dialing = Unit {0}
 HasStartedAll (Wanting l) = Unit {0}
 HasStartedAll (SettingUp l greeting) = IsThrough l
@@ -43,6 +45,7 @@ HasStartedAll (Ended e) = Unit {0}
 
 -- all its bytes are offered, or an offer is unanswered
 abbrev pub HasOffered : Life → Type 0
+HasOffered Resting = Unit {0}
 HasOffered Dialing = Unit {0}
 HasOffered (Wanting l) = Unit {0}
 HasOffered (SettingUp l greeting) = can_offer l.outbox ≡ false
@@ -133,6 +136,7 @@ started_from w (SettingUp l greeting) e h =
     let s = started_all (record { link = l; out = [] }) in
     subst Through (sym (setup_shown (with_setup w s.link greeting) greeting s.out)) (record { queue = queue_starts (record { link = l; out = [] }) l.queue; renewed = λ t. cc })
 started_from w (Wanting l) e h = subst (IsStartedOn w.conn.renewal) (sym e) (record { queue = tt; renewed = h })
+started_from w Resting e h = subst (IsStartedOn w.conn.renewal) (sym e) (record { queue = tt; renewed = h })
 started_from w Dialing e h = subst (IsStartedOn w.conn.renewal) (sym e) (record { queue = tt; renewed = h })
 started_from w (Ended x) e h = subst (IsStartedOn w.conn.renewal) (sym e) (record { queue = tt; renewed = h })
 
@@ -147,6 +151,7 @@ moved_renewed : (w : Work) (life : Life) (cs : List Credentials) → w.conn.life
 moved_renewed w (Ready l) (c ∷ cs) e asked is =
     chosen (λ (x : Work). HasRenewed x.conn.renewal x.conn.life) (holds_back l) w (renewal_told w l c cs) (λ held. λ t. (asked, ap is_held_back e ∙ held)) (λ f. λ t. cc)
 moved_renewed w (Ready l) [] e asked is = λ t. absurd (none_due w.conn.renewal is (both_right (is_ready w.conn.life) (is_due w.conn.renewal) t))
+moved_renewed w Resting cs e asked is = λ t. absurd (not_both (is_ready w.conn.life) (ap is_ready e) (both_left (is_ready w.conn.life) (is_due w.conn.renewal) t))
 moved_renewed w Dialing cs e asked is = λ t. absurd (not_both (is_ready w.conn.life) (ap is_ready e) (both_left (is_ready w.conn.life) (is_due w.conn.renewal) t))
 moved_renewed w (Wanting l) cs e asked is = λ t. absurd (not_both (is_ready w.conn.life) (ap is_ready e) (both_left (is_ready w.conn.life) (is_due w.conn.renewal) t))
 moved_renewed w (SettingUp l greeting) cs e asked is = λ t. absurd (not_both (is_ready w.conn.life) (ap is_ready e) (both_left (is_ready w.conn.life) (is_due w.conn.renewal) t))
@@ -176,6 +181,7 @@ admitted_started w (Wanting l) = refl
 admitted_started w (SettingUp l greeting) =
     let s = started_all (record { link = l; out = [] }) in
     ap (λ (c : MultiplexedConnection). c.admitted) (setup_shown (with_setup w s.link greeting) greeting s.out)
+admitted_started w Resting = refl
 admitted_started w Dialing = refl
 admitted_started w (Ended e) = refl
 
@@ -184,6 +190,7 @@ admitted_placed : (w : Work) (q : Waiting) (life : Life) → (placed_at w q life
 admitted_placed w q (Ready l) = refl
 admitted_placed w q (Wanting l) = refl
 admitted_placed w q (SettingUp l greeting) = refl
+admitted_placed w q Resting = refl
 admitted_placed w q Dialing = refl
 admitted_placed w q (Ended e) = refl
 
@@ -205,6 +212,7 @@ admitted_seated w q =
 -- a request that takes its place starts nothing
 renewed_placed : (w : Work) (q : Waiting) (life : Life) → w.conn.life ≡ life → HasRenewedIn w → HasRenewedIn (placed_at w q life)
 renewed_placed w q (Ready l) e h = subst (HasRenewed w.conn.renewal) e h
+renewed_placed w q Resting e h = h
 renewed_placed w q Dialing e h = h
 renewed_placed w q (Wanting l) e h = h
 renewed_placed w q (SettingUp l greeting) e h = h
@@ -241,13 +249,23 @@ one_or_behind w q h =
     (λ t. record { through = one_seated w q h.through.renewed; admitted = λ u. admitted_seated w q ∙ h.admitted t })
     (λ f. record { through = h.through; admitted = λ t. absurd (not_both (has_room w.conn) f t) })
 
+-- a round that begins leaves that
+round_seated : (w : Work) (q : ℕ) → IsSeated w.conn → IsSeated (round_begun w q).conn
+round_seated w q h =
+    chosen (λ (x : Work). IsSeated x.conn) (w.conn.rounds && is_unbegun_at w.conn.requests q) (acted (progressed w q progress.Begun) (act.Round (name_at w.conn.requests q))) w
+    (λ t. record { through = h.through; admitted = h.admitted }) (λ f. h)
+
 -- where it may take one
 one_admitted_at : (w : Work) (q : Waiting) (life : Life) → IsSeated w.conn → IsSeated (admitted_at w q life).conn
-one_admitted_at w q (Ready l) h = one_or_behind (let_in w q) q (subst IsSeated (sym (let_in_conn w q)) (record { through = h.through; admitted = h.admitted }))
+one_admitted_at w q (Ready l) h =
+    let v = round_begun w q.number in
+    let g = round_seated w q.number h in
+    one_or_behind (let_in v q) q (subst IsSeated (sym (let_in_conn v q)) (record { through = g.through; admitted = g.admitted }))
 one_admitted_at w q (Ended e) h =
     chosen (λ (x : Work). IsSeated x.conn) (is_open_at w.conn.requests q.number) _ w (λ t. record { through = h.through; admitted = h.admitted }) (λ f. h)
 one_admitted_at w q (Wanting l) h = h
 one_admitted_at w q (SettingUp l greeting) h = h
+one_admitted_at w q Resting h = h
 one_admitted_at w q Dialing h = h
 
 -- and any other stays
@@ -262,14 +280,28 @@ each_admitted w (q ∷ qs) h =
     (λ t. record { seated = record { through = h.through; admitted = h.admitted }; waiting = λ f. absurd (not_both (admits_none w.conn) f t) })
     (λ f. each_admitted (admitted w q) qs (one_admitted w q h))
 
+-- rounds that begin leave that
+rounds_moved : (w : Work) (qs : List ℕ) → IsMoved w.conn → IsMoved (rounds_of w qs).conn
+rounds_moved w [] h = h
+rounds_moved w (q ∷ qs) h =
+    rounds_moved (round_begun w q) qs
+    (chosen (λ (x : Work). IsMoved x.conn) (w.conn.rounds && is_unbegun_at w.conn.requests q) (acted (progressed w q progress.Begun) (act.Round (name_at w.conn.requests q))) w
+    (λ t. record { seated = record { through = h.seated.through; admitted = h.seated.admitted }; waiting = h.waiting }) (λ f. h))
+
 -- what a turn moves
-all_moved : (w : Work) → IsMoved (passed w).conn
-all_moved w =
+moved_before : (w : Work) → IsMoved (moved_all w).conn
+moved_before w =
     let v = renewals.renewed w in
     let d = started v in
     let e = moved_up_all d in
     let s = each_moved_up (still_admitted d []) d.conn.admitted (all_started v (all_renewed w)) in
     each_admitted (still_waiting e []) e.conn.waiting (record { through = s.through; admitted = s.admitted })
+
+-- and the rounds that begin behind that
+pub all_moved : (w : Work) → IsMoved (passed w).conn
+all_moved w =
+    let v = moved_all w in
+    chosen (λ (x : Work). IsMoved x.conn) (v.conn.rounds && is_ready v.conn.life) (rounds_of v v.conn.fresh) v (λ t. rounds_moved v v.conn.fresh (moved_before w)) (λ f. moved_before w)
 
 -- where all is offered, there is nothing more to offer
 offered_none : (b : Bool) → (not b && b) ≡ false
@@ -312,6 +344,7 @@ written_from w (SettingUp l greeting) e h =
       offered = offered_none (length l.outbox.unwritten == 0);
     })
     (λ f. record { moved = h; offered = subst HasOffered (sym e) f })
+written_from w Resting e h = record { moved = h; offered = subst HasOffered (sym e) tt }
 written_from w Dialing e h = record { moved = h; offered = subst HasOffered (sym e) tt }
 written_from w (Ended x) e h = record { moved = h; offered = subst HasOffered (sym e) tt }
 
@@ -341,12 +374,24 @@ waits_conn w =
     fresh_conn (record d { conn = record d.conn { fresh = [] } }) d.conn.fresh
     ∙ ap (λ (c : MultiplexedConnection). record c { fresh = [] }) (moved_conn (record w { conn = record w.conn { moved = [] } }) w.conn.moved)
 
--- so a turn ends with nothing left to do, whatever there was
-pub moves_idle : (w : Work) → IsIdle (flushed (passed w)).conn
-moves_idle w =
-    let d = passed w in
-    let e = written d in
-    let i = written_from d d.conn.life refl (all_moved w) in
+-- nor do bytes that are offered change a request
+written_requests : (w : Work) (life : Life) → (written_at w life).conn.requests ≡ w.conn.requests
+written_requests w (Ready l) = chosen (λ (x : Work). x.conn.requests ≡ w.conn.requests) (can_offer l.outbox) _ w (λ t. refl) (λ f. refl)
+written_requests w (SettingUp l greeting) = chosen (λ (x : Work). x.conn.requests ≡ w.conn.requests) (can_offer l.outbox) _ w (λ t. refl) (λ f. refl)
+written_requests w Resting = refl
+written_requests w Dialing = refl
+written_requests w (Wanting l) = refl
+written_requests w (Ended e) = refl
+
+-- so what a turn ends with changes none
+pub flushed_requests : (w : Work) → (flushed w).conn.requests ≡ w.conn.requests
+flushed_requests w = ap (λ (c : MultiplexedConnection). c.requests) (waits_conn (written w)) ∙ written_requests w w.conn.life
+
+-- and leaves nothing to do, where all was moved
+pub flushed_idle : (w : Work) → IsMoved w.conn → IsIdle (flushed w).conn
+flushed_idle w h =
+    let e = written w in
+    let i = written_from w w.conn.life refl h in
     subst IsIdle (sym (waits_conn e))
     (record {
       written = record {
@@ -371,6 +416,7 @@ pub started_stays : (w : Work) (life : Life) → w.conn.life ≡ life → HasSta
 started_stays w (Ready l) e h = ap (starts_with w) (none_starts l l.queue refl h) ∙ ap (at_life w) (sym e)
 started_stays w (Wanting l) e h = refl
 started_stays w (SettingUp l greeting) e h = ap (greets_with w greeting) (none_starts l l.queue refl h) ∙ ap (at_life w) (sym e)
+started_stays w Resting e h = refl
 started_stays w Dialing e h = refl
 started_stays w (Ended x) e h = refl
 
@@ -396,6 +442,7 @@ none_admitted w (q ∷ qs) h = taken_if (admits_none w.conn) _ _ (none_goes (adm
 moved_stays_held : (w : Work) (life : Life) (cs : List Credentials) → is_held_back life ≡ true → renewal_moved w life cs ≡ w
 moved_stays_held w (Ready l) (c ∷ cs) held = taken_if (holds_back l) w _ held
 moved_stays_held w (Ready l) [] held = refl
+moved_stays_held w Resting cs held = refl
 moved_stays_held w Dialing cs held = refl
 moved_stays_held w (Wanting l) cs held = refl
 moved_stays_held w (SettingUp l greeting) cs held = refl
@@ -409,18 +456,25 @@ renewed_stays w h =
     (λ t. let k = h t in ap (λ (x : Work). renewal_moved x w.conn.life r.waiting) (taken_if r.pending w _ k.0) ∙ moved_stays_held w w.conn.life r.waiting k.1)
     (λ f. refl)
 
+-- no round begins where no wait is to be shown
+none_begin : (w : Work) → w.conn.fresh ≡ [] → rounds_begun w ≡ w
+none_begin w e = chosen (λ (x : Work). x ≡ w) (w.conn.rounds && is_ready w.conn.life) (rounds_of w w.conn.fresh) w (λ t. ap (rounds_of w) e) (λ f. refl)
+
 -- so nothing is moved
-passed_stays : (w : Work) → IsMoved w.conn → passed w ≡ w
-passed_stays w h =
+passed_stays : (w : Work) → IsMoved w.conn → w.conn.fresh ≡ [] → passed w ≡ w
+passed_stays w h none =
+    let moves : moved_all w ≡ w =
     ap (λ (x : Work). admitted_all (moved_up_all (started x))) (renewed_stays w h.seated.through.renewed)
     ∙ ap (λ (x : Work). admitted_all (moved_up_all x)) (started_stays w w.conn.life refl h.seated.through.queue)
-    ∙ ap admitted_all (none_moved_up (still_admitted w []) w.conn.admitted h.seated.admitted) ∙ none_admitted (still_waiting w []) w.conn.waiting h.waiting
+    ∙ ap admitted_all (none_moved_up (still_admitted w []) w.conn.admitted h.seated.admitted) ∙ none_admitted (still_waiting w []) w.conn.waiting h.waiting in
+    ap rounds_begun moves ∙ none_begin w none
 
 -- no bytes are offered
 written_stays : (w : Work) (life : Life) → HasOffered life → written_at w life ≡ w
 written_stays w (Ready l) h = left_if (can_offer l.outbox) _ w h
 written_stays w (Wanting l) h = refl
 written_stays w (SettingUp l greeting) h = left_if (can_offer l.outbox) _ w h
+written_stays w Resting h = refl
 written_stays w Dialing h = refl
 written_stays w (Ended e) h = refl
 
@@ -437,7 +491,7 @@ fresh_stays w e =
 -- nothing happens
 pub nothing_moves : (w : Work) → IsIdle w.conn → flushed (passed w) ≡ w
 nothing_moves w h =
-    ap flushed (passed_stays w h.written.moved) ∙ ap waits_shown (written_stays w w.conn.life h.written.offered) ∙ ap fresh_shown (moved_stays w h.calm) ∙ fresh_stays w h.fresh
+    ap flushed (passed_stays w h.written.moved h.fresh) ∙ ap waits_shown (written_stays w w.conn.life h.written.offered) ∙ ap fresh_shown (moved_stays w h.calm) ∙ fresh_stays w h.fresh
 
 -- a cancel of a message that isn't in the queue leaves nothing to do, where permits aren't counted
 pub left_idle : (c : MultiplexedConnection) (p : ℕ) → c.limit ≡ None → NoneQueued p c.life → IsIdle c → IsIdle (left c p)
@@ -461,6 +515,7 @@ left_idle c p unlimited none h =
     (λ f. h)
   where
     queue_left : (life : Life) → NoneQueued p life → HasStartedAll life → HasStartedAll (cancelled_in life p)
+    queue_left Resting n e = e
     queue_left Dialing n e = e
     queue_left (Wanting l) n e = e
     queue_left (SettingUp l greeting) n e = e
@@ -469,6 +524,7 @@ left_idle c p unlimited none h =
     queue_left (Ended x) n e = e
 
     renewed_left : (life : Life) → HasRenewed c.renewal life → HasRenewed c.renewal (cancelled_in life p)
+    renewed_left Resting e = e
     renewed_left Dialing e = e
     renewed_left (Wanting l) e = e
     renewed_left (SettingUp l greeting) e = e
@@ -476,6 +532,7 @@ left_idle c p unlimited none h =
     renewed_left (Ended x) e = e
 
     room_left : (life : Life) (count : ℕ) → NoneQueued p life → has_room_at (cancelled_in life p) count ≡ has_room_at life count
+    room_left Resting count n = refl
     room_left Dialing count n = refl
     room_left (Wanting l) count n = refl
     room_left (SettingUp l greeting) count n = refl
@@ -483,6 +540,7 @@ left_idle c p unlimited none h =
     room_left (Ended x) count n = refl
 
     stuck_left : (life : Life) (lim : Option ℕ) (j k : ℕ) → lim ≡ None → admits_none_at life (has_no_permit lim j) ≡ admits_none_at (cancelled_in life p) (has_no_permit lim k)
+    stuck_left Resting lim j k e = refl
     stuck_left Dialing lim j k e = refl
     stuck_left (Wanting l) lim j k e = refl
     stuck_left (SettingUp l greeting) lim j k e = refl
@@ -491,6 +549,7 @@ left_idle c p unlimited none h =
     stuck_left (Ended x) lim j k e = refl
 
     offered_left : (life : Life) → HasOffered life → HasOffered (cancelled_in life p)
+    offered_left Resting e = e
     offered_left Dialing e = e
     offered_left (Wanting l) e = e
     offered_left (SettingUp l greeting) e = e

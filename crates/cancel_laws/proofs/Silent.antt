@@ -6,9 +6,10 @@ use Rattle.mux_conn.specs.declared.life.Life.{Life}
 use Rattle.mux_conn.specs.declared.request.Progress.TheVariants as progress
 use Rattle.mux_conn.specs.declared.request.Request.{Request}
 use Rattle.mux_conn.specs.Requests.{is_open, is_open_at, permits_at}
-use Rattle.cancel_laws.proofs.Requests.{names, names_push, closed_set, test_push, other_test, waiting_open, admitted_open}
+use Rattle.cancel_laws.proofs.Requests.{names, names_push, closed_set, test_push, other_test, waiting_open, admitted_open, unbegun_waits}
 use Rattle.cancel_laws.proofs.Names.{IsOwn, own_push, other_name}
-use Rattle.cancel_laws.proofs.Kept.{IsKept, CanAsk}
+use Rattle.cancel_laws.proofs.Kept.{IsKept}
+use Rattle.cancel_laws.proofs.KeptTurns.{CanAsk}
 use Rattle.cancel_laws.proofs.Gone.{own_kept, within_kept}
 use Rattle.cancel_laws.proofs.Bare.{other_acts, acts_plain, acts_other}
 
@@ -48,6 +49,12 @@ silent_kept n p = record {
   go_on = λ lim r l k greeting ms xs few h. record { there = h.there; own = h.own; closed = h.closed; unshown = h.unshown };
   repeat = λ lim r l k q greeting next ms xs few h. record { there = h.there; own = h.own; closed = h.closed; unshown = h.unshown };
   ready = λ lim r l k greeting ms xs few h. record { there = h.there; own = h.own; closed = h.closed; unshown = h.unshown };
+  round = λ lim r life ms xs q t h. record {
+    there = within_kept r p q progress.Begun (permits_at r q) h.there;
+    own = own_kept n p r q progress.Begun (permits_at r q) h.own;
+    closed = closed_set r q p progress.Begun (permits_at r q) (waiting_open r q (unbegun_waits r q t)) h.closed;
+    unshown = h.unshown;
+  };
   admit = λ lim r life ms xs q count t h. record {
     there = within_kept r p q progress.Admitted count h.there;
     own = own_kept n p r q progress.Admitted count h.own;
@@ -67,6 +74,7 @@ silent_kept n p = record {
   write = λ lim r l ms xs k h. record { there = h.there; own = h.own; closed = h.closed; unshown = h.unshown };
   come = λ lim r l ms xs what piece h. record { there = h.there; own = h.own; closed = h.closed; unshown = h.unshown };
   end = λ lim r life ms xs e h. record { there = h.there; own = h.own; closed = h.closed; unshown = h.unshown };
+  rest = λ lim r life ms xs h. record { there = h.there; own = h.own; closed = h.closed; unshown = h.unshown };
   show = λ lim r life ms xs a plain h. record { there = h.there; own = h.own; closed = h.closed; unshown = unshown_more n xs a (acts_plain n xs a plain) h.unshown };
   calm = λ lim r life ms xs h. record { there = h.there; own = h.own; closed = h.closed; unshown = h.unshown };
 }

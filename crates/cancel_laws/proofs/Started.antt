@@ -1,38 +1,33 @@
 -- A submission that is handed in after the link's connect has started, where the configuration is sound and nothing is to be
 -- said to the server before it.
-use Rattle.std.proofs.Common.{◌≡◌, ◌≢◌, ℕ, zero, suc, ◌<◌, ◌==◌, Bool, true, false, ◌&&◌, not, List, [], ◌∷◌, Option, Some, None, if◌then◌else◌, refl, sym, ap, ◌∙◌, subst, arith}
+use Rattle.std.proofs.Common.{◌≡◌, ◌≢◌, ℕ, zero, suc, ◌<◌, ◌==◌, Bool, true, false, ◌&&◌, not, List, [], ◌∷◌, Option, Some, None, if◌then◌else◌, refl, sym, ap, ◌∙◌, subst, arith, length}
 use Rattle.containers.proofs.Choices.{not_le_test}
 use Rattle.std.specs.Prelude.{unwrap_or}
-use Rattle.connection_info.specs.declared.address.ConnectionInfo.{ConnectionInfo}
 use Rattle.connection_info.specs.declared.protocol.ProtocolVersion.{ProtocolVersion}
 use Rattle.connection_info.specs.Protocol.{is_resp3}
-use Rattle.redis_error.specs.declared.config_name.ConfigName.{ConfigName}
 use Rattle.redis_error.specs.declared.config_name.ConfigName.TheVariants as name
 use Rattle.driver_model.specs.declared.config.Config.{Config}
+use Rattle.driver_model.specs.declared.config.Config.TheVariants as variant
 use Rattle.driver_model.specs.declared.event.Submission.{Submission}
 use Rattle.driver_model.specs.declared.event.Submission.TheVariants.{Cmd, Pipe, Multi, Subscription, Ping}
 use Rattle.resp_write.specs.declared.subscription.SubscriptionAction.{SubscriptionAction}
 use Rattle.connection_setup.specs.Setup.{setup}
-use Rattle.driver_model.specs.Config.{address, buffer_size, buffer_fault, has_line, hearing_of, permits, room_fault, fault_in, told_info}
-use Rattle.driver_model.specs.Hearing.{hears_messages, hears_pushes, is_watching}
+use Rattle.driver_model.specs.Config.{manager_of, buffer_size, buffer_fault, hearing_of, permits, room_fault, told_info, heard_on}
+use Rattle.driver_model.specs.Hearing.{hears_messages, is_watching}
 use Rattle.driver_model.specs.declared.hearing.Hearing.{Hearing}
+use Rattle.driver_model.proofs.Sound.{unless_refused, is_roomy}
 use Rattle.mux_conn.specs.declared.life.Greeting.TheVariants as greet
 use Rattle.driver_model.specs.Setup.{says_nothing}
 use Rattle.driver_model.specs.Request.{packed_bytes, is_reply_awaited, needs_resp3, lacks_resp3}
-use Rattle.mux_conn.specs.Connection.{acted, with_link, has_no_permit}
+use Rattle.mux_conn.specs.Connection.{acted, opened_on, has_no_permit}
 use Rattle.mux_conn.specs.declared.act.LinkAct.TheVariants as act
-use Rattle.mux_conn.specs.Effects.{new_link, all_fresh, comes_to_want, sets_up}
+use Rattle.mux_conn.specs.Effects.{new_link, creation_told, all_fresh, comes_to_want, sets_up}
 use Rattle.shared_session.specs.declared.core_state.Core.{Core}
-use Rattle.shared_session.specs.Turn.{work_of, with_work, shut_by, counted, moved_on, numbered, next_turn}
-use Rattle.shared_session.specs.Replay.{opening_core, IsSound, state_after}
+use Rattle.shared_session.specs.Turn.{Turning, work_of, with_work, shut_by, counted, moved_on, numbered, whole_effect, next_turn}
+use Rattle.shared_session.specs.Replay.{single_core, IsSound, state_after}
+use Rattle.shared_session.proofs.Plain.{plain_opening, plain_turn}
 use Rattle.cancel_laws.specs.Cancels.{connected_at, handed_in_after_connect, SaysNothing, IsFree, HasStarted}
 use Rattle.cancel_laws.proofs.Free.{free_started}
-use Rattle.connection_info.specs.Protocol.{is_resp3}
-
--- what is refused where a test holds isn't refused where it doesn't
-unless_refused : (b : Bool) (what : ConfigName) (rest : Option ConfigName) → (if b then Some what else rest) ≡ None → (b ≡ false) × (rest ≡ None)
-unless_refused true what rest e = cc
-unless_refused false what rest e = (refl, e)
 
 -- a queue that isn't refused holds something
 some_place : (size : ℕ) → buffer_fault size ≡ None → 0 < size
@@ -49,34 +44,33 @@ room_permits : (lim : Option ℕ) (size : ℕ) → room_fault lim size ≡ None 
 room_permits None size e = refl
 room_permits (Some most) size e = (unless_refused (most == 0) name.Limit (buffer_fault size) e).0
 
--- so that both are true of a configuration of which nothing is refused
-room_sound : (info : Option ConnectionInfo) (heard : Bool) (lim : Option ℕ) (size : ℕ) → fault_in info heard lim size ≡ None → room_fault lim size ≡ None
-room_sound None heard lim size e = cc
-room_sound (Some info) heard lim size e = (unless_refused (heard && not (is_resp3 info.redis.protocol)) name.Push (room_fault lim size) e).1
-
 -- where the connect leads: the link waits for credentials that are to come of a source, or it is ready where nothing is to be
 -- said and the server isn't put into monitor mode, and else it is set up
-abbrev up_at : Config → ℕ → ℕ → Bool → Bool → Bool → Core
-up_at config word draw wants silent watching =
-    let t = counted (opening_core config word) in
+abbrev up_at : Config → ℕ → Bool → Bool → Bool → Core
+up_at config draw wants silent watching =
+    let t = counted (single_core config) in
     let w = work_of t in
     let kind = (connected_at draw).kind in
     let link = new_link w.conn in
-    let ready = acted (with_link (all_fresh w) link) (act.Created None) in
-    let said = if watching then sets_up w link greet.Monitor else (if wants then acted ready act.NeedCreds else ready) in
+    let ready = creation_told (opened_on (all_fresh w) link) None in
+    let said = if watching then sets_up w link greet.Monitor else (if wants then acted ready act.NeedRenewals else ready) in
     let up = if silent then said else sets_up (all_fresh w) link greet.WithUser in
     (numbered (moved_on (with_work (record t { core = shut_by t.core kind }) (if wants then comes_to_want w link else up)))).core
 
+-- so a history of that event alone does, where the session doesn't come back
+connected_is : (config : Config) (word draw : ℕ) → manager_of config ≡ None → state_after config word (connected_at draw ∷ []) ≡ (numbered (whole_effect (counted (single_core config)) (connected_at draw).kind)).core
+unfolding state_after
+connected_is config word draw stays =
+    ap (λ (c : Core). (next_turn c (connected_at draw).kind).core) (plain_opening config word stays) ∙ ap (λ (t : Turning). t.core) (plain_turn (single_core config) (connected_at draw).kind refl)
+
 -- so nothing holds it back where nothing is to be said and no credentials are waited for, and nothing of the configuration is refused
-connected_free : (config : Config) (word draw : ℕ) → IsSound config → SaysNothing config → IsFree (state_after config word (connected_at draw ∷ []))
-unfolding state_after next_turn
-connected_free config word draw sound silent =
-    let faults = fault_in (address config) (hears_pushes (hearing_of config)) (permits config) (buffer_size config) in
-    let fits = room_sound (address config) (hears_pushes (hearing_of config)) (permits config) (buffer_size config) (unless_refused (not (has_line config)) name.Kind faults sound).1 in
+connected_free : (config : Config) (word draw : ℕ) → manager_of config ≡ None → IsSound config → SaysNothing config → IsFree (state_after config word (connected_at draw ∷ []))
+connected_free config word draw stays sound silent =
+    let fits = is_roomy config sound in
     let says = says_nothing (setup (told_info config) true) in
-    subst (λ (b : Bool). IsFree (up_at config word draw b says (is_watching (hearing_of config)))) (sym silent.0)
-    (subst (λ (b : Bool). IsFree (up_at config word draw false b (is_watching (hearing_of config)))) (sym silent.1)
-    (subst (λ (b : Bool). IsFree (up_at config word draw false true b)) (sym silent.2)
+    subst IsFree (sym (connected_is config word draw stays)) (subst (λ (b : Bool). IsFree (up_at config draw b says (is_watching (hearing_of config)))) (sym silent.0)
+    (subst (λ (b : Bool). IsFree (up_at config draw false b (is_watching (hearing_of config)))) (sym silent.1)
+    (subst (λ (b : Bool). IsFree (up_at config draw false true b)) (sym silent.2)
     (record {
       link = _;
       ready = refl;
@@ -85,7 +79,11 @@ connected_free config word draw sound silent =
       permit = room_permits (permits config) (buffer_size config) fits;
       unshut = refl;
       numbered = omega arith;
-    })))
+    }))))
+
+-- no submission was handed in before
+connected_first : (config : Config) (word draw : ℕ) → manager_of config ≡ None → length (state_after config word (connected_at draw ∷ [])).table ≡ 0
+connected_first config word draw stays = ap (λ (c : Core). length c.table) (connected_is config word draw stays)
 
 -- what doesn't need RESP3 is never refused for want of it
 needs_none : (h : Hearing) (protocol : ProtocolVersion) (s : Submission) → needs_resp3 s ≡ false → lacks_resp3 h protocol s ≡ false
@@ -96,32 +94,45 @@ needs_none h protocol s plain = ap (λ needs. not (hears_messages h) && needs &&
     none_needed false b = refl
 
 -- any submission that has bytes, whose reply is awaited, and that is no subscription call
-pub any_started : (config : Config) (word draw later : ℕ) (s : Submission) → packed_bytes s ≢ [] → is_reply_awaited s ≡ true → needs_resp3 s ≡ false → IsSound config → SaysNothing config
+pub any_started : (config : Config) (word draw later : ℕ) (s : Submission) → packed_bytes s ≢ [] → is_reply_awaited s ≡ true → needs_resp3 s ≡ false → manager_of config ≡ None → IsSound config → SaysNothing config
     → HasStarted 0 (handed_in_after_connect config word draw later s)
-unfolding state_after next_turn
-any_started config word draw later s some awaited plain sound silent =
-    free_started config word later (connected_at draw ∷ []) s some awaited (connected_free config word draw sound silent) (let c = (state_after config word (connected_at draw ∷ [])).single.connection in needs_none c.hears c.info.protocol s plain)
+any_started config word draw later s some awaited plain stays sound silent =
+    subst (λ k. HasStarted k (handed_in_after_connect config word draw later s)) (connected_first config word draw stays)
+    (free_started config word later (connected_at draw ∷ []) s some awaited (connected_free config word draw stays sound silent) (let c = (state_after config word (connected_at draw ∷ [])).single.connection in needs_none c.hears c.info.protocol s plain))
 
 -- what is heard is what the configuration has heard
-connected_hears : (config : Config) (word draw : ℕ) → SaysNothing config → (state_after config word (connected_at draw ∷ [])).single.connection.hears ≡ hearing_of config
-unfolding state_after next_turn
-connected_hears config word draw silent =
+connected_hears : (config : Config) (word draw : ℕ) → manager_of config ≡ None → SaysNothing config → (state_after config word (connected_at draw ∷ [])).single.connection.hears ≡ hearing_of config
+connected_hears config word draw stays silent =
     let says = says_nothing (setup (told_info config) true) in
-    subst (λ (b : Bool). (up_at config word draw b says (is_watching (hearing_of config))).single.connection.hears ≡ hearing_of config) (sym silent.0)
-    (subst (λ (b : Bool). (up_at config word draw false b (is_watching (hearing_of config))).single.connection.hears ≡ hearing_of config) (sym silent.1)
-    (subst (λ (b : Bool). (up_at config word draw false true b).single.connection.hears ≡ hearing_of config) (sym silent.2) refl))
+    ap (λ (c : Core). c.single.connection.hears) (connected_is config word draw stays)
+    ∙ subst (λ (b : Bool). (up_at config draw b says (is_watching (hearing_of config))).single.connection.hears ≡ hearing_of config) (sym silent.0)
+    (subst (λ (b : Bool). (up_at config draw false b (is_watching (hearing_of config))).single.connection.hears ≡ hearing_of config) (sym silent.1)
+    (subst (λ (b : Bool). (up_at config draw false true b).single.connection.hears ≡ hearing_of config) (sym silent.2) refl))
 
 -- where messages are heard nothing is refused for want of RESP3
 listening_none : (h : Hearing) (protocol : ProtocolVersion) (s : Submission) → hears_messages h ≡ true → lacks_resp3 h protocol s ≡ false
 listening_none h protocol s listens = ap (λ hears. not hears && needs_resp3 s && not (is_resp3 protocol)) listens
 
+-- a multiplexed connection hears none
+hears_none : (pushes : Bool) → hears_messages (heard_on pushes) ≡ true → ⊥
+hears_none true e = cc e
+hears_none false e = cc e
+
+-- so a session that does doesn't come back
+listens_once : (config : Config) → hears_messages (hearing_of config) ≡ true → manager_of config ≡ None
+listens_once (variant.Single address connection) e = absurd (hears_none (unwrap_or connection.push false) e)
+listens_once (variant.Manager lazy address connection manager) e = absurd (hears_none (unwrap_or connection.push false) e)
+listens_once (variant.PubSub address) e = refl
+listens_once (variant.Monitor address) e = refl
+
 -- any submission on a link of messages that has bytes, and whose reply is awaited
 listening_started : (config : Config) (word draw later : ℕ) (s : Submission) → packed_bytes s ≢ [] → is_reply_awaited s ≡ true → IsSound config → SaysNothing config → hears_messages (hearing_of config) ≡ true
     → HasStarted 0 (handed_in_after_connect config word draw later s)
-unfolding state_after next_turn
 listening_started config word draw later s some awaited sound silent listens =
-    free_started config word later (connected_at draw ∷ []) s some awaited (connected_free config word draw sound silent)
-    (let c = (state_after config word (connected_at draw ∷ [])).single.connection in listening_none c.hears c.info.protocol s (ap hears_messages (connected_hears config word draw silent) ∙ listens))
+    let stays = listens_once config listens in
+    subst (λ k. HasStarted k (handed_in_after_connect config word draw later s)) (connected_first config word draw stays)
+    (free_started config word later (connected_at draw ∷ []) s some awaited (connected_free config word draw stays sound silent)
+    (let c = (state_after config word (connected_at draw ∷ [])).single.connection in listening_none c.hears c.info.protocol s (ap hears_messages (connected_hears config word draw stays silent) ∙ listens)))
 
 -- a subscription call there
 pub subscription_started : (config : Config) (word draw later : ℕ) (what : SubscriptionAction) (names : List (List ℕ)) → IsSound config → SaysNothing config → hears_messages (hearing_of config) ≡ true → HasStarted 0 (handed_in_after_connect config word draw later (Subscription what names))
@@ -132,13 +143,13 @@ pub ping_started : (config : Config) (word draw later : ℕ) (message : Option (
 ping_started config word draw later message sound silent listens = listening_started config word draw later (Ping message) (λ e. cc) refl sound silent listens
 
 -- a command
-pub command_started : (config : Config) (word draw later : ℕ) (name : List ℕ) (args : List (List ℕ)) → IsSound config → SaysNothing config → HasStarted 0 (handed_in_after_connect config word draw later (Cmd (name ∷ args)))
-command_started config word draw later name args sound silent = any_started config word draw later (Cmd (name ∷ args)) (λ e. cc) refl refl sound silent
+pub command_started : (config : Config) (word draw later : ℕ) (name : List ℕ) (args : List (List ℕ)) → manager_of config ≡ None → IsSound config → SaysNothing config → HasStarted 0 (handed_in_after_connect config word draw later (Cmd (name ∷ args)))
+command_started config word draw later name args stays sound silent = any_started config word draw later (Cmd (name ∷ args)) (λ e. cc) refl refl stays sound silent
 
 -- a pipeline whose first command has a name
-pub pipeline_started : (config : Config) (word draw later : ℕ) (name : List ℕ) (args : List (List ℕ)) (more : List (List (List ℕ))) → IsSound config → SaysNothing config → HasStarted 0 (handed_in_after_connect config word draw later (Pipe ((name ∷ args) ∷ more)))
-pipeline_started config word draw later name args more sound silent = any_started config word draw later (Pipe ((name ∷ args) ∷ more)) (λ e. cc) refl refl sound silent
+pub pipeline_started : (config : Config) (word draw later : ℕ) (name : List ℕ) (args : List (List ℕ)) (more : List (List (List ℕ))) → manager_of config ≡ None → IsSound config → SaysNothing config → HasStarted 0 (handed_in_after_connect config word draw later (Pipe ((name ∷ args) ∷ more)))
+pipeline_started config word draw later name args more stays sound silent = any_started config word draw later (Pipe ((name ∷ args) ∷ more)) (λ e. cc) refl refl stays sound silent
 
 -- a transaction
-pub transaction_started : (config : Config) (word draw later : ℕ) (args : List (List ℕ)) (more : List (List (List ℕ))) → IsSound config → SaysNothing config → HasStarted 0 (handed_in_after_connect config word draw later (Multi (args ∷ more)))
-transaction_started config word draw later args more sound silent = any_started config word draw later (Multi (args ∷ more)) (λ e. cc) refl refl sound silent
+pub transaction_started : (config : Config) (word draw later : ℕ) (args : List (List ℕ)) (more : List (List (List ℕ))) → manager_of config ≡ None → IsSound config → SaysNothing config → HasStarted 0 (handed_in_after_connect config word draw later (Multi (args ∷ more)))
+transaction_started config word draw later args more stays sound silent = any_started config word draw later (Multi (args ∷ more)) (λ e. cc) refl refl stays sound silent

@@ -1,5 +1,5 @@
 -- A turn does the same where one submission's outcome is looked away from, once its message has left the queue.
-use Rattle.std.proofs.Common.{◌≡◌, ◌≢◌, ℕ, ◌+◌, ◌<◌, ◌==◌, List, [], ◌∷◌, ◌++◌, length, Option, Some, None, slice_get, refl, sym, ap, ◌∙◌, arith, length-append}
+use Rattle.std.proofs.Common.{◌≡◌, ◌≢◌, ℕ, ◌<◌, ◌==◌, List, [], ◌∷◌, ◌++◌, length, Option, Some, None, slice_get, refl, sym, ap, ◌∙◌, arith, length-append, false, subst, is_some}
 use Rattle.containers.proofs.Choices.{chosen, either}
 use Rattle.redis_error.specs.declared.redis_error.RedisError.{RedisError}
 use Rattle.redis_error.specs.declared.redis_error.RedisError.TheVariants as error
@@ -12,7 +12,7 @@ use Rattle.driver_model.specs.declared.event.EventKind.TheVariants as event
 use Rattle.driver_model.specs.declared.event.Submission.{Submission}
 use Rattle.driver_model.specs.declared.outcome.Outcome.TheVariants as outcome
 use Rattle.driver_model.specs.News.{news_of}
-use Rattle.driver_model.specs.Kind.{is_single}
+use Rattle.driver_model.specs.Kind.{has_timeouts}
 use Rattle.driver_model.specs.Request.{packed_bytes, shape_of, is_reply_awaited, lacks_resp3}
 use Rattle.mux_conn.specs.declared.act.LinkAct.{LinkAct}
 use Rattle.mux_conn.specs.declared.act.LinkAct.TheVariants as act
@@ -22,12 +22,16 @@ use Rattle.mux_conn.specs.Passes.{passed}
 use Rattle.mux_conn.specs.Turn.{flushed}
 use Rattle.shared_session.specs.declared.core_state.Core.{Core}
 use Rattle.shared_session.specs.Turn.{Turning, work_of, with_work, shut_by, heard, refused_with, pending, asked_for, submitted, left_by, late_by, fired_by, requested, effect, counted, moved_on, whole_effect, timer_of, timers_of, source_of, sources_of, numbered, next_turn}
+use Rattle.shared_session.proofs.Plain.{plain_turn}
+use Rattle.shared_session.proofs.Stays.{turn_plain}
 use Rattle.mux_conn.specs.declared.request.Progress.TheVariants as progress
 use Rattle.cancel_laws.proofs.Requests.{progress_count}
-use Rattle.cancel_laws.proofs.Kept.{other_act, At, AtCore, Unlimited, unlimited_kept, heard_kept, effect_kept, passed_kept, turn_kept}
+use Rattle.cancel_laws.proofs.Kept.{other_act, At, Unlimited, unlimited_kept, passed_kept}
+use Rattle.cancel_laws.proofs.KeptTurns.{AtCore, heard_kept, effect_kept, turn_kept}
 use Rattle.cancel_laws.proofs.Gone.{IsAway, away_kept, away_asks}
 use Rattle.cancel_laws.proofs.Bare.{bare_conn, other_acts, acts_other, bare_applied}
 use Rattle.cancel_laws.proofs.Moved.{bare_asked, bare_left, bare_late, bare_passed, bare_flushed}
+use Rattle.cancel_laws.proofs.Whole.{turn_table}
 
 -- all of a session, but for the number of its turns, for how far request p has come, and whether its verdict is wanted
 abbrev pub bare_core : ℕ → Core → Core
@@ -91,8 +95,11 @@ bare_fired n p t None h = refl
 bare_fired n p t (Some (purpose.Connect l)) h = refl
 bare_fired n p t (Some (purpose.Response owner.Setup)) h = refl
 bare_fired n p t (Some (purpose.Response owner.Auth)) h = refl
+bare_fired n p t (Some (purpose.Response owner.Resub)) h = refl
 bare_fired n p t (Some (purpose.Response owner.Monitor)) h = refl
 bare_fired n p t (Some (purpose.Renewal l k)) h = refl
+bare_fired n p t (Some (purpose.Backoff g)) h = refl
+bare_fired n p t (Some (purpose.Resubscription l)) h = refl
 bare_fired n p t (Some (purpose.Response (owner.Try m round))) h = bare_late_by n p t (slice_get t.core.table m) h
 
 -- what an event is to the submissions
@@ -103,8 +110,8 @@ bare_requested n p t (event.Connected m) l h = refl
 bare_requested n p t (event.Refused m f) l h = refl
 bare_requested n p t (event.Fired m) l h = bare_fired n p t (slice_get t.core.timers m) h
 bare_requested n p t (event.Timeout ms) l h =
-    either (λ (c : Core). record (bare_turning n p t) { core = bare_core p c }) (is_single t.core.kind) (record t.core { timeout = ms }) t.core (record (bare_turning n p t) { core = record (bare_core p t.core) { timeout = ms } }) (bare_turning n p t) (λ y. refl) (λ y. refl)
-    ∙ sym (either (λ (c : Core). record (bare_turning n p t) { core = c }) (is_single t.core.kind) (record (bare_core p t.core) { timeout = ms }) (bare_core p t.core) (record (bare_turning n p t) { core = record (bare_core p t.core) { timeout = ms } }) (bare_turning n p t) (λ y. refl) (λ y. refl))
+    either (λ (c : Core). record (bare_turning n p t) { core = bare_core p c }) (has_timeouts t.core.kind) (record t.core { timeout = ms }) t.core (record (bare_turning n p t) { core = record (bare_core p t.core) { timeout = ms } }) (bare_turning n p t) (λ y. refl) (λ y. refl)
+    ∙ sym (either (λ (c : Core). record (bare_turning n p t) { core = c }) (has_timeouts t.core.kind) (record (bare_core p t.core) { timeout = ms }) (bare_core p t.core) (record (bare_turning n p t) { core = record (bare_core p t.core) { timeout = ms } }) (bare_turning n p t) (λ y. refl) (λ y. refl))
 bare_requested n p t (event.Creds c auth) l h = refl
 bare_requested n p t (event.CredsError c text) l h = refl
 bare_requested n p t (event.CredsEnd c) l h = refl
@@ -130,12 +137,14 @@ bare_moved_on n p t none h =
 -- an outcome asks for no timer
 no_timer : (n l : ℕ) (a : LinkAct) (more : List LinkAct) → timers_of l (other_act n a ++ more) ≡ timer_of l a ++ timers_of l more
 no_timer n l (act.Created e) more = refl
+no_timer n l (act.Round m) more = refl
 no_timer n l (act.Took m count) more = refl
 no_timer n l (act.Timer m ms) more = refl
 no_timer n l (act.Push info) more = refl
 no_timer n l (act.Message m) more = refl
 no_timer n l (act.Monitor v) more = refl
 no_timer n l act.NeedCreds more = refl
+no_timer n l act.NeedRenewals more = refl
 no_timer n l act.Close more = refl
 no_timer n l (act.Write bytes) more = refl
 no_timer n l (act.Wait m kind) more = refl
@@ -152,36 +161,36 @@ timers_same n l [] = refl
 timers_same n l (a ∷ xs) = ap (λ (ps : List Purpose). timer_of l a ++ ps) (timers_same n l xs) ∙ sym (no_timer n l a (other_acts n xs))
 
 -- nor for a source of credentials
-no_source : (n l c : ℕ) (a : LinkAct) (more : List LinkAct) → sources_of l c (other_act n a ++ more) ≡ source_of l c a ++ sources_of l (c + length (source_of l c a)) more
-no_source n l c (act.Created e) more = refl
-no_source n l c (act.Took m count) more = refl
-no_source n l c (act.Timer m ms) more = refl
-no_source n l c (act.Push info) more = refl
-no_source n l c (act.Message m) more = refl
-no_source n l c (act.Monitor v) more = refl
-no_source n l c act.NeedCreds more = refl
-no_source n l c act.Close more = refl
-no_source n l c (act.Write bytes) more = refl
-no_source n l c (act.Wait m kind) more = refl
-no_source n l c (act.Start message m need len) more = refl
-no_source n l c (act.SetUp message need len) more = refl
-no_source n l c (act.RenewalTimer k ms) more = refl
-no_source n l c (act.Renewed message need len) more = refl
-no_source n l c (act.Watch message need len) more = refl
-no_source n l c (act.Outcome m o) more =
-    let same : c ≡ c + 0 = omega arith in
-    chosen (λ (xs : List LinkAct). sources_of l c (xs ++ more) ≡ sources_of l (c + 0) more) (m == n) [] (act.Outcome m o ∷ []) (λ t. ap (λ (k : ℕ). sources_of l k more) same) (λ f. refl)
+no_source : (n l : ℕ) (a : LinkAct) (more : List LinkAct) → sources_of l (other_act n a ++ more) ≡ source_of l a ++ sources_of l more
+no_source n l (act.Created e) more = refl
+no_source n l (act.Round m) more = refl
+no_source n l (act.Took m count) more = refl
+no_source n l (act.Timer m ms) more = refl
+no_source n l (act.Push info) more = refl
+no_source n l (act.Message m) more = refl
+no_source n l (act.Monitor v) more = refl
+no_source n l act.NeedCreds more = refl
+no_source n l act.NeedRenewals more = refl
+no_source n l act.Close more = refl
+no_source n l (act.Write bytes) more = refl
+no_source n l (act.Wait m kind) more = refl
+no_source n l (act.Start message m need len) more = refl
+no_source n l (act.SetUp message need len) more = refl
+no_source n l (act.RenewalTimer k ms) more = refl
+no_source n l (act.Renewed message need len) more = refl
+no_source n l (act.Watch message need len) more = refl
+no_source n l (act.Outcome m o) more = chosen (λ (xs : List LinkAct). sources_of l (xs ++ more) ≡ sources_of l more) (m == n) [] (act.Outcome m o ∷ []) (λ t. refl) (λ f. refl)
 
 -- so the sources of a turn are those of all other acts
-sources_same : (n l c : ℕ) (xs : List LinkAct) → sources_of l c xs ≡ sources_of l c (other_acts n xs)
-sources_same n l c [] = refl
-sources_same n l c (a ∷ xs) = ap (λ (us : List SourceUse). source_of l c a ++ us) (sources_same n l (c + length (source_of l c a)) xs) ∙ sym (no_source n l c a (other_acts n xs))
+sources_same : (n l : ℕ) (xs : List LinkAct) → sources_of l xs ≡ sources_of l (other_acts n xs)
+sources_same n l [] = refl
+sources_same n l (a ∷ xs) = ap (λ (us : List SourceUse). source_of l a ++ us) (sources_same n l xs) ∙ sym (no_source n l a (other_acts n xs))
 
 -- the timers and the sources get their numbers
 bare_numbered : (n p : ℕ) (t : Turning) → bare_turning n p (numbered t) ≡ numbered (bare_turning n p t)
 bare_numbered n p t =
     let ps = timers_same n t.core.single.link t.acts in
-    let us = sources_same n t.core.single.link (length t.core.sources) t.acts in
+    let us = sources_same n t.core.single.link t.acts in
     λ i. record (bare_turning n p t) { core = record (bare_core p t.core) { timers = t.core.timers ++ ps i; sources = t.core.sources ++ us i } }
 
 -- that permits aren't counted stays so where the event has had its effect
@@ -190,11 +199,10 @@ unlimited_effect t kind none =
     effect_kept unlimited_kept t (record { ask = λ lim r life ms xs h. h; refuse = λ lim r life ms xs o h. h }) kind none
 
 -- a whole turn
-bare_turn : (n p : ℕ) (c : Core) (kind : EventKind) → n < length c.table → AtCore Unlimited c → AtCore (IsAway n p) c → bare_turning n p (next_turn c kind) ≡ numbered (whole_effect (record { core = bare_core p c; acts = [] }) kind)
-unfolding next_turn
-bare_turn n p c kind l none h =
+bare_turn : (n p : ℕ) (c : Core) (kind : EventKind) → is_some c.manager ≡ false → n < length c.table → AtCore Unlimited c → AtCore (IsAway n p) c → bare_turning n p (next_turn c kind) ≡ numbered (whole_effect (record { core = bare_core p c; acts = [] }) kind)
+bare_turn n p c kind plain l none h =
     let t = counted c in
-    bare_numbered n p (whole_effect t kind)
+    ap (bare_turning n p) (plain_turn c kind plain) ∙ bare_numbered n p (whole_effect t kind)
     ∙ ap numbered
     (bare_moved_on n p (effect t kind) (unlimited_effect t kind none) (effect_kept (away_kept n p) t (away_asks n p (length c.table) (above n c.table l)) kind h)
     ∙ ap moved_on (bare_effect n p t kind l h))
@@ -228,10 +236,13 @@ more_requested n t (event.Fired m) l = more_fired (slice_get t.core.timers m)
     more_fired (Some (purpose.Connect k)) = l
     more_fired (Some (purpose.Response owner.Setup)) = l
     more_fired (Some (purpose.Response owner.Auth)) = l
+    more_fired (Some (purpose.Response owner.Resub)) = l
     more_fired (Some (purpose.Response owner.Monitor)) = l
     more_fired (Some (purpose.Renewal link k)) = l
+    more_fired (Some (purpose.Backoff g)) = l
+    more_fired (Some (purpose.Resubscription link)) = l
     more_fired (Some (purpose.Response (owner.Try k round))) = more_late (slice_get t.core.table k)
-more_requested n t (event.Timeout ms) l = chosen (λ (c : Core). n < length c.table) (is_single t.core.kind) (record t.core { timeout = ms }) t.core (λ y. l) (λ y. l)
+more_requested n t (event.Timeout ms) l = chosen (λ (c : Core). n < length c.table) (has_timeouts t.core.kind) (record t.core { timeout = ms }) t.core (λ y. l) (λ y. l)
 more_requested n t (event.Creds c auth) l = l
 more_requested n t (event.CredsError c text) l = l
 more_requested n t (event.CredsEnd c) l = l
@@ -245,11 +256,11 @@ more_requested n t event.DropStream l = l
 
 -- nor does a turn
 pub more_after : (n : ℕ) (c : Core) (kind : EventKind) → n < length c.table → n < length (next_turn c kind).core.table
-unfolding next_turn
-more_after n c kind l = more_requested n (heard (counted c) kind) kind l
+more_after n c kind l = subst (λ (table : List (Option Pending)). n < length table) (sym (turn_table c kind)) (more_requested n (heard (counted c) kind) kind l)
 
--- two sessions that count no permits, and that are alike but for submission n, whose message has left the queue of both
+-- two sessions that don't come back, count no permits, and are alike but for submission n, whose message has left the queue of both
 pub record AreAlike (n p : ℕ) (c d : Core) : Type 0 where
+  pub plain : is_some c.manager ≡ false
   pub same : bare_core p c ≡ bare_core p d
   pub unlimited : AtCore Unlimited c
   pub unlimited_too : AtCore Unlimited d
@@ -258,30 +269,38 @@ pub record AreAlike (n p : ℕ) (c d : Core) : Type 0 where
   pub gone : AtCore (IsAway n p) c
   pub gone_too : AtCore (IsAway n p) d
 
+-- neither does
+pub plain_too : (n p : ℕ) (c d : Core) → AreAlike n p c d → is_some d.manager ≡ false
+plain_too n p c d h = sym (ap (λ (x : Core). is_some x.manager) h.same) ∙ h.plain
+
 -- a turn of each does the same
 pub turns_same : (n p : ℕ) (c d : Core) (kind : EventKind) → AreAlike n p c d → bare_turning n p (next_turn c kind) ≡ bare_turning n p (next_turn d kind)
 turns_same n p c d kind h =
-    bare_turn n p c kind h.within h.unlimited h.gone ∙ ap (λ (x : Core). numbered (whole_effect (record { core = x; acts = [] }) kind)) h.same
-    ∙ sym (bare_turn n p d kind h.within_too h.unlimited_too h.gone_too)
+    bare_turn n p c kind h.plain h.within h.unlimited h.gone ∙ ap (λ (x : Core). numbered (whole_effect (record { core = x; acts = [] }) kind)) h.same
+    ∙ sym (bare_turn n p d kind (plain_too n p c d h) h.within_too h.unlimited_too h.gone_too)
 
 -- the message stays gone
-pub turn_gone : (n p : ℕ) (c : Core) (kind : EventKind) → n < length c.table → AtCore (IsAway n p) c → AtCore (IsAway n p) (next_turn c kind).core
-turn_gone n p c kind l h =
-    let k = turn_kept (away_kept n p) c (away_asks n p (length c.table) (above n c.table l)) kind h in
+pub turn_gone : (n p : ℕ) (c : Core) (kind : EventKind) → is_some c.manager ≡ false → n < length c.table → AtCore (IsAway n p) c → AtCore (IsAway n p) (next_turn c kind).core
+turn_gone n p c kind plain l h =
+    let k = turn_kept (away_kept n p) c plain (away_asks n p (length c.table) (above n c.table l)) kind h in
     record { gone = k.gone; unmoved = k.unmoved }
 
 -- and permits aren't counted
-pub turn_unlimited : (c : Core) (kind : EventKind) → AtCore Unlimited c → AtCore Unlimited (next_turn c kind).core
-turn_unlimited c kind none = turn_kept unlimited_kept c (record { ask = λ lim r life ms xs h. h; refuse = λ lim r life ms xs o h. h }) kind none
+pub turn_unlimited : (c : Core) (kind : EventKind) → is_some c.manager ≡ false → AtCore Unlimited c → AtCore Unlimited (next_turn c kind).core
+turn_unlimited c kind plain none = turn_kept unlimited_kept c plain (record { ask = λ lim r life ms xs h. h; refuse = λ lim r life ms xs o h. h }) kind none
 
 -- so they stay alike
 pub alike_turn : (n p : ℕ) (c d : Core) (kind : EventKind) → AreAlike n p c d → AreAlike n p (next_turn c kind).core (next_turn d kind).core
-alike_turn n p c d kind h = record {
-  same = ap (λ (t : Turning). t.core) (turns_same n p c d kind h);
-  unlimited = turn_unlimited c kind h.unlimited;
-  unlimited_too = turn_unlimited d kind h.unlimited_too;
-  within = more_after n c kind h.within;
-  within_too = more_after n d kind h.within_too;
-  gone = turn_gone n p c kind h.within h.gone;
-  gone_too = turn_gone n p d kind h.within_too h.gone_too;
-}
+alike_turn n p c d kind h =
+    let plain = h.plain in
+    let also = plain_too n p c d h in
+    record {
+      plain = turn_plain c kind ∙ plain;
+      same = ap (λ (t : Turning). t.core) (turns_same n p c d kind h);
+      unlimited = turn_unlimited c kind plain h.unlimited;
+      unlimited_too = turn_unlimited d kind also h.unlimited_too;
+      within = more_after n c kind h.within;
+      within_too = more_after n d kind h.within_too;
+      gone = turn_gone n p c kind plain h.within h.gone;
+      gone_too = turn_gone n p d kind also h.within_too h.gone_too;
+    }

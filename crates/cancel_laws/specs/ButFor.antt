@@ -5,7 +5,7 @@ use Rattle.driver_model.specs.declared.action.Action.TheVariants as action
 use Rattle.link_core.specs.declared.message.Entry.{Entry}
 use Rattle.link_core.specs.Link.{LinkState}
 use Rattle.mux_conn.specs.declared.life.Life.{Life}
-use Rattle.mux_conn.specs.declared.life.Life.TheVariants.{Dialing, Wanting, SettingUp, Ready, Ended}
+use Rattle.mux_conn.specs.declared.life.Life.TheVariants.{Resting, Dialing, Wanting, SettingUp, Ready, Ended}
 
 -- an action without the number of its turn
 abbrev pub unnumbered : Action → Action
@@ -17,6 +17,8 @@ unnumbered (action.Push l info) = action.Push l info
 unnumbered (action.Message m) = action.Message m
 unnumbered (action.Monitor v) = action.Monitor v
 unnumbered (action.NeedCreds c l) = action.NeedCreds c l
+unnumbered (action.Generation g) = action.Generation g
+unnumbered (action.Round who l) = action.Round who l
 unnumbered (action.Close l) = action.Close l
 unnumbered (action.Write l bytes) = action.Write l bytes
 unnumbered (action.Wait who kind) = action.Wait who kind
@@ -39,6 +41,8 @@ shown_of n (action.Push l info) = action.Push l info ∷ []
 shown_of n (action.Message m) = action.Message m ∷ []
 shown_of n (action.Monitor v) = action.Monitor v ∷ []
 shown_of n (action.NeedCreds c l) = action.NeedCreds c l ∷ []
+shown_of n (action.Generation g) = action.Generation g ∷ []
+shown_of n (action.Round who l) = action.Round who l ∷ []
 shown_of n (action.Close l) = action.Close l ∷ []
 shown_of n (action.Write l bytes) = action.Write l bytes ∷ []
 shown_of n (action.Wait who kind) = action.Wait who kind ∷ []
@@ -66,6 +70,7 @@ hushed_link p l = record l { row = hushed_each p l.row }
 
 -- the same of a link's life: until it is set up, it has no message of a request
 abbrev pub hushed_life : ℕ → Life → Life
+hushed_life p Resting = Resting
 hushed_life p Dialing = Dialing
 hushed_life p (Wanting l) = Wanting l
 hushed_life p (SettingUp l greeting) = SettingUp l greeting

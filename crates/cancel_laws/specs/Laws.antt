@@ -4,7 +4,7 @@ use Rattle.driver_model.specs.declared.config.Config.{Config}
 use Rattle.driver_model.specs.declared.event.Event.{Event}
 use Rattle.driver_model.specs.declared.event.Submission.{Submission}
 use Rattle.driver_model.specs.declared.outcome.Outcome.{Outcome}
-use Rattle.driver_model.specs.Config.{hearing_of, permits}
+use Rattle.driver_model.specs.Config.{hearing_of, manager_of, permits}
 use Rattle.driver_model.specs.Hearing.{hears_messages}
 use Rattle.driver_model.specs.Request.{lacks_resp3}
 use Rattle.mux_conn.specs.declared.life.Life.{Life}
@@ -25,6 +25,11 @@ life_after config word events = (state_after config word events).single.connecti
 abbrev pub HasNoLimit : Config → Type 0
 HasNoLimit config = permits config ≡ None
 
+-- the session doesn't come back. One that does may begin a new generation with the outcome of the request that was cancelled, as where its link
+-- ends on RESP2, and not without it
+abbrev pub HasOneLink : Config → Type 0
+HasOneLink config = manager_of config ≡ None
+
 -- the cancel of n is not bad there
 abbrev pub CancelIsGood : Type 0
 CancelIsGood =
@@ -34,7 +39,7 @@ CancelIsGood =
 -- without a limit it changes no other submission's outcome, whatever comes after
 abbrev pub OthersKeepOutcomes : Type 0
 OthersKeepOutcomes =
-    (config : Config) (word draw n m : ℕ) (before after : List Event) → HasNoLimit config
+    (config : Config) (word draw n m : ℕ) (before after : List Event) → HasOneLink config → HasNoLimit config
     → HasStarted n (state_after config word before) → m ≢ n
     → outcome_after config word (before ++ after) m ≡ outcome_after config word (before ++ cancel_of draw n ∷ after) m
 
@@ -48,14 +53,14 @@ CancelledGetsNone =
 -- message stands where it stood among all other outcomes
 abbrev pub TurnsGoOn : Type 0
 TurnsGoOn =
-    (config : Config) (word draw n : ℕ) (before after : List Event) → HasNoLimit config
+    (config : Config) (word draw n : ℕ) (before after : List Event) → HasOneLink config → HasNoLimit config
     → HasStarted n (state_after config word before)
     → GoesOn config word n before (cancel_of draw n) after
 
 -- without a limit each item goes to the same message, where n's own is not wanted
 abbrev pub ItemsGoTheSameWay : Type 0
 ItemsGoTheSameWay =
-    (config : Config) (word draw n : ℕ) (before after : List Event) → HasNoLimit config
+    (config : Config) (word draw n : ℕ) (before after : List Event) → HasOneLink config → HasNoLimit config
     → (h : HasStarted n (state_after config word before))
     → hushed_life h.pending.number (life_after config word (before ++ after))
     ≡ life_after config word (before ++ cancel_of draw n ∷ after)
@@ -63,7 +68,7 @@ ItemsGoTheSameWay =
 -- without a limit the same events are bad
 abbrev pub SameAreBad : Type 0
 SameAreBad =
-    (config : Config) (word draw n : ℕ) (before after : List Event) (e : Event) → HasNoLimit config
+    (config : Config) (word draw n : ℕ) (before after : List Event) (e : Event) → HasOneLink config → HasNoLimit config
     → HasStarted n (state_after config word before)
     → is_bad_after config word (before ++ after) e ≡ is_bad_after config word (before ++ cancel_of draw n ∷ after) e
 
@@ -75,11 +80,11 @@ StartsOnFreeLink s =
     → (let c = (state_after config word before).single.connection in lacks_resp3 c.hears c.info.protocol s ≡ false)
     → HasStarted (length (state_after config word before).table) (state_after config word (before ++ handed_in_at draw s ∷ []))
 
--- a submission has started where it is the first that is handed in, after the link's connect, nothing of the configuration
--- is refused, no credentials are to come of a source, and nothing is to be said to the server before it
+-- a submission has started where it is the first that is handed in, after the link's connect, the session doesn't come back, nothing
+-- of the configuration is refused, no credentials are to come of a source, and nothing is to be said to the server before it
 abbrev pub StartsWhereHandedIn : Submission → Type 0
 StartsWhereHandedIn s =
-    (config : Config) (word draw later : ℕ) → IsSound config → SaysNothing config
+    (config : Config) (word draw later : ℕ) → HasOneLink config → IsSound config → SaysNothing config
     → HasStarted 0 (handed_in_after_connect config word draw later s)
 
 -- so has one that is handed in on a link of publish/subscribe, also where a server of any other link has to speak RESP3 for it

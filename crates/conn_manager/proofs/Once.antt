@@ -18,7 +18,6 @@ use Rattle.mux_conn.specs.Effects as effects
 use Rattle.mux_conn.specs.Passes as passes
 use Rattle.mux_conn.specs.Turn as conn_turn
 use Rattle.manager_generations.specs.declared.act.ManagerAct.TheVariants as act
-use Rattle.manager_generations.specs.declared.act.ManagerWait.{ManagerWait}
 use Rattle.manager_generations.specs.declared.generations.Generations.{Generations}
 use Rattle.conn_manager.specs.declared.manager.ConnectionManager.{ConnectionManager}
 use Rattle.manager_generations.specs.declared.phase.Phase.{Phase}
@@ -152,10 +151,12 @@ starts_keep m message p need len = chosen (Keeps m) (p == resubscription_name) _
 
 noted_keeps : (m : ConnectionManager) (draw : ℕ) (a : LinkAct) → Keeps m (noted m draw a)
 noted_keeps m draw (link_act.Created e) = opened_keeps m draw e
+noted_keeps m draw (link_act.Round p) = itself m
 noted_keeps m draw (link_act.Took p count) = generations_keep m _
 noted_keeps m draw (link_act.Timer p ms) = generations_keep m _
 noted_keeps m draw (link_act.RenewalTimer k ms) = generations_keep m _
 noted_keeps m draw link_act.NeedCreds = generations_keep m _
+noted_keeps m draw link_act.NeedRenewals = generations_keep m _
 noted_keeps m draw (link_act.Push info) = generations_keep m _
 noted_keeps m draw (link_act.Message msg) = itself m
 noted_keeps m draw (link_act.Monitor v) = itself m
@@ -252,14 +253,14 @@ rounds_keep m draw =
 passed_keeps : (m : ConnectionManager) (draw : ℕ) → Keeps m (passed m draw)
 passed_keeps m draw = onward m (connection_passed m draw) (passed m draw) (moved_keeps m draw (passes.passed (work_with m.conn []))) (rounds_keep (connection_passed m draw) draw)
 
-shown_keeps : (m : ConnectionManager) (kind : ManagerWait) (ps : List ℕ) → Keeps m (wait_shown_each m kind ps)
+shown_keeps : (m : ConnectionManager) (kind : WaitKind) (ps : List ℕ) → Keeps m (wait_shown_each m kind ps)
 shown_keeps m kind [] = itself m
 shown_keeps m kind (p ∷ ps) =
     let next = wait_shown m kind p in
     onward m next (wait_shown_each next kind ps)
     (chosen (Keeps m) (is_held_at m.stages p) _ _ (λ _. generations_keep m _) (λ _. itself m)) (shown_keeps next kind ps)
 
-held_shown_keeps : (m : ConnectionManager) (kind : Option ManagerWait) → Keeps m (held_shown_as m kind)
+held_shown_keeps : (m : ConnectionManager) (kind : Option WaitKind) → Keeps m (held_shown_as m kind)
 held_shown_keeps m None = alike m (with_wait m None) refl refl
 held_shown_keeps m (Some kind) = onward m (with_wait m (Some kind)) _ (alike m (with_wait m (Some kind)) refl refl) (shown_keeps (with_wait m (Some kind)) kind (to_show m kind))
 

@@ -4,7 +4,7 @@ use Rattle.containers.proofs.Choices.{chosen, either}
 use Rattle.redis_error.specs.declared.redis_error.RedisError.{RedisError}
 use Rattle.redis_error.specs.declared.redis_error.RedisError.TheVariants as error
 use Rattle.resp_write.specs.Pack.{pack_pipeline}
-use Rattle.mux_client.specs.Calls.{shape_inside}
+use Rattle.driver_model.specs.Shape.{shape_inside}
 use Rattle.sub_tracker.specs.Pipeline.{resubscription}
 use Rattle.driver_model.specs.News.{News, shut}
 use Rattle.driver_model.specs.declared.action.WaitKind.{WaitKind}
@@ -19,7 +19,6 @@ use Rattle.mux_conn.specs.Passes as passes
 use Rattle.mux_conn.specs.Turn as conn_turn
 use Rattle.manager_generations.specs.declared.act.ManagerAct.{ManagerAct}
 use Rattle.manager_generations.specs.declared.act.ManagerAct.TheVariants as act
-use Rattle.manager_generations.specs.declared.act.ManagerWait.{ManagerWait}
 use Rattle.manager_generations.specs.declared.generations.Generations.{Generations}
 use Rattle.conn_manager.specs.declared.manager.ConnectionManager.{ConnectionManager}
 use Rattle.manager_generations.specs.declared.phase.Phase.{Phase}
@@ -130,10 +129,12 @@ starting_goes m message p need len = chosen (Goes m) (p == resubscription_name) 
 
 notes : (m : ConnectionManager) (draw : ℕ) (a : LinkAct) → Goes m (noted m draw a)
 notes m draw (link_act.Created e) = opens m draw e
+notes m draw (link_act.Round p) = itself m
 notes m draw (link_act.Took p count) = says m _
 notes m draw (link_act.Timer p ms) = says m _
 notes m draw (link_act.RenewalTimer k ms) = says m _
 notes m draw link_act.NeedCreds = says m _
+notes m draw link_act.NeedRenewals = says m _
 notes m draw (link_act.Push info) = says m _
 notes m draw (link_act.Message msg) = itself m
 notes m draw (link_act.Monitor v) = itself m
@@ -234,14 +235,14 @@ runs_rounds m draw =
 passes_on : (m : ConnectionManager) (draw : ℕ) → Goes m (passed m draw)
 passes_on m draw = onward m (connection_passed m draw) (passed m draw) (moves_on m draw (passes.passed (work_with m.conn []))) (runs_rounds (connection_passed m draw) draw)
 
-shows_each : (m : ConnectionManager) (kind : ManagerWait) (ps : List ℕ) → Goes m (wait_shown_each m kind ps)
+shows_each : (m : ConnectionManager) (kind : WaitKind) (ps : List ℕ) → Goes m (wait_shown_each m kind ps)
 shows_each m kind [] = itself m
 shows_each m kind (p ∷ ps) =
     let next = wait_shown m kind p in
     onward m next (wait_shown_each next kind ps)
     (chosen (Goes m) (is_held_at m.stages p) _ _ (λ _. says m _) (λ _. itself m)) (shows_each next kind ps)
 
-shows_held : (m : ConnectionManager) (kind : Option ManagerWait) → Goes m (held_shown_as m kind)
+shows_held : (m : ConnectionManager) (kind : Option WaitKind) → Goes m (held_shown_as m kind)
 shows_held m None = alike m (with_wait m None) refl
 shows_held m (Some kind) =
     let next = with_wait m (Some kind) in

@@ -1,6 +1,6 @@
 -- What a manager is told, as plain data.
 use Rattle.std.specs.Prelude.{ℕ, Bool, true, false}
-use Rattle.driver_model.specs.News.{News, silence, connected, refused, overdue, took, came, failed, authorized, denied, deserted, renewed, unrenewed, late, dropped, shut, told}
+use Rattle.driver_model.specs.News.{News, silence, connected, refused, overdue, took, came, failed, authorized, denied, deserted, renewed, unrenewed, late, unrepeated, dropped, shut, told}
 use Rattle.conn_manager.specs.declared.event.ManagerNews.{ManagerNews}
 use Rattle.conn_manager.specs.declared.event.ManagerNews.TheVariants as news
 
@@ -39,4 +39,5 @@ is_shutting deserted = false
 is_shutting (renewed c) = false
 is_shutting unrenewed = false
 is_shutting (late k) = false
+is_shutting unrepeated = false
 is_shutting dropped = false

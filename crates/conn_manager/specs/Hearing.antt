@@ -15,7 +15,6 @@ use Rattle.manager_generations.specs.declared.act.ManagerTimer.TheVariants as ti
 use Rattle.conn_manager.specs.declared.manager.ConnectionManager.{ConnectionManager}
 use Rattle.manager_generations.specs.Generations as generations
 use Rattle.conn_manager.specs.Manager.{pending, with_generations, said, link_of, answered, failure_answered}
-use Rattle.manager_generations.specs.Waits.{wait_of}
 
 -- the name of the request that subscribes again: no other has it
 abbrev pub resubscription_name : ℕ
@@ -52,7 +51,7 @@ came_to m p o = if p == resubscription_name then resubscribed m else answered m 
 
 -- a request of the connection waits
 abbrev pub waits : ConnectionManager → ℕ → WaitKind → ConnectionManager
-waits m p kind = if p == resubscription_name then m else said m (act.Wait (pending p) (wait_of kind))
+waits m p kind = if p == resubscription_name then m else said m (act.Wait (pending p) kind)
 
 -- its message starts
 abbrev pub starts : ConnectionManager → ℕ → ℕ → ℕ → ℕ → ConnectionManager
@@ -60,13 +59,16 @@ starts m message p need len =
     let link = link_of m.generations in
     if p == resubscription_name then said m (act.Resubscribe link message need len) else said m (act.Start link message (pending p) need len)
 
--- an act of the connection; messages of publish/subscribe and what a server in monitor mode tells don't come on its links
+-- an act of the connection; messages of publish/subscribe and what a server in monitor mode tells don't come on its links, and rounds
+-- are shown as requests are handed to them
 abbrev pub noted : ConnectionManager → ℕ → LinkAct → ConnectionManager
 noted m draw (link_act.Created e) = opened m draw e
+noted m draw (link_act.Round p) = m
 noted m draw (link_act.Took p count) = said m (act.Took (pending p) count)
 noted m draw (link_act.Timer p ms) = said m (act.Timer (timer.Response (pending p)) ms)
 noted m draw (link_act.RenewalTimer k ms) = said m (act.Timer (timer.Renewal (link_of m.generations) k) ms)
 noted m draw link_act.NeedCreds = said m (act.NeedCreds (link_of m.generations))
+noted m draw link_act.NeedRenewals = said m (act.NeedCreds (link_of m.generations))
 noted m draw (link_act.Push info) = said m (act.Push (link_of m.generations) info)
 noted m draw (link_act.Message msg) = m
 noted m draw (link_act.Monitor v) = m

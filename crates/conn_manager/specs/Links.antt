@@ -6,7 +6,7 @@ use Rattle.redis_error.specs.declared.redis_error.RedisError.{RedisError}
 use Rattle.driver_model.specs.News.{News}
 use Rattle.driver_model.specs.declared.outcome.Outcome.TheVariants as outcome
 use Rattle.mux_conn.specs.Internal.{asked_inside}
-use Rattle.mux_client.specs.Calls.{shape_inside}
+use Rattle.driver_model.specs.Shape.{shape_inside}
 use Rattle.sub_tracker.specs.Held.{held_after}
 use Rattle.sub_tracker.specs.Pipeline.{Resubscribes}
 use Rattle.sub_tracker.specs.Subscribed.{Request}

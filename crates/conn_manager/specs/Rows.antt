@@ -17,7 +17,7 @@ use Rattle.manager_config.specs.Config.{default_manager}
 use Rattle.manager_generations.specs.declared.act.ManagerAct.{ManagerAct}
 use Rattle.manager_generations.specs.declared.act.ManagerAct.TheVariants as act
 use Rattle.manager_generations.specs.declared.act.ManagerTimer.TheVariants as timer
-use Rattle.manager_generations.specs.declared.act.ManagerWait.TheVariants as wait
+use Rattle.driver_model.specs.declared.action.WaitKind.TheVariants as wait
 use Rattle.manager_generations.specs.declared.settings.Settings.{Settings}
 use Rattle.conn_manager.specs.Events.{nothing, on_link, rest_over}
 use Rattle.conn_manager.specs.Manager.{pending}

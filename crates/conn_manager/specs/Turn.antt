@@ -8,12 +8,10 @@ use Rattle.mux_conn.specs.Internal.{asked_inside}
 use Rattle.mux_conn.specs.Passes as passes
 use Rattle.mux_conn.specs.Requests.{asked}
 use Rattle.mux_conn.specs.Turn as conn_turn
-use Rattle.mux_client.specs.Calls.{shape_inside}
+use Rattle.driver_model.specs.Shape.{shape_inside}
 use Rattle.sub_tracker.specs.Pipeline.{resubscription}
 use Rattle.manager_generations.specs.declared.act.ManagerAct.TheVariants as act
 use Rattle.manager_generations.specs.declared.act.ManagerTimer.TheVariants as timer
-use Rattle.manager_generations.specs.declared.act.ManagerWait.{ManagerWait}
-use Rattle.manager_generations.specs.declared.act.ManagerWait.TheVariants as wait
 use Rattle.conn_manager.specs.declared.manager.ConnectionManager.{ConnectionManager}
 use Rattle.manager_generations.specs.declared.phase.Phase.{Phase}
 use Rattle.manager_generations.specs.declared.phase.Phase.TheVariants.{Idle, Opening, Resting, Resubscribing, Ready, Lost, Failed}
@@ -25,7 +23,9 @@ use Rattle.manager_generations.specs.Generations.{begun, begins_next, rested, re
 use Rattle.conn_manager.specs.Hearing.{affected, timed_out, moved_on, resubscription_name}
 use Rattle.conn_manager.specs.Manager.{pending, with_generations, said, link_of, is_current, new_conn, is_held_at, nobody_held, failure_answered, loss_answered}
 use Rattle.manager_generations.specs.Phases.{is_ready, is_resubscribing}
-use Rattle.manager_generations.specs.Waits.{wait_of, wait_code}
+use Rattle.driver_model.specs.Waits.{wait_code}
+use Rattle.driver_model.specs.declared.action.WaitKind.{WaitKind}
+use Rattle.driver_model.specs.declared.action.WaitKind.TheVariants as wait
 
 -- over the link that is asked for, where one is, there is a connection of its own
 abbrev pub reconnected : ConnectionManager → ConnectionManager
@@ -125,8 +125,8 @@ abbrev pub passed : ConnectionManager → ℕ → ConnectionManager
 passed m draw = rounds (connection_passed m draw) draw
 
 -- what those wait for that wait for their generation, whose link has come so far
-abbrev pub held_wait : Phase → Life → Option ManagerWait
-held_wait Opening life = Some (wait_of (conn_turn.early_wait life))
+abbrev pub held_wait : Phase → Life → Option WaitKind
+held_wait Opening life = Some (conn_turn.early_wait life)
 held_wait Resting life = Some wait.Backoff
 held_wait Resubscribing life = Some wait.Resubscribe
 held_wait Idle life = None
@@ -134,10 +134,10 @@ held_wait Ready life = None
 held_wait Lost life = None
 held_wait (Failed e) life = None
 
-abbrev pub wait_shown : ConnectionManager → ManagerWait → ℕ → ConnectionManager
+abbrev pub wait_shown : ConnectionManager → WaitKind → ℕ → ConnectionManager
 wait_shown m kind p = if is_held_at m.stages p then said m (act.Wait (pending p) kind) else m
 
-abbrev pub wait_shown_each : ConnectionManager → ManagerWait → List ℕ → ConnectionManager
+abbrev pub wait_shown_each : ConnectionManager → WaitKind → List ℕ → ConnectionManager
 wait_shown_each m kind [] = m
 wait_shown_each m kind (p ∷ ps) = wait_shown_each (wait_shown m kind p) kind ps
 
@@ -146,19 +146,19 @@ numbers_of [] = []
 numbers_of (q ∷ qs) = q.number ∷ numbers_of qs
 
 -- this wait was shown before
-abbrev pub is_shown : Option ManagerWait → ManagerWait → Bool
+abbrev pub is_shown : Option WaitKind → WaitKind → Bool
 is_shown None kind = false
 is_shown (Some before) kind = wait_code before == wait_code kind
 
 -- whose wait is to be shown: of all where it changed, and else of those that came in this turn
-abbrev pub to_show : ConnectionManager → ManagerWait → List ℕ
+abbrev pub to_show : ConnectionManager → WaitKind → List ℕ
 to_show m kind = if is_shown m.wait kind then m.fresh else numbers_of m.held
 
 -- the wait of those that wait for their generation is this one from now on
-abbrev pub with_wait : ConnectionManager → Option ManagerWait → ConnectionManager
+abbrev pub with_wait : ConnectionManager → Option WaitKind → ConnectionManager
 with_wait m kind = record m { wait = kind; fresh = [] }
 
-abbrev pub held_shown_as : ConnectionManager → Option ManagerWait → ConnectionManager
+abbrev pub held_shown_as : ConnectionManager → Option WaitKind → ConnectionManager
 held_shown_as m None = with_wait m None
 held_shown_as m (Some kind) = wait_shown_each (with_wait m (Some kind)) kind (to_show m kind)
 

@@ -1,5 +1,5 @@
 ghost use Rattle.std.specs.Prelude.{◌≡◌, ◌<◌, ◌^◌, ◌⊎◌, length, true, Some, slice_get, OnOk, IfOk, IsErrOf};
-ghost use Rattle.mux_client.specs.Calls.{shape_inside};
+ghost use Rattle.driver_model.specs.Shape.{shape_inside};
 ghost use Rattle.conn_manager.specs.Events.{happened};
 
 use crate::event::{ManagerNews, is_shutting};

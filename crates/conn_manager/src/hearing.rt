@@ -4,7 +4,7 @@ ghost use Rattle.conn_manager.specs.Manager.{pending};
 use crate::manager::ConnectionManager;
 use containers::Queue;
 use driver_model::{LinkNews, Outcome, WaitKind};
-use manager_generations::{ManagerAct, ManagerTimer, ManagerWait};
+use manager_generations::{ManagerAct, ManagerTimer};
 use mux_conn::{ConnectionError, LinkAct, Pending};
 use redis_error::RedisError;
 use std::alloc::{AllocError, Global};
@@ -104,7 +104,7 @@ impl ConnectionManager {
         }
         self.say(ManagerAct::Wait {
             request: Pending { number: request },
-            wait: ManagerWait::of_link(wait),
+            wait,
         })
     }
 
@@ -143,6 +143,7 @@ impl ConnectionManager {
         let link = self.link();
         match act {
             LinkAct::Created { error } => self.open(alloc, draw, error),
+            LinkAct::Round { request: _ } => Ok(()),
             LinkAct::Took { request, count } => self.say(ManagerAct::Took {
                 request: Pending { number: request },
                 count,
@@ -153,6 +154,7 @@ impl ConnectionManager {
                 ms,
             }),
             LinkAct::NeedCreds => self.say(ManagerAct::NeedCreds { link }),
+            LinkAct::NeedRenewals => self.say(ManagerAct::NeedCreds { link }),
             LinkAct::Push { info } => self.say(ManagerAct::Push { link, info }),
             LinkAct::Message { msg } => {
                 drop(msg);

@@ -24,12 +24,8 @@ pub use laws::{
     turns_move_generations_by_their_causes, what_is_subscribed_again_is_what_is_subscribed,
 };
 pub use manager::ConnectionManager;
-pub use manager_config::{
-    ConnectionManagerConfig, ManagerGetters, ManagerKind, ManagerSettings, backoff_ms,
-};
-pub use manager_generations::{
-    Generations, ManagerAct, ManagerTimer, ManagerWait, Phase, Settings,
-};
-pub use mux_client::SendError;
+pub use manager_config::{ConnectionManagerConfig, backoff_ms};
+pub use manager_generations::{Generations, ManagerAct, ManagerTimer, Phase, Settings};
+pub use mux_client::{ManagerGetters, SendError};
 pub use mux_conn::{ConnectionError, Pending};
 pub use request::{Call, HeldRequest, Stage};

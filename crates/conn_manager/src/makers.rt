@@ -51,8 +51,8 @@ pub(crate) fn connection(
     alloc: Global,
     config: AsyncConnectionConfig,
     told: RedisConnectionInfo,
-) -> Core
-    ensures { result ≡ connection_of config told }
+) -> Result<Core, AllocError>
+    ensures { IfOk result (λ conn. conn ≡ connection_of config told) }
 {
     let renewal = Renewal::new(alloc, config.credentials_provider, config.response_timeout);
     Core::new(
@@ -77,11 +77,12 @@ fn blank(
 {
     let kept = info.clone(alloc)?;
     let told = info.clone(alloc)?;
+    let conn = connection(alloc, settings.config.connection, told)?;
     let resp3 = info.protocol.supports_resp3();
     Ok(ConnectionManager {
         info: kept,
         generations: Generations::new(alloc, settings, resp3, created),
-        conn: connection(alloc, settings.config.connection, told),
+        conn,
         stages: Seq::new(alloc),
         outcomes: Seq::new(alloc),
         calls: Seq::new(alloc),
@@ -158,6 +159,7 @@ impl ConnectionManager {
             Life::Ready { link } => count <= link.offered_len(),
             Life::SettingUp { link, greeting: _ } => count <= link.offered_len(),
             Life::Wanting { link } => count <= link.offered_len(),
+            Life::Resting => true,
             Life::Dialing => true,
             Life::Ended { error: _ } => true,
         }

@@ -4,8 +4,8 @@ use crate::makers::connection;
 use crate::request::{Call, HeldRequest, Stage};
 use connection_info::RedisConnectionInfo;
 use containers::{Queue, Seq};
-use driver_model::Outcome;
-use manager_generations::{Generations, ManagerAct, ManagerWait};
+use driver_model::{Outcome, WaitKind};
+use manager_generations::{Generations, ManagerAct};
 use mux_conn::{ConnectionError, MultiplexedConnection as Core, Pending};
 use std::alloc::{AllocError, Global};
 use sub_tracker::SubscriptionTracker;
@@ -30,7 +30,7 @@ pub struct ConnectionManager {
     /// Those of them whose wait hasn't been shown.
     pub fresh: Queue<u32>,
     /// What was shown that they wait for.
-    pub wait: Option<ManagerWait>,
+    pub wait: Option<WaitKind>,
     /// What is subscribed.
     pub tracker: SubscriptionTracker,
     /// Why every call fails, if it does: a call was refused memory, or a number has run out.
@@ -96,7 +96,7 @@ impl ConnectionManager {
         ensures { OnOk result (self.new ≡ reconnected self.old) }
     {
         let told = self.info.clone(alloc)?;
-        self.conn = connection(alloc, self.generations.settings.config.connection, told);
+        self.conn = connection(alloc, self.generations.settings.config.connection, told)?;
         Ok(())
     }
 

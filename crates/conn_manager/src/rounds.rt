@@ -5,7 +5,8 @@ use crate::hearing::RESUBSCRIPTION;
 use crate::manager::ConnectionManager;
 use crate::request::{HeldRequest, Stage};
 use containers::Queue;
-use manager_generations::{ManagerAct, ManagerWait, Phase};
+use driver_model::WaitKind;
+use manager_generations::{ManagerAct, Phase};
 use mux_conn::{ConnectionError, Pending};
 use std::alloc::{AllocError, Global};
 
@@ -158,13 +159,13 @@ impl ConnectionManager {
     ghost use Rattle.conn_manager.specs.Turn.{with_wait, held_shown_as, held_shown, flushed};
 
     /// What those wait for that wait for their generation.
-    fn held_wait(&self) -> Option<ManagerWait>
+    fn held_wait(&self) -> Option<WaitKind>
         ensures { result ≡ held_wait self.now.generations.phase self.now.conn.life }
     {
         match &self.generations.phase {
-            Phase::Opening => Some(ManagerWait::of_link(self.conn.life.early_wait())),
-            Phase::Resting => Some(ManagerWait::Backoff),
-            Phase::Resubscribing => Some(ManagerWait::Resubscribe),
+            Phase::Opening => Some(self.conn.life.early_wait()),
+            Phase::Resting => Some(WaitKind::Backoff),
+            Phase::Resubscribing => Some(WaitKind::Resubscribe),
             Phase::Idle => None,
             Phase::Ready => None,
             Phase::Lost => None,
@@ -173,7 +174,7 @@ impl ConnectionManager {
     }
 
     /// Whether this wait was shown before.
-    fn is_shown(&self, wait: ManagerWait) -> bool
+    fn is_shown(&self, wait: WaitKind) -> bool
         ensures { result ≡ is_shown self.now.wait wait }
     {
         match self.wait {
@@ -183,7 +184,7 @@ impl ConnectionManager {
     }
 
     /// The wait of a request is shown, where it waits for its generation.
-    fn show_wait(&mut self, wait: ManagerWait, number: u32) -> Result<(), AllocError>
+    fn show_wait(&mut self, wait: WaitKind, number: u32) -> Result<(), AllocError>
         ensures { OnOk result (self.new ≡ wait_shown self.old wait number) }
     {
         if !self.is_held(number) {
@@ -196,7 +197,7 @@ impl ConnectionManager {
     }
 
     /// The waits of these requests are shown.
-    fn show_each(&mut self, wait: ManagerWait, requests: Queue<u32>) -> Result<(), AllocError>
+    fn show_each(&mut self, wait: WaitKind, requests: Queue<u32>) -> Result<(), AllocError>
         ensures { OnOk result (self.new ≡ wait_shown_each self.old wait requests) }
     {
         let mut rest = requests;
@@ -207,7 +208,7 @@ impl ConnectionManager {
     }
 
     /// Whose wait is to be shown: of all where it changed, and else of those that came in this turn, which are taken out.
-    fn take_unshown(&mut self, alloc: Global, wait: ManagerWait) -> Result<Queue<u32>, AllocError>
+    fn take_unshown(&mut self, alloc: Global, wait: WaitKind) -> Result<Queue<u32>, AllocError>
         ensures value { IfOk result (λ numbers. numbers ≡ to_show self.old wait) }
         ensures rest { OnOk result (self.new ≡ with_wait self.old (Some wait)) }
     {

@@ -114,6 +114,7 @@ fn name(act: &ConnectionAct) -> &'static str {
         ConnectionAct::Created { error: None } => "created",
         ConnectionAct::Created { error: Some(_) } => "failed",
         ConnectionAct::Timer { timer, ms: _ } => timer_name(timer),
+        ConnectionAct::Round { request: _ } => "round",
         ConnectionAct::Took { .. } => "took",
         ConnectionAct::NeedCreds => "need-creds",
         ConnectionAct::Push { info: _ } => "push",
@@ -424,8 +425,12 @@ fn are_words(
     response: Option<Option<u64>>,
 ) -> Result<bool, AllocError> {
     let words = words(alloc, "redis://h/4", config)?;
-    let url = words.url.as_slice() == b"redis://h:6379/4".as_slice();
-    Ok(url && words.connect == None && words.response == response)
+    let url = words.address().url.as_slice() == b"redis://h:6379/4".as_slice();
+    let times = match words.connection() {
+        Some(given) => given.connect == None && given.response == response,
+        None => false,
+    };
+    Ok(url && times)
 }
 
 #[test]

@@ -1,3 +1,4 @@
 pub mod Text
+pub mod Sound
 pub mod Steps
 mod Replies

@@ -6,3 +6,4 @@ pub mod News
 pub mod Config
 pub mod Hearing
 pub mod Kind
+pub mod Waits

@@ -16,7 +16,8 @@ use Rattle.driver_model.specs.declared.news.LinkNews.TheVariants as variant
 -- nothing; its connect succeeded; its connect failed; the time in which it was to be connected is over; so many of the
 -- offered bytes were taken; bytes came; its peer closed it, or a read or a write failed; credentials came for its setup, or there
 -- are none, since its source says this, or has ended; new credentials came, to be told to its server, or no more come; the time
--- for those of this number is over; the stream of messages is dropped; everything is shut down
+-- for those of this number is over; that in which what was subscribed was to be subscribed again is over; the stream of messages is
+-- dropped; everything is shut down
 pub data News : Type 0 where
   silence : News
   connected : News
@@ -31,6 +32,7 @@ pub data News : Type 0 where
   renewed : Credentials → News
   unrenewed : News
   late : ℕ → News
+  unrepeated : News
   dropped : News
   shut : News
 
@@ -44,6 +46,8 @@ of_timer n None = silence
 of_timer n (Some (purpose.Connect l)) = for_link (l == n) overdue
 of_timer n (Some (purpose.Response who)) = silence
 of_timer n (Some (purpose.Renewal l k)) = for_link (l == n) (late k)
+of_timer n (Some (purpose.Backoff g)) = silence
+of_timer n (Some (purpose.Resubscription l)) = for_link (l == n) unrepeated
 
 -- a source with this use was asked for, for the setup of link n
 abbrev pub is_source_of : ℕ → Option SourceUse → Bool
@@ -96,5 +100,6 @@ told variant.Deserted = deserted
 told (variant.Renewed auth) = renewed auth.now
 told variant.Unrenewed = unrenewed
 told (variant.Late k) = late k
+told variant.Unrepeated = unrepeated
 told variant.Dropped = dropped
 told variant.Shut = shut

@@ -70,7 +70,7 @@ abbrev pub is_single_nameless : List (List (List ℕ)) → Bool
 is_single_nameless ([] ∷ []) = true
 is_single_nameless _ = false
 
--- it is about sharded channels, which a single connection has no calls for
+-- it is about sharded channels, which a multiplexed connection has no calls for
 abbrev pub is_sharded : SubscriptionAction → Bool
 is_sharded action.Subscribe = false
 is_sharded action.Unsubscribe = false
@@ -103,5 +103,6 @@ is_foreign (submission.Ping message) = false
 -- a session of this kind has no submission of this form: one in monitor mode has none at all
 abbrev pub has_no_form : SessionKind → Submission → Bool
 has_no_form kind.Single what = is_formless what
+has_no_form (kind.Manager lazy) what = is_formless what
 has_no_form kind.PubSub what = is_foreign what
 has_no_form kind.Monitor what = true

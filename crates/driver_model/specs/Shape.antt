@@ -39,6 +39,10 @@ abbrev pub first_of : List Data → Data
 first_of [] = nil
 first_of (d ∷ ds) = d
 
+-- how so many commands of the driver itself take their items: one as a single command, any other number as a pipeline that keeps all
+abbrev pub shape_inside : ℕ → Shape
+shape_inside n = if n == 1 then Single else Pipeline 0 n false
+
 -- a server error at this position, if it is one
 abbrev pub error_at : ℕ → Data → List (ℕ × ServerError)
 error_at n (error e) = (n, e) ∷ []

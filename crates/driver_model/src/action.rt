@@ -1,4 +1,5 @@
 ghost use Rattle.std.specs.Prelude.{◌≡◌, IfOk};
+ghost use Rattle.driver_model.specs.Waits.{wait_code};
 
 use crate::config::Config;
 use crate::event::Event;
@@ -25,6 +26,8 @@ pub enum Owner {
     Setup,
     /// New credentials, told to the server of a link that is set up.
     Auth,
+    /// What was subscribed, subscribed again on a new link.
+    Resub,
     /// MONITOR, which puts the server of a link into monitor mode.
     Monitor,
 }
@@ -38,12 +41,34 @@ pub enum WaitKind {
     Creds,
     /// The setup of its link is not answered yet.
     Setup,
+    /// What was subscribed is subscribed again on its link, and isn't answered yet.
+    Resubscribe,
+    /// The next attempt to connect hasn't begun.
+    Backoff,
     /// All permits of its connection are held.
     Permit,
     /// The queue of its link holds its size.
     Place,
     /// It has its place, and so many bytes of its link are unwritten that no message starts.
     Room,
+}
+
+impl WaitKind {
+    /// Its place in the list of waits.
+    pub fn code(self) -> u8
+        ensures { result ≡ wait_code self }
+    {
+        match self {
+            WaitKind::Connect => 0,
+            WaitKind::Creds => 1,
+            WaitKind::Setup => 2,
+            WaitKind::Resubscribe => 3,
+            WaitKind::Backoff => 4,
+            WaitKind::Permit => 5,
+            WaitKind::Place => 6,
+            WaitKind::Room => 7,
+        }
+    }
 }
 
 /// What a timer is asked for.
@@ -55,6 +80,10 @@ pub enum Purpose {
     Response { owner: Owner },
     /// The link's new credentials, the first of which have the number 0, are to be answered by then.
     Renewal { link: u32, number: u32 },
+    /// A generation waits behind a failed attempt before its next one.
+    Backoff { generation: u32 },
+    /// What was subscribed is to be subscribed again on the link by then.
+    Resubscription { link: u32 },
 }
 
 /// What a source of credentials is asked for.
@@ -109,6 +138,15 @@ pub enum Action {
     NeedCreds {
         source: u32,
         link: u32,
+    },
+    /// A generation of a manager begins, the first of which has the number 1.
+    Generation {
+        number: u32,
+    },
+    /// A round of a request begins, on this link, if on one.
+    Round {
+        owner: Owner,
+        link: Option<u32>,
     },
     /// The link ended, or is to be closed.
     Close {
@@ -219,6 +257,11 @@ impl Action {
             }
             Action::NeedCreds { source, link } => Ok(Action::NeedCreds {
                 source: *source,
+                link: *link,
+            }),
+            Action::Generation { number } => Ok(Action::Generation { number: *number }),
+            Action::Round { owner, link } => Ok(Action::Round {
+                owner: *owner,
                 link: *link,
             }),
             Action::Close { link } => Ok(Action::Close { link: *link }),

@@ -1,43 +1,45 @@
 ghost use Rattle.std.specs.Prelude.{◌≡◌, Some, None, OnOk, IfOk, IfErr};
-ghost use Rattle.driver_model.specs.Config.{config_of, address, told_info, connect_timeout};
-ghost use Rattle.driver_model.specs.Config.{response_timeout, permits, buffer_size, boundary};
+ghost use Rattle.driver_model.specs.Config.{config_of, kind_of, address_words, connection_words};
+ghost use Rattle.driver_model.specs.Config.{address, told_info, connect_timeout, response_timeout};
+ghost use Rattle.driver_model.specs.Config.{permits, buffer_size, boundary, wants_pushes};
 ghost use Rattle.driver_model.specs.Config.{hearing_of, wants_credentials};
-ghost use Rattle.driver_model.specs.Config.{is_bare, has_line, first_fault, RefusesConfig};
+ghost use Rattle.driver_model.specs.Config.{manager_of, is_lazy, heard_on};
+ghost use Rattle.driver_model.specs.Config.{fault_in, unserved, manager_fault_on, fault_of, first_fault, RefusesConfig};
 ghost use Rattle.driver_model.specs.Hearing.{hears_pushes};
-ghost use Rattle.connection_info.specs.Refusal.{RefusesUrl};
 
+use crate::config_words::{AddressWords, ConnectionWords, ManagerWords};
 use crate::hearing::Hearing;
 use crate::kind::SessionKind;
-use connection_info::{ConnectionInfo, IntoConnectionInfo, OpenError, RedisConnectionInfo};
+use connection_info::{ConnectionInfo, OpenError, ProtocolVersion, RedisConnectionInfo};
 use containers::Bytes;
+use manager_config::ConnectionManagerConfig;
 use redis_error::ConfigName;
 use std::alloc::{AllocError, Global};
 
-/// What a session is made from: the words of the line `config`, each where it was given. A link of publish/subscribe or of
-/// monitor mode goes by its address and by `lib` alone: it has no timers, no permits and no credentials of sources, and its
-/// queue holds whatever comes.
+/// What a session is made from: the words of the line `config`, each where it was given, by what the session is.
 #[derive(Drop)]
-pub struct Config {
-    /// What the session is.
-    pub kind: SessionKind,
-    /// The server's address, a URL as it was given.
-    pub url: Bytes,
-    /// How many milliseconds the connect may take, `Some(None)` for any number. 1,000 where nothing is given.
-    pub connect: Option<Option<u64>>,
-    /// Within how many milliseconds a request is to be answered, `Some(None)` for any number. 500 where nothing is given.
-    pub response: Option<Option<u64>>,
-    /// How many permits the connection has, at least one: a request holds one or more. Any number where nothing is given.
-    pub limit: Option<u32>,
-    /// How many messages the queue of the link holds, at least one. 50 where nothing is given.
-    pub buffer: Option<u32>,
-    /// No message starts while bytes of the link are unwritten, and as many as these. 8,192 where nothing is given.
-    pub boundary: Option<u64>,
-    /// Whether somebody hears the pushes that come. Nobody does where nothing is given. It needs RESP3.
-    pub push: Option<bool>,
-    /// Whether credentials come of a source, as the connection is set up and later. They don't where nothing is given.
-    pub creds: Option<bool>,
-    /// Whether the server is told which library speaks. It is where nothing is given.
-    pub lib: Option<bool>,
+pub enum Config {
+    /// One multiplexed connection.
+    Single {
+        address: AddressWords,
+        connection: ConnectionWords,
+    },
+    /// A multiplexed connection that comes back. A lazy one asks for its first link with its first request.
+    Manager {
+        lazy: bool,
+        address: AddressWords,
+        connection: ConnectionWords,
+        manager: ManagerWords,
+    },
+    /// One link of publish/subscribe: it has no timers, no permits and no credentials of sources, and its queue holds whatever
+    /// comes.
+    PubSub {
+        address: AddressWords,
+    },
+    /// One link in monitor mode, which has none of these either.
+    Monitor {
+        address: AddressWords,
+    },
 }
 
 impl Config {
@@ -45,38 +47,39 @@ impl Config {
     pub fn new(url: Bytes) -> Config
         ensures { result ≡ config_of SessionKind.Single url }
     {
-        Config::of(SessionKind::Single, url)
+        Config::Single {
+            address: AddressWords::new(url),
+            connection: ConnectionWords::new(),
+        }
+    }
+
+    /// A connection that comes back, of which nothing but the address is given.
+    pub fn manager(lazy: bool, url: Bytes) -> Config
+        ensures { result ≡ config_of (SessionKind.Manager lazy) url }
+    {
+        Config::Manager {
+            lazy,
+            address: AddressWords::new(url),
+            connection: ConnectionWords::new(),
+            manager: ManagerWords::new(),
+        }
     }
 
     /// A link of publish/subscribe.
     pub fn pubsub(url: Bytes) -> Config
         ensures { result ≡ config_of SessionKind.PubSub url }
     {
-        Config::of(SessionKind::PubSub, url)
+        Config::PubSub {
+            address: AddressWords::new(url),
+        }
     }
 
     /// A link in monitor mode.
     pub fn monitor(url: Bytes) -> Config
         ensures { result ≡ config_of SessionKind.Monitor url }
     {
-        Config::of(SessionKind::Monitor, url)
-    }
-
-    /// A configuration of which nothing but the kind and the address is given.
-    fn of(kind: SessionKind, url: Bytes) -> Config
-        ensures { result ≡ config_of kind url }
-    {
-        Config {
-            kind,
-            url,
-            connect: None,
-            response: None,
-            limit: None,
-            buffer: None,
-            boundary: None,
-            push: None,
-            creds: None,
-            lib: None,
+        Config::Monitor {
+            address: AddressWords::new(url),
         }
     }
 
@@ -84,78 +87,220 @@ impl Config {
     pub fn clone(&self, alloc: Global) -> Result<Config, AllocError>
         ensures { IfOk result (λ c. c ≡ self.now) }
     {
-        let url = self.url.clone(alloc)?;
-        Ok(Config {
-            kind: self.kind,
-            url,
-            connect: self.connect,
-            response: self.response,
-            limit: self.limit,
-            buffer: self.buffer,
-            boundary: self.boundary,
-            push: self.push,
-            creds: self.creds,
-            lib: self.lib,
-        })
+        match self {
+            Config::Single {
+                address,
+                connection,
+            } => {
+                let address = address.clone(alloc)?;
+                Ok(Config::Single {
+                    address,
+                    connection: *connection,
+                })
+            }
+            Config::Manager {
+                lazy,
+                address,
+                connection,
+                manager,
+            } => {
+                let address = address.clone(alloc)?;
+                Ok(Config::Manager {
+                    lazy: *lazy,
+                    address,
+                    connection: *connection,
+                    manager: *manager,
+                })
+            }
+            Config::PubSub { address } => {
+                let address = address.clone(alloc)?;
+                Ok(Config::PubSub { address })
+            }
+            Config::Monitor { address } => {
+                let address = address.clone(alloc)?;
+                Ok(Config::Monitor { address })
+            }
+        }
+    }
+
+    /// What the session is.
+    pub fn kind(&self) -> SessionKind
+        ensures { result ≡ kind_of self.now }
+    {
+        match self {
+            Config::Single {
+                address: _,
+                connection: _,
+            } => SessionKind::Single,
+            Config::Manager {
+                lazy,
+                address: _,
+                connection: _,
+                manager: _,
+            } => SessionKind::Manager { lazy: *lazy },
+            Config::PubSub { address: _ } => SessionKind::PubSub,
+            Config::Monitor { address: _ } => SessionKind::Monitor,
+        }
+    }
+
+    /// Where the server is.
+    pub fn address(&self) -> &AddressWords
+        ensures { result.now ≡ address_words self.now }
+    {
+        match self {
+            Config::Single {
+                address,
+                connection: _,
+            } => address,
+            Config::Manager {
+                lazy: _,
+                address,
+                connection: _,
+                manager: _,
+            } => address,
+            Config::PubSub { address } => address,
+            Config::Monitor { address } => address,
+        }
+    }
+
+    /// How its connection behaves, where it is a multiplexed one.
+    pub fn connection(&self) -> Option<ConnectionWords>
+        ensures { result ≡ connection_words self.now }
+    {
+        match self {
+            Config::Single {
+                address: _,
+                connection,
+            } => Some(*connection),
+            Config::Manager {
+                lazy: _,
+                address: _,
+                connection,
+                manager: _,
+            } => Some(*connection),
+            Config::PubSub { address: _ } => None,
+            Config::Monitor { address: _ } => None,
+        }
+    }
+
+    /// How it comes back, where it is a connection that does: by what is given, and else by the defaults.
+    pub fn manager_settings(&self) -> Option<ConnectionManagerConfig>
+        ensures { result ≡ manager_of self.now }
+    {
+        match self {
+            Config::Single {
+                address: _,
+                connection: _,
+            } => None,
+            Config::Manager {
+                lazy: _,
+                address: _,
+                connection,
+                manager,
+            } => Some(manager.settings(connection)),
+            Config::PubSub { address: _ } => None,
+            Config::Monitor { address: _ } => None,
+        }
+    }
+
+    /// Whether it asks for its first link with its first request.
+    pub fn is_lazy(&self) -> bool
+        ensures { result ≡ is_lazy self.now }
+    {
+        match self {
+            Config::Single {
+                address: _,
+                connection: _,
+            } => false,
+            Config::Manager {
+                lazy,
+                address: _,
+                connection: _,
+                manager: _,
+            } => *lazy,
+            Config::PubSub { address: _ } => false,
+            Config::Monitor { address: _ } => false,
+        }
     }
 
     /// How many milliseconds the connect may take, if that is bounded.
     pub fn connect_timeout(&self) -> Option<u64>
         ensures { result ≡ connect_timeout self.now }
     {
-        if !self.kind.is_single() {
-            return None;
+        match self.connection() {
+            Some(words) => words.connect.unwrap_or(Some(1000)),
+            None => None,
         }
-        self.connect.unwrap_or(Some(1000))
     }
 
     /// Within how many milliseconds a request is to be answered, if within any.
     pub fn response_timeout(&self) -> Option<u64>
         ensures { result ≡ response_timeout self.now }
     {
-        if !self.kind.is_single() {
-            return None;
+        match self.connection() {
+            Some(words) => words.response.unwrap_or(Some(500)),
+            None => None,
         }
-        self.response.unwrap_or(Some(500))
     }
 
     /// How many permits the connection has, if they are counted.
     pub fn permits(&self) -> Option<u32>
         ensures { result ≡ permits self.now }
     {
-        if !self.kind.is_single() {
-            return None;
+        match self.connection() {
+            Some(words) => words.limit,
+            None => None,
         }
-        self.limit
     }
 
     /// How many messages the queue of the link holds: where it is unbounded, more than there are numbers for submissions.
     pub fn buffer_size(&self) -> u32
         ensures { result ≡ buffer_size self.now }
     {
-        if !self.kind.is_single() {
-            return u32::MAX;
+        match self.connection() {
+            Some(words) => words.buffer.unwrap_or(50),
+            None => u32::MAX,
         }
-        self.buffer.unwrap_or(50)
     }
 
     /// At how many unwritten bytes no message of the link starts.
     pub fn boundary(&self) -> u64
         ensures { result ≡ boundary self.now }
     {
-        if !self.kind.is_single() {
-            return 8192;
+        match self.connection() {
+            Some(words) => words.boundary.unwrap_or(8192),
+            None => 8192,
         }
-        self.boundary.unwrap_or(8192)
+    }
+
+    /// Whether somebody hears the pushes of a multiplexed connection.
+    fn wants_pushes(&self) -> bool
+        ensures { result ≡ wants_pushes self.now }
+    {
+        match self.connection() {
+            Some(words) => words.push.unwrap_or(false),
+            None => false,
+        }
+    }
+
+    /// What is heard on a multiplexed connection, beside the replies to requests.
+    fn heard_on_connection(&self) -> Hearing
+        ensures { result ≡ heard_on (wants_pushes self.now) }
+    {
+        if self.wants_pushes() {
+            Hearing::Pushes
+        } else {
+            Hearing::Nothing
+        }
     }
 
     /// What is heard, beside the replies to requests.
     pub fn hearing(&self) -> Hearing
         ensures { result ≡ hearing_of self.now }
     {
-        match self.kind {
-            SessionKind::Single if self.push.unwrap_or(false) => Hearing::Pushes,
-            SessionKind::Single => Hearing::Nothing,
+        match self.kind() {
+            SessionKind::Single => self.heard_on_connection(),
+            SessionKind::Manager { lazy: _ } => self.heard_on_connection(),
             SessionKind::PubSub => Hearing::Messages,
             SessionKind::Monitor => Hearing::Monitor,
         }
@@ -172,7 +317,10 @@ impl Config {
     pub fn wants_credentials(&self) -> bool
         ensures { result ≡ wants_credentials self.now }
     {
-        self.kind.is_single() && self.creds.unwrap_or(false)
+        match self.connection() {
+            Some(words) => words.creds.unwrap_or(false),
+            None => false,
+        }
     }
 
     /// What is said to the server before the first request, where this is its address.
@@ -191,63 +339,75 @@ impl Config {
             username: redis.username,
             password: redis.password,
             protocol: redis.protocol,
-            skip_set_lib_name: !self.lib.unwrap_or(true),
+            skip_set_lib_name: !self.address().lib.unwrap_or(true),
         })
     }
 
-    /// Whether nothing but the kind, the address and the library is given.
-    fn is_bare(&self) -> bool
-        ensures { result ≡ is_bare self.now }
+    /// The name of what is refused first where its address is this one, and nothing comes back: pushes that somebody hears on a
+    /// connection of RESP2, a limit of no permits, and a queue that holds nothing.
+    fn connection_fault(&self, info: &ConnectionInfo) -> Option<ConfigName>
+        ensures { result ≡ fault_in (Some info.now) (hears_pushes (hearing_of self.now)) (permits self.now) (buffer_size self.now) }
     {
-        self.connect.is_none()
-            && self.response.is_none()
-            && self.limit.is_none()
-            && self.buffer.is_none()
-            && self.boundary.is_none()
-            && self.push.is_none()
-            && self.creds.is_none()
+        if self.hears_pushes() && !info.redis.protocol.supports_resp3() {
+            return Some(ConfigName::Push);
+        }
+        if self.permits() == Some(0) {
+            return Some(ConfigName::Limit);
+        }
+        if self.buffer_size() == 0 {
+            return Some(ConfigName::Buffer);
+        }
+        None
     }
 
-    /// Whether its kind has all that is given: a link of publish/subscribe or of monitor mode has an address and a library.
-    pub fn has_line(&self) -> bool
-        ensures { result ≡ has_line self.now }
+    /// The name of what is refused first where its address is this one.
+    fn fault_at(&self, info: &ConnectionInfo) -> Option<ConfigName>
+        ensures { result ≡ fault_of (manager_of self.now) (Some info.now) self.now }
     {
-        self.kind.is_single() || self.is_bare()
-    }
-
-    /// The server's address. A URL that isn't one is refused.
-    #[tactic(auto, using(crate::proofs::Text::utf8_true, crate::proofs::Text::utf8_false))]
-    fn read_address(&self, alloc: Global) -> Result<ConnectionInfo, OpenError>
-        ensures ok { IfOk result (λ info. address self.now ≡ Some info) }
-        ensures err { IfErr result (RefusesUrl (address self.now ≡ None)) }
-    {
-        match str::from_utf8(self.url.as_slice()) {
-            Ok(text) => text.into_connection_info(alloc),
-            Err(_) => Err(OpenError::Config(ConfigName::Url)),
+        match self.manager_settings() {
+            Some(settings) => manager_fault(&settings, info.redis.protocol),
+            None => self.connection_fault(info),
         }
     }
 
-    /// The server's address, where nothing of the configuration is refused. Else the name of what is refused first: words that its
-    /// kind doesn't have, a URL that isn't an address, pushes that somebody hears on a connection of RESP2, a limit of no permits, and a queue that holds
-    /// nothing.
+    /// The server's address, where nothing of the configuration is refused. Else the name of what is refused first: a URL that
+    /// isn't an address; what is subscribed again where nobody hears pushes, and delays that grow by a fraction without a
+    /// denominator; pushes that somebody hears on a connection of RESP2, a limit of no permits, and a queue that holds nothing; and
+    /// then one that subscribes again what is subscribed.
     pub fn info(&self, alloc: Global) -> Result<ConnectionInfo, OpenError>
         ensures ok { IfOk result (λ info. address self.now ≡ Some info) }
         ensures sound { OnOk result (first_fault self.now ≡ None) }
         ensures err { IfErr result (RefusesConfig self.now) }
     {
-        if !self.has_line() {
-            return Err(OpenError::Config(ConfigName::Kind));
+        let info = self.address().read(alloc)?;
+        match self.fault_at(&info) {
+            Some(fault) => Err(OpenError::Config(fault)),
+            None => Ok(info),
         }
-        let info = self.read_address(alloc)?;
-        if self.hears_pushes() && !info.redis.protocol.supports_resp3() {
-            return Err(OpenError::Config(ConfigName::Push));
-        }
-        if self.permits() == Some(0) {
-            return Err(OpenError::Config(ConfigName::Limit));
-        }
-        if self.buffer_size() == 0 {
-            return Err(OpenError::Config(ConfigName::Buffer));
-        }
-        Ok(info)
+    }
+}
+
+/// The name of what is refused first of a manager that behaves so on a connection of this protocol: one that subscribes again what is
+/// subscribed isn't served, where nothing else is refused of it.
+fn manager_fault(
+    settings: &ConnectionManagerConfig,
+    protocol: ProtocolVersion,
+) -> Option<ConfigName>
+    ensures { result ≡ manager_fault_on protocol settings.now }
+{
+    match settings.first_fault(protocol) {
+        Some(fault) => Some(fault),
+        None => unserved(settings.automatic_resubscription()),
+    }
+}
+
+/// One that subscribes again isn't served.
+fn unserved(subscribes: bool) -> Option<ConfigName>
+    ensures { result ≡ unserved subscribes }
+{
+    if subscribes {
+        Some(ConfigName::Kind)
+    } else {
+        None
     }
 }

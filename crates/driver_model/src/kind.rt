@@ -1,11 +1,13 @@
 ghost use Rattle.std.specs.Prelude.{◌≡◌};
-ghost use Rattle.driver_model.specs.Kind.{is_single};
+ghost use Rattle.driver_model.specs.Kind.{has_timeouts};
 
 /// What a session is.
 #[derive(Clone, Copy, PartialEq, Eq)]
 pub enum SessionKind {
     /// One multiplexed connection.
     Single,
+    /// A multiplexed connection that comes back. A lazy one asks for its first link with its first request.
+    Manager { lazy: bool },
     /// One link of publish/subscribe.
     PubSub,
     /// One link in monitor mode.
@@ -13,9 +15,9 @@ pub enum SessionKind {
 }
 
 impl SessionKind {
-    /// Whether it is one multiplexed connection.
-    pub fn is_single(self) -> bool
-        ensures { result ≡ is_single self }
+    /// Whether an event sets the time within which its later requests are to be answered.
+    pub fn has_timeouts(self) -> bool
+        ensures { result ≡ has_timeouts self }
     {
         matches!(self, SessionKind::Single)
     }

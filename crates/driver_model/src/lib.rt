@@ -4,6 +4,7 @@
 mod action;
 mod commands;
 mod config;
+mod config_words;
 mod event;
 mod hearing;
 mod kind;
@@ -19,6 +20,7 @@ mod verdicts;
 pub use action::{Action, Cause, Owner, Purpose, SourceUse, WaitKind};
 pub use commands::Commands;
 pub use config::Config;
+pub use config_words::{AddressWords, ConnectionWords, ManagerWords};
 pub use event::{Event, EventKind, Submission};
 pub use hearing::{Hearing, Notice};
 pub use kind::SessionKind;

@@ -46,6 +46,8 @@ pub enum LinkNews<'a> {
     Unrenewed,
     /// The time in which its credentials of this number were to be answered is over.
     Late { number: u32 },
+    /// The time in which what was subscribed was to be subscribed again is over.
+    Unrepeated,
     /// The stream of messages is dropped.
     Dropped,
     /// Everything is closed.
@@ -73,6 +75,7 @@ fn fired(timers: &[Purpose], timer: u32, link: u32) -> LinkNews<'static>
             link: named,
             number,
         } if named == link => LinkNews::Late { number },
+        Purpose::Resubscription { link: named } if named == link => LinkNews::Unrepeated,
         _ => LinkNews::Silence,
     }
 }

@@ -155,6 +155,7 @@ impl Submission {
     {
         match kind {
             SessionKind::Single => self.is_formless(),
+            SessionKind::Manager { lazy: _ } => self.is_formless(),
             SessionKind::PubSub => self.is_foreign(),
             SessionKind::Monitor => true,
         }

@@ -2,7 +2,7 @@
 #![tactic(auto)]
 
 use containers::{Bytes, Names};
-use driver_model::{Config, Event, Outcome, Submission};
+use driver_model::{AddressWords, Config, ConnectionWords, Event, Outcome, Submission};
 use resp_write::canonical_text;
 use shared_session::{MakeError, Session, StepError};
 use std::alloc::{AllocError, Global};
@@ -19,8 +19,13 @@ const SUBMISSION: u32 = 0;
 /// A session for one connection, whose opening `opening` gains.
 fn open(alloc: Global, opening: &mut Vec<driver_model::Action>) -> Result<Session, MakeError> {
     let url = Bytes::from_slice(alloc, b"redis://localhost:6379")?;
-    let mut config = Config::new(url);
-    config.lib = Some(false);
+    let config = Config::Single {
+        address: AddressWords {
+            url,
+            lib: Some(false),
+        },
+        connection: ConnectionWords::new(),
+    };
     Session::new(alloc, config, 0, opening)
 }
 

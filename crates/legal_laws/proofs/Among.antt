@@ -1,25 +1,22 @@
 -- Where what is told stands among the outcomes: behind those of messages that were full before it came, and before those of messages
 -- that take an item behind it.
-use Rattle.std.proofs.Common.{◌≡◌, ◌≢◌, ◌⊎◌, inl, inr, ℕ, zero, suc, ◌+◌, ◌<◌, ◌≤◌, ◌==◌, Bool, true, false, ◌&&◌, not, List, [], ◌∷◌, ◌++◌, length, take, Option, Some, None, is_some, refl, sym, ◌∙◌, ap, subst, arith}
+use Rattle.std.proofs.Common.{◌≡◌, ◌≢◌, ◌⊎◌, inl, inr, ℕ, zero, suc, ◌+◌, ◌<◌, ◌≤◌, ◌==◌, true, false, ◌&&◌, List, [], ◌∷◌, ◌++◌, length, take, Option, Some, None, refl, sym, ◌∙◌, ap, subst, arith}
 use Rattle.std.proofs.lemmas.List.{take-append-le, take_all, length_push}
 use Rattle.std.specs.Prelude.{slice_get}
-use Rattle.containers.proofs.Choices.{by_test, chosen, eq_from, eq_test, le_from, le_test, not_le_from, not_le_test}
+use Rattle.containers.proofs.Choices.{by_test, chosen, eq_test, le_from, le_test, not_le_from, not_le_test}
 use Rattle.redis_error.specs.declared.redis_error.RedisError.TheVariants as error
 use Rattle.driver_model.specs.declared.action.Action.{Action}
 use Rattle.driver_model.specs.declared.action.Action.TheVariants as action
-use Rattle.driver_model.specs.declared.action.Cause.TheVariants as cause
 use Rattle.driver_model.specs.declared.action.Owner.TheVariants as owner
 use Rattle.driver_model.specs.declared.config.Config.{Config}
 use Rattle.driver_model.specs.declared.event.Event.{Event}
-use Rattle.driver_model.specs.declared.event.EventKind.{EventKind}
-use Rattle.driver_model.specs.declared.event.EventKind.TheVariants as event
 use Rattle.driver_model.specs.declared.outcome.Outcome.{Outcome}
 use Rattle.driver_model.specs.declared.hearing.Notice.{Notice}
 use Rattle.driver_model.specs.Hearing.{hears_something}
-use Rattle.driver_model.specs.News.{News, silence, connected, refused, overdue, took, came, failed, dropped, shut, authorized, denied, deserted, renewed, unrenewed, late}
-use Rattle.legal_trace.specs.Ledger.{Ledger, Heard, Line, Start, asks, hears, begins, offers, tells, ends, parts, noted, noted_each, with_news, refused_in, bytes_came, is_over, dials, reach, reached, is_full, is_full_by, next_notice, sources, awaits_credentials, authorized_by, times, may_renew, renewed_by, unrenewed_by, is_renewal_open, lost_by}
-use Rattle.legal_trace.specs.Story.{Story, Try, last_of, is_open, handed_in, left, holds, clocked, fires, tried, waits, answered}
-use Rattle.legal_trace.specs.Book.{Book, blank_book, book, entered, entered_each, current, is_clock_of, after_event, is_unspoken, message_of, if_mine, lines_of, lines_of_each, hearing_in}
+use Rattle.driver_model.specs.News.{News, silence, connected, refused, overdue, took, came, failed, dropped, shut, authorized, denied, deserted, renewed, unrenewed, late, unrepeated}
+use Rattle.legal_trace.specs.Ledger.{Ledger, Heard, Line, Start, asks, hears, begins, offers, tells, ends, parts, noted, noted_each, with_news, refused_in, bytes_came, is_over, dials, reach, reached, is_full, is_full_by, next_notice, sources, awaits_credentials, authorized_by, times, may_renew, renewed_by, unrenewed_by, is_renewal_open, lost_by, is_repeating, unrepeated_by, repeats_timed}
+use Rattle.legal_trace.specs.Story.{Try, last_of}
+use Rattle.legal_trace.specs.Book.{Book, blank_book, book, entered, entered_each, message_of, if_mine, lines_of, lines_of_each, hearing_in}
 use Rattle.legal_trace.specs.Legal.{MayStand, MayNotify, MayAnswer, MayTell, AllStand, IsOpen, IsBefore, is_heard, Legal}
 use Rattle.legal_trace.proofs.Books.{stand_front, stand_behind, book_append}
 use Rattle.legal_trace.proofs.Ledgers.{each_keeps, reach_alike, reach_more, takes_one}
@@ -29,14 +26,13 @@ use Rattle.legal_trace.proofs.Plain.{not_none, same_some}
 use Rattle.legal_laws.specs.Notices.{Tells, HasMessage, TellsInOrder}
 use Rattle.legal_laws.proofs.Configured.{config_kept}
 use Rattle.legal_laws.proofs.Heard.{between_at, between_behind, came_grows, InRow, in_row, IsBeyond, beyond_keeps}
-use Rattle.legal_laws.proofs.Held.{not_open}
 use Rattle.legal_laws.proofs.Leaving.{outcome_is_open}
 use Rattle.legal_laws.proofs.Lines.{told_behind}
+use Rattle.legal_laws.proofs.Messages.{StartsNow, message_from}
 use Rattle.legal_laws.proofs.Next.{on_its_link}
-use Rattle.legal_laws.proofs.Numbers.{HasStories, open_is_numbered}
+use Rattle.legal_laws.proofs.Numbers.{open_is_numbered}
 use Rattle.legal_laws.proofs.Notices.{telling}
 use Rattle.legal_laws.proofs.Sound.{Sound, stays_sound, stay_sound, sound_behind}
-use Rattle.legal_laws.proofs.Tales.{last_behind}
 
 -- a message that started takes as many items with those before it, whatever comes
 pub record TakesUpTo (k count : ℕ) (l : Ledger) : Type 0 where
@@ -59,12 +55,13 @@ takes_hears k count l turn deserted h = h
 takes_hears k count l turn (renewed c) h = chosen (TakesUpTo k count) (may_renew l) (renewed_by l c) l (λ t. record { started = h.started; takes = h.takes }) (λ e. h)
 takes_hears k count l turn unrenewed h = chosen (TakesUpTo k count) l.up (unrenewed_by l) l (λ t. record { started = h.started; takes = h.takes }) (λ e. h)
 takes_hears k count l turn (late i) h = chosen (TakesUpTo k count) (l.up && is_renewal_open l i) (lost_by l) l (λ t. record { started = h.started; takes = h.takes }) (λ e. h)
+takes_hears k count l turn unrepeated h = chosen (TakesUpTo k count) (is_repeating l) (unrepeated_by l) l (λ t. record { started = h.started; takes = h.takes }) (λ e. h)
 takes_hears k count l turn dropped h = h
 takes_hears k count l turn shut h = h
 
 -- and with any line
 takes_keeps : (k count : ℕ) (l : Ledger) (x : Line) → TakesUpTo k count l → TakesUpTo k count (noted l x)
-takes_keeps k count l (asks info wanted hearing) h = record { started = h.started; takes = h.takes }
+takes_keeps k count l (asks info wanted hearing last again) h = record { started = h.started; takes = h.takes }
 takes_keeps k count l (hears turn news) h = let m = takes_hears k count l turn news h in record { started = m.started; takes = m.takes }
 takes_keeps k count l (begins s) h = record {
   started = let i : k < length l.starts = h.started in let e = length_push l.starts s in omega arith;
@@ -75,84 +72,8 @@ takes_keeps k count l tells h = record { started = h.started; takes = h.takes }
 takes_keeps k count l (ends turn) h = record { started = h.started; takes = h.takes }
 takes_keeps k count l sources h = record { started = h.started; takes = h.takes }
 takes_keeps k count l times h = record { started = h.started; takes = h.takes }
+takes_keeps k count l repeats_timed h = record { started = h.started; takes = h.takes }
 takes_keeps k count l parts h = record { started = h.started; takes = h.takes }
-
--- message k of link l starts, which is of submission n
-abbrev StartsNow : ℕ → ℕ → ℕ → Action → Type 0
-StartsNow l n k (action.Start m j (owner.Try i round) count len) = (m ≡ l) × (j ≡ k) × (i ≡ n)
-StartsNow l n k _ = ⊥
-
--- a story of submission n: where it is open and its last message is that, it was so before, or starts now
-abbrev IsFrom : Book → Action → ℕ → ℕ → ℕ → Story → Type 0
-IsFrom b a l n k s = is_open s ≡ true → last_of s.tries ≡ Some (record { link = l; message = k }) → (IsOpen b n × HasMessage b n l k) ⊎ StartsNow l n k a
-
--- who has gone is not open
-gone : (p q : Bool) → (p && q && not true) ≡ true → ⊥
-gone true true e = cc e
-gone true false e = cc e
-gone false q e = cc e
-
--- so it is behind an event
-event_from : (b : Book) (a : Action) (l n k : ℕ) (kind : EventKind) → HasStories b → IsFrom b a l n k (after_event b n kind)
-event_from b a l n k (event.Submit what) blank = chosen (IsFrom b a l n k) (b.submissions == n) (handed_in (b.story n) what b.shut (is_unspoken b what) (current b) b.timeout) (b.story n)
-    (λ t o h. absurd (let e : b.submissions ≡ n = eq_from b.submissions n t in
-    not_none (last_of (b.story n).tries) (record { link = l; message = k }) (ap (λ (s : Story). last_of s.tries) (blank n (omega (arith, e)))) h))
-    (λ f o h. inl (o, h))
-event_from b a l n k (event.Cancel m) blank = chosen (IsFrom b a l n k) (m == n) (left (b.story n)) (b.story n)
-    (λ t. chosen (IsFrom b a l n k) (is_open (b.story n)) (record (b.story n) { cancelled = true; permits = 0; waiting = None }) (b.story n)
-    (λ u o h. absurd (gone (is_some (b.story n).submission) (length (b.story n).outcomes == 0) o)) (λ u o h. inl (o, h)))
-    (λ f o h. inl (o, h))
-event_from b a l n k (event.Fired t) blank = chosen (IsFrom b a l n k) (is_clock_of n (slice_get b.timers t)) (fires (b.story n)) (b.story n)
-    (λ e. chosen (IsFrom b a l n k) (is_open (b.story n)) (record (b.story n) { overdue = true }) (b.story n) (λ u o h. inl (o, h)) (λ u o h. inl (o, h)))
-    (λ f o h. inl (o, h))
-event_from b a l n k (event.Connected m) blank = λ o h. inl (o, h)
-event_from b a l n k (event.Refused m f) blank = λ o h. inl (o, h)
-event_from b a l n k (event.Wrote m count) blank = λ o h. inl (o, h)
-event_from b a l n k (event.Bytes m piece) blank = λ o h. inl (o, h)
-event_from b a l n k (event.Ended m) blank = λ o h. inl (o, h)
-event_from b a l n k (event.ReadFault m kind) blank = λ o h. inl (o, h)
-event_from b a l n k (event.WriteFault m kind) blank = λ o h. inl (o, h)
-event_from b a l n k (event.Timeout ms) blank = λ o h. inl (o, h)
-event_from b a l n k (event.Creds c auth) blank = λ o h. inl (o, h)
-event_from b a l n k (event.CredsError c text) blank = λ o h. inl (o, h)
-event_from b a l n k (event.CredsEnd c) blank = λ o h. inl (o, h)
-event_from b a l n k event.DropStream blank = λ o h. inl (o, h)
-event_from b a l n k event.Shutdown blank = λ o h. inl (o, h)
-
--- the last of tries, behind which one more stands
-same_last : (ts : List Try) (m j l k : ℕ) → last_of (ts ++ record { link = m; message = j } ∷ []) ≡ Some (record { link = l; message = k }) → (m ≡ l) × (j ≡ k)
-same_last ts m j l k e =
-    let same : record { link = m; message = j } ≡ record { link = l; message = k } = same_some (record { link = m; message = j }) (record { link = l; message = k }) (sym (last_behind ts (record { link = m; message = j })) ∙ e) in
-    (ap (λ (t : Try). t.link) same, ap (λ (t : Try). t.message) same)
-
--- and behind each action
-message_from : (b : Book) (a : Action) (l n k : ℕ) → HasStories b → IsFrom b a l n k ((entered b a).story n)
-message_from b (action.Turn j (cause.Opening config word)) l n k blank = λ o h. inl (o, h)
-message_from b (action.Turn j (cause.Event e)) l n k blank = event_from b (action.Turn j (cause.Event e)) l n k e.kind blank
-message_from b (action.Connect m host port) l n k blank = λ o h. inl (o, h)
-message_from b (action.Timer t ms what) l n k blank = chosen (IsFrom b (action.Timer t ms what) l n k) (is_clock_of n (Some what)) (clocked (b.story n) t) (b.story n) (λ e o h. inl (o, h)) (λ f o h. inl (o, h))
-message_from b (action.Took owner.Setup m count) l n k blank = λ o h. inl (o, h)
-message_from b (action.Took owner.Auth m count) l n k blank = λ o h. inl (o, h)
-message_from b (action.Took owner.Monitor m count) l n k blank = λ o h. inl (o, h)
-message_from b (action.Took (owner.Try i round) m count) l n k blank = chosen (IsFrom b (action.Took (owner.Try i round) m count) l n k) (i == n) (holds (b.story n) count) (b.story n) (λ e o h. inl (o, h)) (λ f o h. inl (o, h))
-message_from b (action.Push m info) l n k blank = λ o h. inl (o, h)
-message_from b (action.Message msg) l n k blank = λ o h. inl (o, h)
-message_from b (action.Monitor v) l n k blank = λ o h. inl (o, h)
-message_from b (action.NeedCreds c m) l n k blank = λ o h. inl (o, h)
-message_from b (action.Close m) l n k blank = λ o h. inl (o, h)
-message_from b (action.Write m bytes) l n k blank = λ o h. inl (o, h)
-message_from b (action.Wait owner.Setup kind) l n k blank = λ o h. inl (o, h)
-message_from b (action.Wait owner.Auth kind) l n k blank = λ o h. inl (o, h)
-message_from b (action.Wait owner.Monitor kind) l n k blank = λ o h. inl (o, h)
-message_from b (action.Wait (owner.Try i round) kind) l n k blank = chosen (IsFrom b (action.Wait (owner.Try i round) kind) l n k) (i == n) (waits (b.story n) kind) (b.story n) (λ e o h. inl (o, h)) (λ f o h. inl (o, h))
-message_from b (action.Start m j owner.Setup count len) l n k blank = λ o h. inl (o, h)
-message_from b (action.Start m j owner.Auth count len) l n k blank = λ o h. inl (o, h)
-message_from b (action.Start m j owner.Monitor count len) l n k blank = λ o h. inl (o, h)
-message_from b (action.Start m j (owner.Try i round) count len) l n k blank = chosen (IsFrom b (action.Start m j (owner.Try i round) count len) l n k) (i == n) (tried (b.story n) m j) (b.story n)
-    (λ e o h. let same = same_last (b.story n).tries m j l k h in inr (same.0, same.1, eq_from i n e)) (λ f o h. inl (o, h))
-message_from b (action.Created e) l n k blank = λ o h. inl (o, h)
-message_from b (action.Outcome i o) l n k blank = chosen (IsFrom b (action.Outcome i o) l n k) (i == n) (answered (b.story n) o) (b.story n)
-    (λ e open_still h. absurd (not_open (b.story n) o open_still)) (λ f u h. inl (u, h))
 
 -- behind what is told that came when so many items had been dealt: the last message of submission n, where it is open and that is of
 -- its link, takes an item behind it
@@ -195,12 +116,13 @@ dealt_hears count l turn deserted i = i
 dealt_hears count l turn (renewed c) i = chosen (λ (x : Ledger). count ≤ length x.dealt) (may_renew l) (renewed_by l c) l (λ t. i) (λ e. i)
 dealt_hears count l turn unrenewed i = chosen (λ (x : Ledger). count ≤ length x.dealt) l.up (unrenewed_by l) l (λ t. i) (λ e. i)
 dealt_hears count l turn (late k) i = chosen (λ (x : Ledger). count ≤ length x.dealt) (l.up && is_renewal_open l k) (lost_by l) l (λ t. i) (λ e. i)
+dealt_hears count l turn unrepeated i = chosen (λ (x : Ledger). count ≤ length x.dealt) (is_repeating l) (unrepeated_by l) l (λ t. i) (λ e. i)
 dealt_hears count l turn dropped i = i
 dealt_hears count l turn shut i = i
 
 -- nor by any line
 dealt_keeps : (count : ℕ) (l : Ledger) (x : Line) → count ≤ length l.dealt → count ≤ length (noted l x).dealt
-dealt_keeps count l (asks info wanted hearing) i = i
+dealt_keeps count l (asks info wanted hearing last again) i = i
 dealt_keeps count l (hears turn news) i = dealt_hears count l turn news i
 dealt_keeps count l (begins s) i = i
 dealt_keeps count l (offers bytes) i = i
@@ -208,6 +130,7 @@ dealt_keeps count l tells i = i
 dealt_keeps count l (ends turn) i = i
 dealt_keeps count l sources i = i
 dealt_keeps count l times i = i
+dealt_keeps count l repeats_timed i = i
 dealt_keeps count l parts i = i
 
 -- so each action that may stand leaves it
@@ -234,7 +157,7 @@ told_takes : (b : Book) (l n : ℕ) (what : Notice) (p : Heard) → Sound b → 
 told_takes b l n what p sound row may next = record {
   dealt = (between_at 0 (b.link l).notices (length (b.link l).dealt) (b.link l).told p row.rise next).1;
   takes = λ k o has. by_test (is_full_by (b.link l) p.after k) (p.after < reached (b.link l) (k + 1))
-      (λ t. absurd (may.answered n o (on_its_link b n l what sound may) (record {
+      (λ t. absurd (may.answered n o (on_its_link b n l what sound o may) (record {
         try = record { link = l; message = k };
         last = has;
         full = subst (λ (q : Heard). is_full_by (b.link l) q.after k ≡ true) (same_some p may.heard (sym next ∙ may.next)) t;
@@ -295,7 +218,7 @@ answers_before b middle more a l n k o p sound row all is next has full =
     let numbered : n < b.submissions = open_is_numbered b n sound.stories may.asked in
     let some : b.turns ≢ 0 = λ none. let empty : b.submissions ≡ 0 = sound.opens.none_yet (omega (arith, none)) in omega (arith, numbered, empty) in
     let heard : is_heard b ≡ true = sym (ap (λ config. hears_something (hearing_in config)) (config_kept b (answer ∷ middle) front some)) ∙ t.1.is_heard in
-    let on : (b.story n).link ≡ l = sound.goes n ∙ (sym (sound_later.goes n) ∙ on_its_link later n l t.0 sound_later t.1) in
+    let on : (b.story n).link ≡ l = sym ((sound.goes n).tries_on (record { link = l; message = k }) has) in
     let count : ℕ = reached (b.link l) (k + 1) in
     let beyond : IsBeyond count (later.link l) = subst (IsBeyond count) (sym (told_behind b l (answer ∷ middle)))
     (each_keeps (IsBeyond count) (beyond_keeps count) (b.link l) (lines_of_each b l (answer ∷ middle)) (answered_beyond b l n k o row heard on may has full)) in

@@ -1,7 +1,7 @@
 -- How many outcomes the submissions of a legal trace have.
-use Rattle.std.proofs.Common.{◌≡◌, ℕ, ◌≤◌, ◌==◌, Bool, true, false, ◌&&◌, not, ◌⊎◌, List, [], ◌∷◌, ◌++◌, length, Option, Some, None, is_some, inl, inr, ap, sym, subst, ◌∙◌, arith, refl}
+use Rattle.std.proofs.Common.{◌≡◌, ℕ, ◌≤◌, ◌==◌, nat_le, Bool, true, false, ◌&&◌, not, ◌⊎◌, List, [], ◌∷◌, ◌++◌, length, Option, Some, None, is_some, inl, inr, ap, sym, subst, ◌∙◌, arith}
 use Rattle.std.proofs.lemmas.Bool.Decides.{nat_tests}
-use Rattle.containers.proofs.Choices.{left_if, taken_if, not_both}
+use Rattle.containers.proofs.Choices.{by_test, left_if, taken_if, le_from, not_le_from, not_both}
 use Rattle.redis_error.specs.declared.redis_error.RedisError.TheVariants as error
 use Rattle.driver_model.specs.declared.action.Action.{Action}
 use Rattle.driver_model.specs.declared.action.Action.TheVariants as action
@@ -22,8 +22,9 @@ use Rattle.legal_trace.proofs.Moves.{waits_on_a_link}
 use Rattle.legal_laws.proofs.Numbers.{up_is_asked}
 use Rattle.legal_laws.proofs.Shutdown.{none_left}
 use Rattle.legal_laws.proofs.Sound.{Sound, sound_behind}
-use Rattle.legal_trace.specs.Ledger.{End, is_over}
-use Rattle.legal_laws.proofs.Ranks.{none_over}
+use Rattle.legal_trace.specs.Ledger.{is_over}
+use Rattle.legal_laws.proofs.Owes.{shut_owes}
+use Rattle.legal_laws.proofs.Ranks.{up_lives}
 
 -- no submission of a legal trace has a second outcome
 pub at_most_one : (config : Config) (word : ℕ) (events : List Event) (trace : List Action) → Legal config word events trace → AnswersOnce trace
@@ -31,24 +32,25 @@ at_most_one config word events trace h n = ((sound_behind trace h.each).once n).
 
 -- once everything was shut down and the turn is settled, no link is there to wait for
 no_link_left : (b : Book) → Sound b → IsSettled b → b.shut ≡ true → (l : ℕ) → (b.link l).asked ≡ true → (b.link l).end ≡ None → ⊥
-no_link_left b h settled shut l asked end = none_left b settled.written.moved.begun.applied.ended h.shut shut l asked end
+no_link_left b h settled shut l asked end = none_left b settled.written.moved.begun.applied.shown.ended h.shut shut l asked end
 
 -- nor one that is up
 no_link_up : (b : Book) → Sound b → IsSettled b → b.shut ≡ true → (l : ℕ) → (b.link l).up ≡ true → ⊥
 no_link_up b h settled shut l up = no_link_left b h settled shut l (up_is_asked b l h.links up) (h.up l up)
 
 -- nor any wait
-no_wait : (b : Book) (n : ℕ) (kind : WaitKind) → Sound b → IsSettled b → b.shut ≡ true → WaitHolds b n kind → ⊥
-no_wait b n kind h settled shut holds = elim (waits_on_a_link b n kind holds) [
+no_wait : (b : Book) (n : ℕ) (kind : WaitKind) → Sound b → IsSettled b → b.shut ≡ true → IsOpen b n → (b.story n).tries ≡ [] → WaitHolds b n kind → ⊥
+no_wait b n kind h settled shut o none holds = elim (waits_on_a_link b n kind holds) [
   | inl dialing ↦ let d = dials_from (link_of b n) dialing in no_link_left b h settled shut (b.story n).link d.0 (none_from (link_of b n).end d.2)
-  | inr up ↦ no_link_up b h settled shut (b.story n).link up
+  | inr (inl up) ↦ no_link_up b h settled shut (b.story n).link up
+  | inr (inr unasked) ↦ shut_owes b (b.story n) shut unasked none (settled.written.moved.begun.applied.shown.answered n o)
 ]
 
 -- so no submission is open
 none_open : (b : Book) → Sound b → IsSettled b → b.shut ≡ true → (n : ℕ) → IsOpen b n → ⊥
 none_open b h settled shut n o = elim (settled.goes n o) [
   | inl s ↦ no_link_up b h settled shut s.try.link s.up
-  | inr w ↦ no_wait b n w.kind h settled shut w.holds
+  | inr w ↦ no_wait b n w.kind h settled shut o w.unstarted w.holds
 ]
 
 -- a submission that was handed in, has not gone and is not open has an outcome
@@ -62,22 +64,20 @@ exactly_one config word events trace h shut n s there stays =
     by_length ((book trace).story n).outcomes ((book trace).story n).submission ((book trace).story n).cancelled (ap is_some there) stays
     (none_open (book trace) (sound_behind trace h.each) h.settled shut n) (at_most_one config word events trace h n)
 
--- a link that has ended
-over_at : (o : Option End) → is_some o ≡ true → (end : End) × (o ≡ Some end)
-over_at None t = absurd (cc t)
-over_at (Some end) t = (end, refl)
+-- a link that isn't asked for has not ended
+unasked_lives : (b : Book) (l : ℕ) → Sound b → (b.link l).asked ≡ false → is_over (b.link l) ≡ true → ⊥
+unasked_lives b l h unasked over = by_test (nat_le b.links l) ⊥
+    (λ t. not_both (is_over (b.link l)) (ap is_some (h.links.unasked l (le_from b.links l t)).2) over)
+    (λ f. not_both (b.link l).asked unasked (h.links.asked l (not_le_from b.links l f)))
 
--- where the link of a submission has ended, no other is up, since there is one link
-none_up : (b : Book) (n : ℕ) → Sound b → is_over (link_of b n) ≡ true → (l : ℕ) → (b.link l).up ≡ true → ⊥
-none_up b n h over l up = let end = over_at (link_of b n).end over in none_over b l (b.story n).link end.0 h up end.1
-
--- so it isn't open once a turn is over
+-- where the link of a submission has ended, it isn't open once a turn is over
 none_open_over : (b : Book) (n : ℕ) → Sound b → IsSettled b → is_over (link_of b n) ≡ true → IsOpen b n → ⊥
 none_open_over b n h settled over o = elim (settled.goes n o) [
-  | inl s ↦ none_up b n h over s.try.link s.up
+  | inl s ↦ up_lives b s.try.link h (ap (λ l. is_over (b.link l)) ((h.goes n).tries_on s.try s.last) ∙ over) s.up
   | inr w ↦ elim (waits_on_a_link b n w.kind w.holds) [
     | inl dialing ↦ not_both (is_over (link_of b n)) (dials_from (link_of b n) dialing).2 over
-    | inr up ↦ none_up b n h over (b.story n).link up
+    | inr (inl up) ↦ up_lives b (b.story n).link h over up
+    | inr (inr unasked) ↦ unasked_lives b (b.story n).link h unasked over
   ]
 ]
 
@@ -94,7 +94,7 @@ unspoken_owed b n unspoken early = left_if (b.story n).late _ _ early ∙ taken_
 -- so nothing else is answered
 unspoken_answer : (b : Book) (n : ℕ) (o : Outcome) → MayAnswer b n o ⊎ MayTell b n o → (b.story n).unspoken ≡ true → (b.story n).late ≡ false → o ≡ outcome.Fault error.Resp3Required
 unspoken_answer b n o (inl may) unspoken early = same_some o (outcome.Fault error.Resp3Required) (sym may.owes ∙ unspoken_owed b n unspoken early)
-unspoken_answer b n o (inr told) unspoken early = absurd (not_none (owed b n) (outcome.Fault error.Resp3Required) (told.begun.applied.answered n told.asked) (unspoken_owed b n unspoken early))
+unspoken_answer b n o (inr told) unspoken early = absurd (not_none (owed b n) (outcome.Fault error.Resp3Required) (told.begun.applied.shown.answered n told.asked) (unspoken_owed b n unspoken early))
 
 -- in a legal trace
 pub unspoken_refused : (config : Config) (word : ℕ) (events : List Event) (trace : List Action) → Legal config word events trace → RefusesUnspoken trace

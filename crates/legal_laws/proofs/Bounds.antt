@@ -19,6 +19,7 @@ use Rattle.legal_laws.proofs.Configured.{configured_behind}
 use Rattle.legal_trace.proofs.Moves.{inside_has_room, starts_mean, tells_mean, starter_moves, teller_moves}
 use Rattle.legal_laws.proofs.Numbers.{mover_is_numbered}
 use Rattle.legal_laws.proofs.Seated.{IsSeated, seated_behind, told_place}
+use Rattle.legal_laws.proofs.Ranks.{applied_turn}
 use Rattle.legal_laws.proofs.Sound.{Sound, sound_behind}
 use Rattle.legal_laws.proofs.Tales.{unstarted_gets_a_fault}
 
@@ -43,6 +44,7 @@ free_from bound u e = by_test (nat_lt 0 u) ((u ≡ 0) ⊎ (u < bound))
 start_free : (b : Book) (a : Action) (l : ℕ) → MayStand b a → StartsOn l a → IsApplied b × (is_held_back b (b.link l) ≡ false)
 start_free b (action.Start m k owner.Setup count len) l may on = (may.applied, subst (λ j. is_held_back b (b.link j) ≡ false) on may.free)
 start_free b (action.Start m k owner.Auth count len) l may on = (may.applied, subst (λ j. is_held_back b (b.link j) ≡ false) on may.free)
+start_free b (action.Start m k owner.Resub count len) l may on = (may.applied, subst (λ j. is_held_back b (b.link j) ≡ false) on may.free)
 start_free b (action.Start m k owner.Monitor count len) l may on = (may.applied, subst (λ j. is_held_back b (b.link j) ≡ false) on may.free)
 start_free b (action.Start m k (owner.Try n round) count len) l may on =
     (may.1.begun.applied, subst (λ j. is_held_back b (b.link j) ≡ false) (sym may.1.on_its_link ∙ on) (starts_mean b n may.1.starts).2)
@@ -74,7 +76,7 @@ in_place config b n c room = subst (λ o. line_before (permits_in o) b.story (b.
 
 -- where the event was applied, a turn began
 pub applied_began : (b : Book) → Sound b → IsApplied b → b.turns ≢ 0
-applied_began b sound done none = done.created.asked (sound.opens.no_links none)
+applied_began = applied_turn
 
 -- whoever is told without a message is told at its place
 tell_of : (b : Book) (n : ℕ) (o : Outcome) → MayAnswer b n o ⊎ MayTell b n o → (b.story n).tries ≡ [] → is_no_error (o ∷ []) ≡ true → MayTell b n o

@@ -20,6 +20,8 @@ config_stays b (action.Push l info) may some = refl
 config_stays b (action.Message msg) may some = refl
 config_stays b (action.Monitor v) may some = refl
 config_stays b (action.NeedCreds c l) may some = refl
+config_stays b (action.Generation g) may some = refl
+config_stays b (action.Round who l) may some = refl
 config_stays b (action.Close l) may some = refl
 config_stays b (action.Write l bytes) may some = refl
 config_stays b (action.Wait who kind) may some = refl
@@ -33,7 +35,7 @@ turn_began b k (cause.Opening config word) e = omega (arith, e)
 turn_began b k (cause.Event event) e = omega (arith, e)
 
 -- and that stays so
-turns_stay : (b : Book) (a : Action) → b.turns ≢ 0 → (entered b a).turns ≢ 0
+pub turns_stay : (b : Book) (a : Action) → b.turns ≢ 0 → (entered b a).turns ≢ 0
 turns_stay b (action.Turn k c) some = turn_began b k c
 turns_stay b (action.Connect l host port) some = some
 turns_stay b (action.Timer t ms what) some = some
@@ -42,6 +44,8 @@ turns_stay b (action.Push l info) some = some
 turns_stay b (action.Message msg) some = some
 turns_stay b (action.Monitor v) some = some
 turns_stay b (action.NeedCreds c l) some = some
+turns_stay b (action.Generation g) some = some
+turns_stay b (action.Round who l) some = some
 turns_stay b (action.Close l) some = some
 turns_stay b (action.Write l bytes) some = some
 turns_stay b (action.Wait who kind) some = some
@@ -68,6 +72,8 @@ configured_behind b (action.Push l info ∷ front) more config word cs all e non
 configured_behind b (action.Message msg ∷ front) more config word cs all e none some = configured_behind (entered b (action.Message msg)) front more config word cs all.1 e none some
 configured_behind b (action.Monitor v ∷ front) more config word cs all e none some = configured_behind (entered b (action.Monitor v)) front more config word cs all.1 e none some
 configured_behind b (action.NeedCreds c l ∷ front) more config word cs all e none some = configured_behind (entered b (action.NeedCreds c l)) front more config word cs all.1 e none some
+configured_behind b (action.Generation g ∷ front) more config word cs all e none some = configured_behind (entered b (action.Generation g)) front more config word cs all.1 e none some
+configured_behind b (action.Round who l ∷ front) more config word cs all e none some = configured_behind (entered b (action.Round who l)) front more config word cs all.1 e none some
 configured_behind b (action.Close l ∷ front) more config word cs all e none some = configured_behind (entered b (action.Close l)) front more config word cs all.1 e none some
 configured_behind b (action.Write l bytes ∷ front) more config word cs all e none some = configured_behind (entered b (action.Write l bytes)) front more config word cs all.1 e none some
 configured_behind b (action.Wait who kind ∷ front) more config word cs all e none some = configured_behind (entered b (action.Wait who kind)) front more config word cs all.1 e none some

@@ -19,11 +19,14 @@ use Rattle.driver_model.specs.declared.hearing.Hearing.TheVariants as hearing
 use Rattle.driver_model.specs.declared.msg.Msg.{Msg}
 use Rattle.driver_model.specs.Config.{hearing_of}
 use Rattle.driver_model.specs.Hearing.{Taking, answers, taking, array_taken, as_message, bulk_text, plain_text, hears_messages, is_answer_named, is_watching, message_named, message_of, message_taken, push_taken}
-use Rattle.driver_model.specs.News.{News, silence, connected, refused, overdue, took, came, failed, dropped, shut, news_of, authorized, denied, deserted, renewed, unrenewed, late}
+use Rattle.driver_model.specs.News.{News, silence, connected, refused, overdue, took, came, failed, dropped, shut, news_of, authorized, denied, deserted, renewed, unrenewed, late, unrepeated}
 use Rattle.driver_model.specs.Shape.{need_of}
-use Rattle.legal_trace.specs.Ledger.{Ledger, Start, asks, begins, offers, ends, sources, times, noted, with_news, refused_in, bytes_came, is_over, is_of_setup, is_awaiting, is_set_up, cut, dials, items_came, heard_at, reach, reached, setup_count, taking_of, value_by, value_came, awaits_credentials, authorized_by, may_renew, renewed_by, unrenewed_by, is_renewal_open, lost_by}
-use Rattle.legal_trace.specs.Book.{Book, blank_book, book, entered, entered_each, current, hearing_in, info_in, message_of as start_of, wanted_in, is_renewal_of}
+use Rattle.legal_trace.specs.Ledger.{Ledger, Start, asks, begins, offers, ends, sources, noted, with_news, refused_in, bytes_came, is_over, is_of_setup, is_awaiting, is_set_up, cut, dials, items_came, heard_at, reach, reached, setup_count, taking_of, value_by, value_came, awaits_credentials, authorized_by, may_renew, renewed_by, unrenewed_by, is_renewal_open, lost_by, is_repeating, unrepeated_by}
+use Rattle.legal_trace.specs.Managers.{settings_in, is_last}
+use Rattle.legal_trace.specs.Book.{Book, blank_book, book, entered, entered_each, hearing_in, info_in, message_of as start_of, wanted_in}
 use Rattle.legal_trace.specs.Legal.{MayStand, AllStand, Legal}
+use Rattle.legal_trace.specs.Again.{repeats_in}
+use Rattle.legal_trace.proofs.Clocks.{timer_tells}
 use Rattle.legal_trace.proofs.Books.{stand_front}
 use Rattle.legal_trace.proofs.Came.{ValueKeeps, holds_came, value_is, bytes_keep, holds_bytes}
 use Rattle.legal_trace.proofs.Ledgers.{FewAreDealt, few_value, mine_keeps, reach_alike, reached_more, few_keeps}
@@ -32,6 +35,7 @@ use Rattle.legal_trace.proofs.Plain.{item_within, not_none, same_some}
 use Rattle.legal_trace.proofs.Setups.{AreSetups, count_more, count_within, due_is_unset, set_begins, set_stays}
 use Rattle.legal_trace.proofs.Sources.{awaits_unset}
 use Rattle.legal_trace.proofs.Watching.{watch_is_heard}
+use Rattle.legal_trace.proofs.Again.{again_is_set}
 use Rattle.legal_laws.specs.Values.{message_in, named_message, TellsMessages, DealsNoMessage}
 use Rattle.legal_laws.proofs.Bounds.{ready_behind}
 use Rattle.legal_laws.proofs.Pushed.{push_keeps, tell_keeps}
@@ -189,6 +193,7 @@ news_sorted l turn deserted few are h = h
 news_sorted l turn (renewed c) few are h = chosen IsSorted (may_renew l) (renewed_by l c) l (λ t m. sorted_alike l (h m) _ refl refl (λ f. f)) (λ e. h)
 news_sorted l turn unrenewed few are h = chosen IsSorted l.up (unrenewed_by l) l (λ t m. sorted_alike l (h m) _ refl refl (λ f. f)) (λ e. h)
 news_sorted l turn (late k) few are h = chosen IsSorted (l.up && is_renewal_open l k) (lost_by l) l (λ t m. sorted_alike l (h m) _ refl refl (λ f. f)) (λ e. h)
+news_sorted l turn unrepeated few are h = chosen IsSorted (is_repeating l) (unrepeated_by l) l (λ t m. sorted_alike l (h m) _ refl refl (λ f. f)) (λ e. h)
 news_sorted l turn dropped few are h = h
 news_sorted l turn shut few are h = h
 
@@ -227,15 +232,17 @@ other_sorted l s other ready h = record {
 sorted_kept : (b : Book) (l : ℕ) (a : Action) → MayStand b a → Sound b → Sound (entered b a) → IsSorted (b.link l) → IsSorted ((entered b a).link l)
 sorted_kept b l (action.Turn k (cause.Opening config word)) may s after h = h
 sorted_kept b l (action.Turn k (cause.Event e)) may s after h = λ m. let x = news_sorted (b.link l) k (news_of b.timers b.sources l e.kind) (s.few l) (s.shaped l).are h m in record { first = x.first; undealt = x.undealt }
-sorted_kept b l (action.Connect m host port) may s after h = mine_keeps IsSorted (m == l) (b.link l) (asks (info_in b.config) (wanted_in b.config) (hearing_in b.config))
+sorted_kept b l (action.Connect m host port) may s after h = mine_keeps IsSorted (m == l) (b.link l) (asks (info_in b.config) (wanted_in b.config) (hearing_in b.config) (is_last (settings_in b.config) b.attempt) (repeats_in (settings_in b.config) b.tracked))
     (λ t heard. let same : m ≡ l = eq_from m l t in let next : m ≡ b.links = may.next in
-    bare_sorted (noted (b.link l) (asks (info_in b.config) (wanted_in b.config) (hearing_in b.config))) (s.few l) ((s.shaped l).none (s.links.unasked l (omega (arith, same, next))).0)) h
-sorted_kept b l (action.Timer t ms what) may s after h = mine_keeps IsSorted (is_renewal_of l what) (b.link l) times (λ e m. sorted_alike (b.link l) (h m) _ refl refl (λ f. f)) h
+    bare_sorted (noted (b.link l) (asks (info_in b.config) (wanted_in b.config) (hearing_in b.config) (is_last (settings_in b.config) b.attempt) (repeats_in (settings_in b.config) b.tracked))) (s.few l) ((s.shaped l).none (s.links.unasked l (omega (arith, same, next))).0)) h
+sorted_kept b l (action.Timer t ms what) may s after h = timer_tells IsSorted (b.link l) l what (λ on k is e m. sorted_alike (b.link l) (h m) _ refl refl (λ f. f)) (λ on is e m. sorted_alike (b.link l) (h m) _ refl refl (λ f. f)) h
 sorted_kept b l (action.Took who m count) may s after h = h
 sorted_kept b l (action.Push m info) may s after h = push_keeps IsSorted (m == l) info.kind (b.link l) (λ m. sorted_alike (b.link l) (h m) _ refl refl (λ f. f)) (λ m. sorted_alike (b.link l) (h m) _ refl refl (λ f. f)) h
-sorted_kept b l (action.Message msg) may s after h = tell_keeps IsSorted (current b == l) (b.link l) (λ m. sorted_alike (b.link l) (h m) _ refl refl (λ f. f)) h
-sorted_kept b l (action.Monitor v) may s after h = tell_keeps IsSorted (current b == l) (b.link l) (λ m. sorted_alike (b.link l) (h m) _ refl refl (λ f. f)) h
+sorted_kept b l (action.Message msg) may s after h = tell_keeps IsSorted (b.current == l) (b.link l) (λ m. sorted_alike (b.link l) (h m) _ refl refl (λ f. f)) h
+sorted_kept b l (action.Monitor v) may s after h = tell_keeps IsSorted (b.current == l) (b.link l) (λ m. sorted_alike (b.link l) (h m) _ refl refl (λ f. f)) h
 sorted_kept b l (action.NeedCreds c m) may s after h = mine_keeps IsSorted (m == l) (b.link l) sources (λ t m. sorted_alike (b.link l) (h m) _ refl refl (λ f. f)) h
+sorted_kept b l (action.Generation g) may s after h = h
+sorted_kept b l (action.Round who m) may s after h = h
 sorted_kept b l (action.Close m) may s after h = mine_keeps IsSorted (m == l) (b.link l) (ends (b.turns - 1)) (λ t m. sorted_alike (b.link l) (h m) _ refl refl (λ f. f)) h
 sorted_kept b l (action.Write m bytes) may s after h = mine_keeps IsSorted (m == l) (b.link l) (offers bytes) (λ t m. sorted_alike (b.link l) (h m) _ refl refl (λ f. f)) h
 sorted_kept b l (action.Wait who kind) may s after h = h
@@ -244,6 +251,8 @@ sorted_kept b l (action.Start m k owner.Setup count len) may s after h =
     mine_keeps IsSorted (m == l) (b.link l) (begins begun)
     (λ t heard. setup_sorted (b.link l) begun refl (subst (λ j. is_set_up (b.link j) ≡ false) (eq_from m l t) (due_is_unset (b.link m) may.k may.due))
     (few_keeps (b.link l) (begins begun) (s.few l)) (h heard)) h
+sorted_kept b l (action.Start m k owner.Resub count len) may s after h = mine_keeps IsSorted (m == l) (b.link l) (begins (start_of b m owner.Resub))
+    (λ t heard. other_sorted (b.link l) (start_of b m owner.Resub) refl (subst (λ j. is_set_up (b.link j) ≡ true) (eq_from m l t) (again_is_set (b.link m) may.due)) (h heard)) h
 sorted_kept b l (action.Start m k owner.Monitor count len) may s after h = mine_keeps IsSorted (m == l) (b.link l) (begins (start_of b m owner.Monitor))
     (λ t heard. absurd (not_both_heard (b.link l).hearing heard (subst (λ j. is_watching (b.link j).hearing ≡ true) (eq_from m l t) (watch_is_heard (b.link m) may.due)))) h
 sorted_kept b l (action.Start m k owner.Auth count len) may s after h = mine_keeps IsSorted (m == l) (b.link l) (begins (start_of b m owner.Auth))

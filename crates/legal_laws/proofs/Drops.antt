@@ -13,9 +13,12 @@ use Rattle.driver_model.specs.declared.hearing.Hearing.{Hearing}
 use Rattle.driver_model.specs.declared.news.LinkFault.TheVariants as fault
 use Rattle.driver_model.specs.Hearing.{hears_messages}
 use Rattle.driver_model.specs.News.{News, dropped, news_of}
-use Rattle.legal_trace.specs.Ledger.{Ledger, Ending, by_fault, by_opening, asks, hears, begins, offers, ends, sources, times, ending, ending_alive, ending_asked, ending_by, ending_unready, ending_up, error_in, is_over, is_set_up, setup_result, with_news}
-use Rattle.legal_trace.specs.Book.{Book, blank_book, book, entered, entered_each, current, hearing_in, info_in, message_of, wanted_in, is_renewal_of}
+use Rattle.legal_trace.specs.Ledger.{Ledger, Ending, by_fault, by_opening, asks, hears, begins, offers, ends, sources, ending, ending_alive, ending_asked, ending_by, ending_unready, ending_up, error_in, is_over, is_set_up, setup_result, with_news}
+use Rattle.legal_trace.specs.Managers.{settings_in, is_last}
+use Rattle.legal_trace.specs.Book.{Book, blank_book, book, entered, entered_each, hearing_in, info_in, message_of, wanted_in}
 use Rattle.legal_trace.specs.Legal.{MayStand, AllStand, IsSettled, Legal}
+use Rattle.legal_trace.specs.Again.{repeats_in}
+use Rattle.legal_trace.proofs.Clocks.{timer_tells}
 use Rattle.legal_trace.proofs.Books.{stand_front, stand_behind, book_append}
 use Rattle.legal_trace.proofs.Ledgers.{asked_keeps, hears_past, mine_keeps}
 use Rattle.legal_trace.proofs.Plain.{none_from, not_none}
@@ -70,21 +73,23 @@ over_hears l turn news over = by_test (is_over (with_news l turn news)) (is_over
 dropped_kept : (b : Book) (l : ℕ) (a : Action) → MayStand b a → Sound b → IsDropped (b.link l) → IsDropped ((entered b a).link l)
 dropped_kept b l (action.Turn k (cause.Opening config word)) may s h = h
 dropped_kept b l (action.Turn k (cause.Event e)) may s h =
-    let over : is_over (b.link l) ≡ true = dropped_over (b.link l) h (may.is_for.1.written.moved.begun.applied.ended l) in
+    let over : is_over (b.link l) ≡ true = dropped_over (b.link l) h (may.is_for.1.written.moved.begun.applied.shown.ended l) in
     let news : News = news_of b.timers b.sources l e.kind in
     record {
       asked = asked_keeps (b.link l) (hears k news) h.asked;
       messages = ap hears_messages (hears_past (b.link l) k news).hearing ∙ h.messages;
       gone = inl (over_hears (b.link l) k news over);
     }
-dropped_kept b l (action.Connect m host port) may s h = mine_keeps IsDropped (m == l) (b.link l) (asks (info_in b.config) (wanted_in b.config) (hearing_in b.config))
+dropped_kept b l (action.Connect m host port) may s h = mine_keeps IsDropped (m == l) (b.link l) (asks (info_in b.config) (wanted_in b.config) (hearing_in b.config) (is_last (settings_in b.config) b.attempt) (repeats_in (settings_in b.config) b.tracked))
     (λ t. let same : m ≡ l = eq_from m l t in let next : m ≡ b.links = may.next in absurd (not_both (b.link l).asked (s.links.unasked l (omega (arith, same, next))).0 h.asked)) h
-dropped_kept b l (action.Timer t ms what) may s h = mine_keeps IsDropped (is_renewal_of l what) (b.link l) times (λ e. record { asked = h.asked; messages = h.messages; gone = h.gone }) h
+dropped_kept b l (action.Timer t ms what) may s h = timer_tells IsDropped (b.link l) l what (λ on k is e. record { asked = h.asked; messages = h.messages; gone = h.gone }) (λ on is e. record { asked = h.asked; messages = h.messages; gone = h.gone }) h
 dropped_kept b l (action.Took who m count) may s h = h
 dropped_kept b l (action.Push m info) may s h = push_keeps IsDropped (m == l) info.kind (b.link l) (record { asked = h.asked; messages = h.messages; gone = h.gone }) (record { asked = h.asked; messages = h.messages; gone = h.gone }) h
-dropped_kept b l (action.Message msg) may s h = tell_keeps IsDropped (current b == l) (b.link l) (record { asked = h.asked; messages = h.messages; gone = h.gone }) h
-dropped_kept b l (action.Monitor v) may s h = tell_keeps IsDropped (current b == l) (b.link l) (record { asked = h.asked; messages = h.messages; gone = h.gone }) h
+dropped_kept b l (action.Message msg) may s h = tell_keeps IsDropped (b.current == l) (b.link l) (record { asked = h.asked; messages = h.messages; gone = h.gone }) h
+dropped_kept b l (action.Monitor v) may s h = tell_keeps IsDropped (b.current == l) (b.link l) (record { asked = h.asked; messages = h.messages; gone = h.gone }) h
 dropped_kept b l (action.NeedCreds c m) may s h = mine_keeps IsDropped (m == l) (b.link l) sources (λ t. record { asked = h.asked; messages = h.messages; gone = h.gone }) h
+dropped_kept b l (action.Generation g) may s h = h
+dropped_kept b l (action.Round who m) may s h = h
 dropped_kept b l (action.Close m) may s h = mine_keeps IsDropped (m == l) (b.link l) (ends (b.turns - 1)) (λ t. record { asked = h.asked; messages = h.messages; gone = inl refl }) h
 dropped_kept b l (action.Write m bytes) may s h = mine_keeps IsDropped (m == l) (b.link l) (offers bytes) (λ t. record { asked = h.asked; messages = h.messages; gone = h.gone }) h
 dropped_kept b l (action.Wait who kind) may s h = h
@@ -122,4 +127,4 @@ ends_where_dropped config word events trace h front middle more k l e messages i
     let here : book (front ++ turn ∷ middle) ≡ entered_each (entered (book front) turn) middle = book_append front (turn ∷ middle) in
     let settled : IsSettled (book (front ++ turn ∷ middle)) =
     settled_whole config word events (front ++ turn ∷ middle) more (subst (Legal config word events) (sym (append_assoc front (turn ∷ middle) more)) legal) whole in
-    dropped_over ((book (front ++ turn ∷ middle)).link l) (subst (λ (b : Book). IsDropped (b.link l)) (sym here) after) (settled.written.moved.begun.applied.ended l)
+    dropped_over ((book (front ++ turn ∷ middle)).link l) (subst (λ (b : Book). IsDropped (b.link l)) (sym here) after) (settled.written.moved.begun.applied.shown.ended l)

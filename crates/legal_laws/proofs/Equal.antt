@@ -46,32 +46,35 @@ causes_behind (action.Turn k c) s t e = same_tail c c (causes s) (causes t) e
 causes_behind _ s t e = e
 
 -- an outcome comes before a turn is settled
-outcome_below : (b : Book) (n : ℕ) (o : Outcome) (may : MayAnswer b n o ⊎ MayTell b n o) → outcome_rank b n o may < 15
+outcome_below : (b : Book) (n : ℕ) (o : Outcome) (may : MayAnswer b n o ⊎ MayTell b n o) → outcome_rank b n o may < 20
 outcome_below b n o (inl owes) = let i = answer_first (is_over (link_of b n)) in omega arith
 outcome_below b n o (inr told) = omega arith
 
 -- so does a timer
-timer_below : (b : Book) (t ms : ℕ) (what : Purpose) (may : MayTimer b t ms what) → timer_rank b t ms what may < 15
-timer_below b t ms what (inl may) = omega arith
+timer_below : (b : Book) (t ms : ℕ) (what : Purpose) (may : MayTimer b t ms what) → timer_rank b t ms what may < 20
+timer_below b t ms what (inl (inl may)) = omega arith
+timer_below b t ms what (inl (inr may)) = omega arith
 timer_below b t ms what (inr (inl may)) = omega arith
-timer_below b t ms what (inr (inr may)) = omega arith
+timer_below b t ms what (inr (inr (inl may))) = omega arith
+timer_below b t ms what (inr (inr (inr may))) = omega arith
 
 -- all but the next event comes before a turn is settled
-below_the_next : (b : Book) (y : Action) (t : List Action) (may : MayStand b y) → [] ≡ causes (y ∷ t) → rank b y may < 15
+below_the_next : (b : Book) (y : Action) (t : List Action) (may : MayStand b y) → [] ≡ causes (y ∷ t) → rank b y may < 20
 below_the_next b (action.Turn k c) t may e = absurd (is_some_cause c (causes t) e)
 below_the_next b (action.Outcome n o) t may e = outcome_below b n o may
 below_the_next b (action.Timer u ms what) t may e = timer_below b u ms what may
 below_the_next b (action.Push l info) t may e = let i = push_first (is_disconnection info.kind) in omega arith
-below_the_next b (action.Created x) t may e = let i = creation_first x in omega arith
+below_the_next b (action.Created x) t may e = let i = creation_first b x may in omega arith
 below_the_next b (action.Start l k owner.Setup count len) t may e = omega arith
 below_the_next b (action.Start l k owner.Auth count len) t may e = omega arith
+below_the_next b (action.Start l k owner.Resub count len) t may e = omega arith
 below_the_next b (action.Start l k owner.Monitor count len) t may e = omega arith
 below_the_next b (action.Start l k (owner.Try n round) count len) t may e = omega arith
 below_the_next b _ t may e = omega arith
 
 -- where a turn is settled, nothing but a turn may stand
-only_a_turn : (b : Book) (y : Action) (t : List Action) (may : MayStand b y) → Sound b → IsSettled b → [] ≡ causes (y ∷ t) → ⊥
-only_a_turn b y t may h done e = not_done b y may (step_of b (rank b y may) 15 (below_the_next b y t may e) (settled b h done))
+pub only_a_turn : (b : Book) (y : Action) (t : List Action) (may : MayStand b y) → Sound b → IsSettled b → [] ≡ causes (y ∷ t) → ⊥
+only_a_turn b y t may h done e = not_done b y may (step_of b (rank b y may) 20 (below_the_next b y t may e) (settled b h done))
 
 -- behind one book there is one way on
 equal_behind : (b : Book) (s t : List Action) → Sound b → AllStand b s → AllStand b t → causes s ≡ causes t → IsSettled (entered_each b s) → IsSettled (entered_each b t) → s ≡ t

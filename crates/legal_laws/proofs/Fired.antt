@@ -1,5 +1,5 @@
 -- Whoever's timer fired while it was open starts no message.
-use Rattle.std.proofs.Common.{◌≡◌, ◌⊎◌, inl, inr, ℕ, ◌<◌, ◌≤◌, ◌==◌, true, List, [], ◌∷◌, ◌++◌, Some, None, refl, sym, ◌∙◌, subst, arith}
+use Rattle.std.proofs.Common.{◌≡◌, ◌⊎◌, inl, inr, ℕ, ◌<◌, ◌≤◌, ◌==◌, true, List, [], ◌∷◌, ◌++◌, None, refl, sym, ◌∙◌, subst, arith, max}
 use Rattle.std.specs.Prelude.{slice_get}
 use Rattle.containers.proofs.Choices.{by_test, chosen, taken_if, left_if, eq_from, ne_test, not_both}
 use Rattle.driver_model.specs.declared.action.Action.{Action}
@@ -11,8 +11,9 @@ use Rattle.driver_model.specs.declared.event.Event.{Event}
 use Rattle.driver_model.specs.declared.event.EventKind.{EventKind}
 use Rattle.driver_model.specs.declared.event.EventKind.TheVariants as event
 use Rattle.driver_model.specs.declared.outcome.Outcome.{Outcome}
-use Rattle.legal_trace.specs.Story.{Story, is_open, is_unstarted, handed_in, left, holds, clocked, fires, tried, waits, answered}
-use Rattle.legal_trace.specs.Book.{Book, blank_book, book, entered, entered_each, current, is_clock_of, after_event, is_unspoken}
+use Rattle.legal_trace.specs.Story.{Story, is_open, is_unstarted, handed_in, left, holds, rounds, fires, tried, waits, answered}
+use Rattle.legal_trace.specs.Book.{Book, blank_book, book, entered, entered_each, is_clock_of, after_event, is_unspoken}
+use Rattle.legal_trace.proofs.Clocks.{timer_keeps}
 use Rattle.legal_trace.specs.Legal.{MayStand, MayAnswer, MayTell, AllStand, IsOpen, IsApplied, Legal}
 use Rattle.legal_trace.proofs.Books.{stand_front, stand_behind}
 use Rattle.legal_trace.proofs.Plain.{not_empty}
@@ -31,11 +32,11 @@ IsOver s = is_unstarted s ≡ true → (is_open s ≡ true) × (s.overdue ≡ tr
 
 -- so no message of it starts, and it isn't told, where the event has had its effect
 not_over : (b : Book) (n : ℕ) → IsApplied b → is_unstarted (b.story n) ≡ true → IsOver (b.story n) → ⊥
-not_over b n done u h = let over = h u in not_both (b.story n).overdue (nothing_is_owed b (b.story n) (done.answered n over.0)).runs over.1
+not_over b n done u h = let over = h u in not_both (b.story n).overdue (nothing_is_owed b (b.story n) (done.shown.answered n over.0)).runs over.1
 
 -- so it is behind an event
 event_over : (b : Book) (n : ℕ) (kind : EventKind) → n < b.submissions → IsOver (b.story n) → IsOver (after_event b n kind)
-event_over b n (event.Submit what) i h = subst IsOver (sym (left_if (b.submissions == n) (handed_in (b.story n) what b.shut (is_unspoken b what) (current b) b.timeout) (b.story n) (ne_test b.submissions n (omega arith)))) h
+event_over b n (event.Submit what) i h = subst IsOver (sym (left_if (b.submissions == n) (handed_in (b.story n) what b.shut (is_unspoken b what) (max 1 b.generation) b.current b.timeout) (b.story n) (ne_test b.submissions n (omega arith)))) h
 event_over b n (event.Cancel m) i h = chosen IsOver (m == n) (left (b.story n)) (b.story n)
     (λ t. by_test (is_open (b.story n)) (IsOver (left (b.story n))) (λ o u. absurd (leaver_is_done (b.story n) o u))
     (λ o. subst IsOver (sym (left_if (is_open (b.story n)) (record (b.story n) { cancelled = true; permits = 0; waiting = None }) (b.story n) o)) h)) (λ f. h)
@@ -65,23 +66,32 @@ over_kept : (b : Book) (a : Action) → MayStand b a → (n : ℕ) → n < b.sub
 over_kept b (action.Turn k (cause.Opening config word)) may n i h = h
 over_kept b (action.Turn k (cause.Event e)) may n i h = event_over b n e.kind i h
 over_kept b (action.Connect m host port) may n i h = h
-over_kept b (action.Timer t ms what) may n i h = chosen IsOver (is_clock_of n (Some what)) (clocked (b.story n) t) (b.story n) (λ e. h) (λ f. h)
+over_kept b (action.Timer t ms what) may n i h = timer_keeps IsOver b n t what (λ e o. h) (λ e. h) h
 over_kept b (action.Took owner.Setup l count) may n i h = absurd may
 over_kept b (action.Took owner.Auth l count) may n i h = absurd may
+over_kept b (action.Took owner.Resub l count) may n i h = absurd may
 over_kept b (action.Took owner.Monitor l count) may n i h = absurd may
 over_kept b (action.Took (owner.Try m round) l count) may n i h = chosen IsOver (m == n) (holds (b.story n) count) (b.story n) (λ e. h) (λ f. h)
 over_kept b (action.Push m info) may n i h = h
 over_kept b (action.Message msg) may n i h = h
 over_kept b (action.Monitor v) may n i h = h
 over_kept b (action.NeedCreds c m) may n i h = h
+over_kept b (action.Generation g) may n i h = h
+over_kept b (action.Round owner.Setup on) may n i h = absurd may
+over_kept b (action.Round owner.Auth on) may n i h = absurd may
+over_kept b (action.Round owner.Resub on) may n i h = absurd may
+over_kept b (action.Round owner.Monitor on) may n i h = absurd may
+over_kept b (action.Round (owner.Try m round) on) may n i h = chosen IsOver (m == n) (rounds (b.story n)) (b.story n) (λ e. h) (λ f. h)
 over_kept b (action.Close m) may n i h = h
 over_kept b (action.Write m bytes) may n i h = h
 over_kept b (action.Wait owner.Setup kind) may n i h = absurd may
 over_kept b (action.Wait owner.Auth kind) may n i h = absurd may
+over_kept b (action.Wait owner.Resub kind) may n i h = absurd may
 over_kept b (action.Wait owner.Monitor kind) may n i h = absurd may
 over_kept b (action.Wait (owner.Try m round) kind) may n i h = chosen IsOver (m == n) (waits (b.story n) kind) (b.story n) (λ e. h) (λ f. h)
 over_kept b (action.Start l k owner.Setup count len) may n i h = h
 over_kept b (action.Start l k owner.Auth count len) may n i h = h
+over_kept b (action.Start l k owner.Resub count len) may n i h = h
 over_kept b (action.Start l k owner.Monitor count len) may n i h = h
 over_kept b (action.Start l k (owner.Try m round) count len) may n i h = chosen IsOver (m == n) (tried (b.story n) l k) (b.story n)
     (λ e u. absurd (not_empty (b.story n).tries (record { link = l; message = k }) (has_no_tries (tried (b.story n) l k) u))) (λ f. h)

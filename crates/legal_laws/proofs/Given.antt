@@ -18,10 +18,13 @@ use Rattle.driver_model.specs.declared.event.Event.{Event}
 use Rattle.driver_model.specs.declared.event.EventKind.{EventKind}
 use Rattle.driver_model.specs.declared.event.EventKind.TheVariants as event
 use Rattle.driver_model.specs.declared.news.LinkFault.TheVariants as fault
-use Rattle.driver_model.specs.News.{News, silence, connected, refused, overdue, took, came, failed, authorized, denied, deserted, renewed, unrenewed, late, dropped, shut, news_of, for_link, of_timer, of_source, is_source_of, renews}
-use Rattle.legal_trace.specs.Ledger.{Ledger, asks, hears, begins, offers, sources, ends, noted, with_news, refused_in, bytes_came, is_over, dials, lacks_credentials, awaits_credentials, authorized_by, times, may_renew, renewed_by, unrenewed_by, is_renewal_open, lost_by}
-use Rattle.legal_trace.specs.Book.{Book, blank_book, book, entered, info_in, wanted_in, message_of, use_for, is_renewal_of, hearing_in, current}
+use Rattle.driver_model.specs.News.{News, silence, connected, refused, overdue, took, came, failed, authorized, denied, deserted, renewed, unrenewed, late, unrepeated, dropped, shut, news_of, for_link, of_timer, of_source, is_source_of, renews}
+use Rattle.legal_trace.specs.Ledger.{Ledger, asks, hears, begins, offers, sources, ends, noted, with_news, refused_in, bytes_came, is_over, dials, lacks_credentials, awaits_credentials, authorized_by, may_renew, renewed_by, unrenewed_by, is_renewal_open, lost_by, is_repeating, unrepeated_by}
+use Rattle.legal_trace.specs.Managers.{settings_in, is_last}
+use Rattle.legal_trace.specs.Book.{Book, blank_book, book, entered, info_in, wanted_in, message_of, use_for, hearing_in}
 use Rattle.legal_trace.specs.Legal.{MayStand, AllStand, Legal}
+use Rattle.legal_trace.specs.Again.{repeats_in}
+use Rattle.legal_trace.proofs.Clocks.{timer_tells}
 use Rattle.legal_trace.proofs.Books.{Grows, book_more, of_each_front, stand_front}
 use Rattle.legal_trace.proofs.Ledgers.{mine_keeps, hears_past}
 use Rattle.legal_trace.proofs.Moves.{ready_is_set, ready_is_up}
@@ -38,6 +41,7 @@ use Rattle.legal_laws.proofs.Pushed.{push_keeps, tell_keeps}
 use Rattle.legal_laws.proofs.Shaped.{due_is_given, renewal_is_set}
 use Rattle.legal_laws.proofs.Sound.{Sound, sound_behind}
 use Rattle.legal_trace.proofs.Watching.{watch_is_up, watch_is_greeted}
+use Rattle.legal_trace.proofs.Again.{again_is_set, again_is_up}
 
 -- a source of this use is for that link
 source_for : (l : ℕ) (o : Option SourceUse) → is_source_of l o ≡ true → o ≡ Some (source.Setup l)
@@ -75,6 +79,8 @@ adds_sources b (action.NeedCreds d m) may c l e = elim (item_behind b.sources (u
   | inl before ↦ inl before
   | inr new ↦ let same : d ≡ c = may.next ∙ sym new.0 in let mine : m ≡ l = use_is_for b m l new.1 in inr cc
 ]
+adds_sources b (action.Generation g) may c l e = inl e
+adds_sources b (action.Round who m) may c l e = inl e
 adds_sources b (action.Turn k (cause.Opening config word)) may c l e = inl e
 adds_sources b (action.Turn k (cause.Event event)) may c l e = inl e
 adds_sources b (action.Connect m host port) may c l e = inl e
@@ -114,6 +120,8 @@ not_of_timer l None c e = cc e
 not_of_timer l (Some (purpose.Connect m)) c e = not_for_link (m == l) overdue c (λ x. cc x) e
 not_of_timer l (Some (purpose.Response who)) c e = cc e
 not_of_timer l (Some (purpose.Renewal m k)) c e = not_for_link (m == l) (late k) c (λ x. cc x) e
+not_of_timer l (Some (purpose.Backoff g)) c e = cc e
+not_of_timer l (Some (purpose.Resubscription m)) c e = not_for_link (m == l) unrepeated c (λ x. cc x) e
 
 -- nor what comes of a source, where it is none for its setup or its renewals
 not_of_source : (l : ℕ) (o : Option SourceUse) (first later : News) (c : Credentials) → (first ≡ authorized c → ⊥) → (later ≡ authorized c → ⊥) → of_source l o first later ≡ authorized c → ⊥
@@ -171,6 +179,7 @@ hears_given l turn deserted = λ e. inl (e, refl)
 hears_given l turn (renewed c) = chosen (AreGiven l (renewed c)) (may_renew l) (renewed_by l c) l (λ t e. inl (e, refl)) (λ f e. inl (e, refl))
 hears_given l turn unrenewed = chosen (AreGiven l unrenewed) l.up (unrenewed_by l) l (λ t e. inl (e, refl)) (λ f e. inl (e, refl))
 hears_given l turn (late k) = chosen (AreGiven l (late k)) (l.up && is_renewal_open l k) (lost_by l) l (λ t e. inl (e, refl)) (λ f e. inl (e, refl))
+hears_given l turn unrepeated = chosen (AreGiven l unrepeated) (is_repeating l) (unrepeated_by l) l (λ t e. inl (e, refl)) (λ f e. inl (e, refl))
 hears_given l turn dropped = λ e. inl (e, refl)
 hears_given l turn shut = λ e. inl (e, refl)
 
@@ -202,13 +211,15 @@ turn_gives b k e l given = elim (hears_given (b.link l) k (news_of b.timers b.so
 gives_by : (b : Book) (a : Action) (l : ℕ) → GivenBy b a l
 gives_by b (action.Turn k (cause.Opening config word)) l e = inl (e, refl)
 gives_by b (action.Turn k (cause.Event event)) l e = turn_gives b k event l e
-gives_by b (action.Connect m host port) l e = inl (mine_keeps (WereGiven (b.link l)) (m == l) (b.link l) (asks (info_in b.config) (wanted_in b.config) (hearing_in b.config)) (λ t new. absurd (cc new)) (λ old. (old, refl)) e)
-gives_by b (action.Timer t ms what) l e = inl (mine_keeps (WereGiven (b.link l)) (is_renewal_of l what) (b.link l) times (λ t old. (old, refl)) (λ old. (old, refl)) e)
+gives_by b (action.Connect m host port) l e = inl (mine_keeps (WereGiven (b.link l)) (m == l) (b.link l) (asks (info_in b.config) (wanted_in b.config) (hearing_in b.config) (is_last (settings_in b.config) b.attempt) (repeats_in (settings_in b.config) b.tracked)) (λ t new. absurd (cc new)) (λ old. (old, refl)) e)
+gives_by b (action.Timer t ms what) l e = inl (timer_tells (WereGiven (b.link l)) (b.link l) l what (λ on k is t old. (old, refl)) (λ on is t old. (old, refl)) (λ old. (old, refl)) e)
 gives_by b (action.Took who m count) l e = inl (e, refl)
 gives_by b (action.Push m info) l e = inl (push_keeps (WereGiven (b.link l)) (m == l) info.kind (b.link l) (λ old. (old, refl)) (λ old. (old, refl)) (λ old. (old, refl)) e)
-gives_by b (action.Message msg) l e = inl (tell_keeps (WereGiven (b.link l)) (current b == l) (b.link l) (λ old. (old, refl)) (λ old. (old, refl)) e)
-gives_by b (action.Monitor v) l e = inl (tell_keeps (WereGiven (b.link l)) (current b == l) (b.link l) (λ old. (old, refl)) (λ old. (old, refl)) e)
+gives_by b (action.Message msg) l e = inl (tell_keeps (WereGiven (b.link l)) (b.current == l) (b.link l) (λ old. (old, refl)) (λ old. (old, refl)) e)
+gives_by b (action.Monitor v) l e = inl (tell_keeps (WereGiven (b.link l)) (b.current == l) (b.link l) (λ old. (old, refl)) (λ old. (old, refl)) e)
 gives_by b (action.NeedCreds c m) l e = inl (mine_keeps (WereGiven (b.link l)) (m == l) (b.link l) sources (λ t old. (old, refl)) (λ old. (old, refl)) e)
+gives_by b (action.Generation g) l e = inl (e, refl)
+gives_by b (action.Round who m) l e = inl (e, refl)
 gives_by b (action.Close m) l e = inl (mine_keeps (WereGiven (b.link l)) (m == l) (b.link l) (ends (b.turns - 1)) (λ t old. (old, refl)) (λ old. (old, refl)) e)
 gives_by b (action.Write m bytes) l e = inl (mine_keeps (WereGiven (b.link l)) (m == l) (b.link l) (offers bytes) (λ t old. (old, refl)) (λ old. (old, refl)) e)
 gives_by b (action.Wait who kind) l e = inl (e, refl)
@@ -288,6 +299,7 @@ hears_wanted l turn deserted = refl
 hears_wanted l turn (renewed c) = chosen (λ (x : Ledger). x.creds.wanted ≡ l.creds.wanted) (may_renew l) (renewed_by l c) l (λ t. refl) (λ f. refl)
 hears_wanted l turn unrenewed = chosen (λ (x : Ledger). x.creds.wanted ≡ l.creds.wanted) l.up (unrenewed_by l) l (λ t. refl) (λ f. refl)
 hears_wanted l turn (late k) = chosen (λ (x : Ledger). x.creds.wanted ≡ l.creds.wanted) (l.up && is_renewal_open l k) (lost_by l) l (λ t. refl) (λ f. refl)
+hears_wanted l turn unrepeated = chosen (λ (x : Ledger). x.creds.wanted ≡ l.creds.wanted) (is_repeating l) (unrepeated_by l) l (λ t. refl) (λ f. refl)
 hears_wanted l turn dropped = refl
 hears_wanted l turn shut = refl
 
@@ -306,13 +318,15 @@ want_kept b (action.Turn k (cause.Opening config word)) may sound h l =
     let unasked : (b.link l).asked ≡ false = (sound.links.unasked l (omega arith)).0 in
     λ asked. absurd (not_both (b.link l).asked unasked asked)
 want_kept b (action.Turn k (cause.Event e)) may sound h l = turn_wanted (wanted_in b.config) (b.link l) k (news_of b.timers b.sources l e.kind) (h l)
-want_kept b (action.Connect m host port) may sound h l = mine_keeps (Wants (wanted_in b.config)) (m == l) (b.link l) (asks (info_in b.config) (wanted_in b.config) (hearing_in b.config)) (λ t asked. refl) (h l)
-want_kept b (action.Timer t ms what) may sound h l = mine_keeps (Wants (wanted_in b.config)) (is_renewal_of l what) (b.link l) times (λ t. h l) (h l)
+want_kept b (action.Connect m host port) may sound h l = mine_keeps (Wants (wanted_in b.config)) (m == l) (b.link l) (asks (info_in b.config) (wanted_in b.config) (hearing_in b.config) (is_last (settings_in b.config) b.attempt) (repeats_in (settings_in b.config) b.tracked)) (λ t asked. refl) (h l)
+want_kept b (action.Timer t ms what) may sound h l = timer_tells (Wants (wanted_in b.config)) (b.link l) l what (λ on k is t. h l) (λ on is t. h l) (h l)
 want_kept b (action.Took who m count) may sound h l = h l
 want_kept b (action.Push m info) may sound h l = push_keeps (Wants (wanted_in b.config)) (m == l) info.kind (b.link l) (h l) (h l) (h l)
-want_kept b (action.Message msg) may sound h l = tell_keeps (Wants (wanted_in b.config)) (current b == l) (b.link l) (h l) (h l)
-want_kept b (action.Monitor v) may sound h l = tell_keeps (Wants (wanted_in b.config)) (current b == l) (b.link l) (h l) (h l)
+want_kept b (action.Message msg) may sound h l = tell_keeps (Wants (wanted_in b.config)) (b.current == l) (b.link l) (h l) (h l)
+want_kept b (action.Monitor v) may sound h l = tell_keeps (Wants (wanted_in b.config)) (b.current == l) (b.link l) (h l) (h l)
 want_kept b (action.NeedCreds c m) may sound h l = mine_keeps (Wants (wanted_in b.config)) (m == l) (b.link l) sources (λ t. h l) (h l)
+want_kept b (action.Generation g) may sound h l = h l
+want_kept b (action.Round who m) may sound h l = h l
 want_kept b (action.Close m) may sound h l = mine_keeps (Wants (wanted_in b.config)) (m == l) (b.link l) (ends (b.turns - 1)) (λ t. h l) (h l)
 want_kept b (action.Write m bytes) may sound h l = mine_keeps (Wants (wanted_in b.config)) (m == l) (b.link l) (offers bytes) (λ t. h l) (h l)
 want_kept b (action.Wait who kind) may sound h l = h l
@@ -337,6 +351,8 @@ start_is_given b (action.Start m k owner.Setup count len) l may sound on = subst
     (due_is_up (b.link m) may.k may.due, by_test (lacks_credentials (b.link m)) (lacks_credentials (b.link m) ≡ false) (λ t. absurd (due_is_given (b.link m) may.k (sound.shaped m) may.due t)) (λ f. f))
 start_is_given b (action.Start m k owner.Auth count len) l may sound on = subst (λ j. ((b.link j).up ≡ true) × (lacks_credentials (b.link j) ≡ false)) on
     (renewal_is_up (b.link m) may.credentials may.due, set_is_given (b.link m) (renewal_is_set (b.link m) may.credentials (sound.shaped m) may.due))
+start_is_given b (action.Start m k owner.Resub count len) l may sound on = subst (λ j. ((b.link j).up ≡ true) × (lacks_credentials (b.link j) ≡ false)) on
+    (again_is_up (b.link m) may.due, set_is_given (b.link m) (again_is_set (b.link m) may.due))
 start_is_given b (action.Start m k owner.Monitor count len) l may sound on = subst (λ j. ((b.link j).up ≡ true) × (lacks_credentials (b.link j) ≡ false)) on
     (watch_is_up (b.link m) may.due, greeted_is_given (b.link m) (watch_is_greeted (b.link m) may.due))
 start_is_given b (action.Start m k (owner.Try n round) count len) l may sound on =

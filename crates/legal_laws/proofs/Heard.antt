@@ -7,8 +7,8 @@ use Rattle.resp_value.specs.Data.{Data}
 use Rattle.driver_model.specs.Hearing.{Taking}
 use Rattle.driver_model.specs.declared.hearing.Notice.{Notice}
 use Rattle.driver_model.specs.declared.action.Action.{Action}
-use Rattle.driver_model.specs.News.{News, silence, connected, refused, overdue, took, came, failed, dropped, shut, authorized, denied, deserted, renewed, unrenewed, late}
-use Rattle.legal_trace.specs.Ledger.{Ledger, Heard, Line, asks, hears, begins, offers, tells, ends, parts, blank_ledger, noted, with_news, refused_in, bytes_came, items_came, value_came, heard_at, taking_of, value_by, is_over, dials, reach, sources, awaits_credentials, authorized_by, times, may_renew, renewed_by, unrenewed_by, is_renewal_open, lost_by}
+use Rattle.driver_model.specs.News.{News, silence, connected, refused, overdue, took, came, failed, dropped, shut, authorized, denied, deserted, renewed, unrenewed, late, unrepeated}
+use Rattle.legal_trace.specs.Ledger.{Ledger, Heard, Line, asks, hears, begins, offers, tells, ends, parts, blank_ledger, noted, with_news, refused_in, bytes_came, items_came, value_came, heard_at, taking_of, value_by, is_over, dials, reach, sources, awaits_credentials, authorized_by, times, may_renew, renewed_by, unrenewed_by, is_renewal_open, lost_by, is_repeating, unrepeated_by, repeats_timed}
 use Rattle.legal_trace.specs.Book.{book}
 use Rattle.legal_trace.proofs.Ledgers.{each_keeps, FewAreDealt, few_keeps}
 use Rattle.legal_trace.proofs.Plain.{same_some}
@@ -104,12 +104,13 @@ rises_hears l turn deserted h = h.rise
 rises_hears l turn (renewed c) h = chosen Rises (may_renew l) (renewed_by l c) l (λ t. h.rise) (λ e. h.rise)
 rises_hears l turn unrenewed h = chosen Rises l.up (unrenewed_by l) l (λ t. h.rise) (λ e. h.rise)
 rises_hears l turn (late k) h = chosen Rises (l.up && is_renewal_open l k) (lost_by l) l (λ t. h.rise) (λ e. h.rise)
+rises_hears l turn unrepeated h = chosen Rises (is_repeating l) (unrepeated_by l) l (λ t. h.rise) (λ e. h.rise)
 rises_hears l turn dropped h = h.rise
 rises_hears l turn shut h = h.rise
 
 -- and with any line
 rises_keeps : (l : Ledger) (x : Line) → InRow l → Rises (noted l x)
-rises_keeps l (asks info wanted hearing) h = h.rise
+rises_keeps l (asks info wanted hearing last again) h = h.rise
 rises_keeps l (hears turn news) h = rises_hears l turn news h
 rises_keeps l (begins s) h = h.rise
 rises_keeps l (offers bytes) h = h.rise
@@ -117,6 +118,7 @@ rises_keeps l tells h = h.rise
 rises_keeps l (ends turn) h = h.rise
 rises_keeps l sources h = h.rise
 rises_keeps l times h = h.rise
+rises_keeps l repeats_timed h = h.rise
 rises_keeps l parts h = h.rise
 
 row_keeps : (l : Ledger) (x : Line) → InRow l → InRow (noted l x)
@@ -169,12 +171,13 @@ beyond_hears count l turn deserted h = h
 beyond_hears count l turn (renewed c) h = chosen (IsBeyond count) (may_renew l) (renewed_by l c) l (λ t. record { dealt = h.dealt; waits = h.waits }) (λ e. h)
 beyond_hears count l turn unrenewed h = chosen (IsBeyond count) l.up (unrenewed_by l) l (λ t. record { dealt = h.dealt; waits = h.waits }) (λ e. h)
 beyond_hears count l turn (late k) h = chosen (IsBeyond count) (l.up && is_renewal_open l k) (lost_by l) l (λ t. record { dealt = h.dealt; waits = h.waits }) (λ e. h)
+beyond_hears count l turn unrepeated h = chosen (IsBeyond count) (is_repeating l) (unrepeated_by l) l (λ t. record { dealt = h.dealt; waits = h.waits }) (λ e. h)
 beyond_hears count l turn dropped h = h
 beyond_hears count l turn shut h = h
 
 -- and with any line
 pub beyond_keeps : (count : ℕ) (l : Ledger) (x : Line) → IsBeyond count l → IsBeyond count (noted l x)
-beyond_keeps count l (asks info wanted hearing) h = record { dealt = h.dealt; waits = h.waits }
+beyond_keeps count l (asks info wanted hearing last again) h = record { dealt = h.dealt; waits = h.waits }
 beyond_keeps count l (hears turn news) h = let k = beyond_hears count l turn news h in record { dealt = k.dealt; waits = k.waits }
 beyond_keeps count l (begins s) h = record { dealt = h.dealt; waits = h.waits }
 beyond_keeps count l (offers bytes) h = record { dealt = h.dealt; waits = h.waits }
@@ -182,4 +185,5 @@ beyond_keeps count l tells h = record { dealt = h.dealt; waits = λ i p told at.
 beyond_keeps count l (ends turn) h = record { dealt = h.dealt; waits = h.waits }
 beyond_keeps count l sources h = record { dealt = h.dealt; waits = h.waits }
 beyond_keeps count l times h = record { dealt = h.dealt; waits = h.waits }
+beyond_keeps count l repeats_timed h = record { dealt = h.dealt; waits = h.waits }
 beyond_keeps count l parts h = record { dealt = h.dealt; waits = h.waits }

@@ -19,7 +19,7 @@ use Rattle.legal_laws.specs.Starts.{IsStart, Leaves, LeftStartNoMore}
 use Rattle.legal_laws.specs.Permits.{TimedOutStartNoMore}
 use Rattle.legal_laws.proofs.Bounds.{start_of}
 use Rattle.legal_laws.proofs.Held.{not_open}
-use Rattle.legal_laws.proofs.InLine.{submissions_grow, leaver_is_done, stays_out, starter_to_start}
+use Rattle.legal_laws.proofs.InLine.{submissions_grow, leaver_is_done, stays_done}
 use Rattle.legal_trace.proofs.Moves.{open_or_told}
 use Rattle.legal_laws.proofs.Numbers.{HasStories, open_is_numbered}
 use Rattle.legal_laws.proofs.Sound.{Sound, sound_behind}
@@ -62,9 +62,7 @@ none_behind b middle more a c l n sound all leaves start =
     let grows : b.submissions ≤ after.submissions = submissions_grow b a in
     let numbered : n < b.submissions = leaver_is_numbered b a n sound.stories all.0 leaves in
     let s = start_of (entered_each after middle) c l n (stand_behind after middle (c ∷ more) all.1).0 start in
-    stays_out after middle (stand_front after middle (c ∷ more) all.1) l n (omega (arith, grows, numbered))
-    (λ e. done_behind b a n all.0 leaves (both_right ((after.story n).link == l) (is_unstarted (after.story n)) e))
-    (starter_to_start (entered_each after middle) l s.0 n s.1 s.2 s.3)
+    stays_done after middle (stand_front after middle (c ∷ more) all.1) n (omega (arith, grows, numbered)) (done_behind b a n all.0 leaves) s.3.unstarted
 
 -- nor in a legal trace
 pub left_start_no_more : (config : Config) (word : ℕ) (events : List Event) (trace : List Action) → Legal config word events trace → LeftStartNoMore trace

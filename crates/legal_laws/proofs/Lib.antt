@@ -3,6 +3,14 @@ pub mod Told
 pub mod Streams
 pub mod Lines
 pub mod Opens
+pub mod Aside
+pub mod Ended
+pub mod Goes
+pub mod Rounds
+pub mod Messages
+pub mod Served
+pub mod Repeats
+pub mod Lives
 pub mod Numbers
 pub mod Owes
 pub mod Tales
@@ -17,6 +25,7 @@ pub mod Turned
 pub mod Ranks
 pub mod Next
 pub mod Equal
+pub mod Undue
 pub mod Held
 pub mod InLine
 pub mod Overdue
@@ -45,3 +54,8 @@ pub mod Reports
 pub mod Drops
 pub mod Parted
 pub mod Among
+pub mod Attempts
+pub mod Generations
+pub mod Rounding
+pub mod Resubscribed
+pub mod Late

@@ -1,7 +1,7 @@
 -- What a legal trace tells of each link is legal.
 use Rattle.std.proofs.Common.{◌≡◌, ◌≢◌, inl, inr, ℕ, ◌-◌, ◌≤◌, ◌==◌, nat_lt, Bool, true, false, ◌&&◌, not, List, [], ◌∷◌, length, ◌||◌, Option, Some, None, is_some, arith, refl, sym, ◌∙◌, subst, ap}
 use Rattle.std.specs.Prelude.{slice_get}
-use Rattle.containers.proofs.Choices.{chosen, eq_from, both_right, or_right, not_lt_from}
+use Rattle.containers.proofs.Choices.{by_test, chosen, eq_from, ne_from, not_both, both_right, or_right, not_lt_from}
 use Rattle.driver_model.specs.declared.action.Action.{Action}
 use Rattle.driver_model.specs.declared.action.Action.TheVariants as action
 use Rattle.driver_model.specs.declared.action.Cause.TheVariants as cause
@@ -15,12 +15,14 @@ use Rattle.driver_model.specs.declared.action.Purpose.{Purpose}
 use Rattle.driver_model.specs.declared.action.Purpose.TheVariants as purpose
 use Rattle.driver_model.specs.declared.action.SourceUse.{SourceUse}
 use Rattle.driver_model.specs.declared.action.SourceUse.TheVariants as source
-use Rattle.driver_model.specs.News.{News, silence, connected, refused, overdue, took, came, failed, authorized, denied, deserted, renewed, unrenewed, late, news_of, of_timer, of_source}
-use Rattle.legal_trace.specs.Ledger.{Ledger, Line, asks, begins, offers, ends, is_over, IsWithin, MayNote, AllNoted, sources, times, tells}
+use Rattle.driver_model.specs.News.{News, silence, connected, refused, overdue, took, came, failed, authorized, denied, deserted, renewed, unrenewed, late, unrepeated, news_of, of_timer, of_source}
+use Rattle.legal_trace.specs.Ledger.{Ledger, Line, asks, begins, offers, ends, is_over, IsWithin, MayNote, AllNoted, sources, times, tells, repeats_timed, again_due, is_served}
 use Rattle.legal_trace.specs.Story.{is_awaited, is_no_error, bytes_of}
-use Rattle.legal_trace.specs.Book.{Book, blank_book, entered, lines_of, lines_of_each, if_mine, push_line, info_in, message_of, wanted_in, is_renewal_of, hearing_in, current}
+use Rattle.legal_trace.specs.Managers.{settings_in, is_last}
+use Rattle.legal_trace.specs.Book.{Book, blank_book, entered, lines_of, lines_of_each, if_mine, push_line, info_in, message_of, wanted_in, hearing_in, timer_lines}
 use Rattle.legal_trace.specs.Events.{is_bad_event, is_no_link}
 use Rattle.legal_trace.specs.Legal.{MayStand, MayStart, AllStand, Legal, MayTimer}
+use Rattle.legal_trace.specs.Again.{repeats_in}
 use Rattle.legal_laws.specs.Links.{LinksAreLegal, TakesInOrder, lines_for}
 use Rattle.legal_trace.proofs.Ledgers.{may_append}
 use Rattle.legal_trace.proofs.Setups.{due_is_up, due_has_bytes}
@@ -30,7 +32,9 @@ use Rattle.legal_laws.proofs.Streams.{takes_in_order}
 use Rattle.legal_laws.proofs.Sound.{Sound, stays_sound, blank_is_sound}
 use Rattle.legal_laws.proofs.Owes.{has_bytes}
 use Rattle.legal_laws.proofs.Told.{push_may}
+use Rattle.legal_laws.proofs.Repeats.{again_has_bytes, repeats_subscribed}
 use Rattle.legal_trace.proofs.Watching.{watch_is_up, monitor_has_bytes}
+use Rattle.legal_trace.proofs.Again.{again_is_up, due_repeats, repeating_is_unserved}
 
 -- a line that is told one link alone
 may_mine : (mine : Bool) (l : Ledger) (x : Line) → (mine ≡ true → MayNote l x) → AllNoted l (if_mine mine x)
@@ -54,6 +58,8 @@ of_timer_within l n None = tt
 of_timer_within l n (Some (purpose.Connect m)) = chosen (IsWithin l) (m == n) overdue silence (λ t. tt) (λ f. tt)
 of_timer_within l n (Some (purpose.Response who)) = tt
 of_timer_within l n (Some (purpose.Renewal m k)) = chosen (IsWithin l) (m == n) (late k) silence (λ t. tt) (λ f. tt)
+of_timer_within l n (Some (purpose.Backoff g)) = tt
+of_timer_within l n (Some (purpose.Resubscription m)) = chosen (IsWithin l) (m == n) unrepeated silence (λ t. tt) (λ f. tt)
 
 -- nor does what comes of a source
 of_source_within : (l : Ledger) (n : ℕ) (what : Option SourceUse) (first later : News) → IsWithin l first → IsWithin l later → IsWithin l (of_source n what first later)
@@ -87,7 +93,7 @@ within b l (event.Cancel n) good h = tt
 -- a message that may start has bytes
 pub starts_with_bytes : (b : Book) (l k n count len : ℕ) → MayStart b l k n count len → Sound b → bytes_of (b.story n) ≢ []
 starts_with_bytes b l k n count len may h = elim (open_or_told (b.story n) may.unstarted) [
-  | inl o ↦ has_bytes b (b.story n) (may.begun.applied.answered n o)
+  | inl o ↦ has_bytes b (b.story n) (may.begun.applied.shown.answered n o)
   | inr told ↦ (h.once n).told (both_right (not (is_awaited (b.story n))) (is_no_error (b.story n).outcomes) told) (has_no_tries (b.story n) may.unstarted)
 ]
 
@@ -95,35 +101,54 @@ starts_with_bytes b l k n count len may h = elim (open_or_told (b.story n) may.u
 connects_new : (b : Book) (l m : ℕ) → m ≡ b.links → Sound b → (m == l) ≡ true → (b.link l).asked ≡ false
 connects_new b l m next h t = let e : m ≡ l = eq_from m l t in (h.links.unasked l (omega arith)).0
 
--- a timer of new credentials is asked for where one is to be
-timer_may : (b : Book) (l t ms : ℕ) (what : Purpose) → MayTimer b t ms what → is_renewal_of l what ≡ true → MayNote (b.link l) times
-timer_may b l t ms what (inl may) e = absurd (let x : false ≡ true = sym (ap (is_renewal_of l) may.is_for) ∙ e in cc x)
-timer_may b l t ms what (inr (inl may)) e = absurd (let x : false ≡ true = sym (ap (is_renewal_of l) may.is_for) ∙ e in cc x)
-timer_may b l t ms what (inr (inr may)) e = subst (λ j. MayNote (b.link j) times) (eq_from may.l l (sym (ap (is_renewal_of l) may.is_for) ∙ e)) may.asked
+-- a timer tells a link what may stand there: that one was asked for new credentials where one is to be, or for what is subscribed again
+timer_may : (b : Book) (l t ms : ℕ) (what : Purpose) → MayTimer b t ms what → AllNoted (b.link l) (timer_lines l what)
+timer_may b l t ms what (inl (inl may)) = subst (λ p. AllNoted (b.link l) (timer_lines l p)) (sym may.is_for) tt
+timer_may b l t ms what (inl (inr may)) = subst (λ p. AllNoted (b.link l) (timer_lines l p)) (sym may.is_for) tt
+timer_may b l t ms what (inr (inl may)) = subst (λ p. AllNoted (b.link l) (timer_lines l p)) (sym may.is_for) tt
+timer_may b l t ms what (inr (inr (inl may))) = subst (λ p. AllNoted (b.link l) (timer_lines l p)) (sym may.is_for)
+    (may_mine (may.l == l) (b.link l) times (λ e. subst (λ j. MayNote (b.link j) times) (eq_from may.l l e) may.asked))
+timer_may b l t ms what (inr (inr (inr may))) = subst (λ p. AllNoted (b.link l) (timer_lines l p)) (sym may.is_for)
+    (may_mine (may.l == l) (b.link l) repeats_timed (λ e. subst (λ j. MayNote (b.link j) repeats_timed) (eq_from may.l l e) (may.due, may.once)))
+
+-- where it is to be subscribed again, something is subscribed
+pub due_repeats_some : (b : Book) (l : ℕ) → Sound b → again_due (b.link l) ≡ true → repeats_in (settings_in b.config) b.tracked ≡ true
+due_repeats_some b l h due =
+    let unserved : is_served (b.link l) ≡ false = repeating_is_unserved (b.link l) (due_repeats (b.link l) due) in
+    by_test (l == b.current) (repeats_in (settings_in b.config) b.tracked ≡ true)
+    (λ t. h.repeats.holds (sym (ap (λ j. is_served (b.link j)) (eq_from l b.current t)) ∙ unserved))
+    (λ f. absurd (not_both (b.link l).up (h.lives.aside l (ne_from l b.current f)).down (again_is_up (b.link l) due)))
 
 -- what an action that may stand tells of a link may stand there
 pub lines_may : (b : Book) (l : ℕ) (a : Action) → MayStand b a → Sound b → AllNoted (b.link l) (lines_of b l a)
 lines_may b l (action.Turn k (cause.Opening config word)) may h = tt
 lines_may b l (action.Turn k (cause.Event e)) may h = (within b l e.kind may.is_for.2 h, tt)
-lines_may b l (action.Connect m host port) may h = may_mine (m == l) (b.link l) (asks (info_in b.config) (wanted_in b.config) (hearing_in b.config)) (connects_new b l m may.next h)
-lines_may b l (action.Timer t ms what) may h = may_mine (is_renewal_of l what) (b.link l) times (timer_may b l t ms what may)
+lines_may b l (action.Connect m host port) may h = may_mine (m == l) (b.link l) (asks (info_in b.config) (wanted_in b.config) (hearing_in b.config) (is_last (settings_in b.config) b.attempt) (repeats_in (settings_in b.config) b.tracked)) (connects_new b l m may.next h)
+lines_may b l (action.Timer t ms what) may h = timer_may b l t ms what may
 lines_may b l (action.Took owner.Setup m count) may h = absurd may
 lines_may b l (action.Took owner.Auth m count) may h = absurd may
+lines_may b l (action.Took owner.Resub m count) may h = absurd may
 lines_may b l (action.Took owner.Monitor m count) may h = absurd may
 lines_may b l (action.Took (owner.Try n round) m count) may h = tt
 lines_may b l (action.Push m info) may h = may_mine (m == l) (b.link l) (push_line info.kind) (λ t. subst (λ j. MayNote (b.link j) (push_line info.kind)) (eq_from m l t) (push_may b m info may))
-lines_may b l (action.Message msg) may h = may_mine (current b == l) (b.link l) tells (λ t. subst (λ j. MayNote (b.link j) tells) (eq_from (current b) l t) (ap is_some may.next))
-lines_may b l (action.Monitor v) may h = may_mine (current b == l) (b.link l) tells (λ t. subst (λ j. MayNote (b.link j) tells) (eq_from (current b) l t) (ap is_some may.next))
+lines_may b l (action.Message msg) may h = may_mine (b.current == l) (b.link l) tells (λ t. subst (λ j. MayNote (b.link j) tells) (eq_from b.current l t) (ap is_some may.next))
+lines_may b l (action.Monitor v) may h = may_mine (b.current == l) (b.link l) tells (λ t. subst (λ j. MayNote (b.link j) tells) (eq_from b.current l t) (ap is_some may.next))
 lines_may b l (action.NeedCreds c m) may h = may_mine (m == l) (b.link l) sources (λ t. subst (λ j. MayNote (b.link j) sources) (eq_from m l t) may.due)
+lines_may b l (action.Generation g) may h = tt
+lines_may b l (action.Round who m) may h = tt
 lines_may b l (action.Close m) may h = may_mine (m == l) (b.link l) (ends (b.turns - 1)) (λ t. subst (λ j. MayNote (b.link j) (ends (b.turns - 1))) (eq_from m l t) (may.why, may.ends))
 lines_may b l (action.Write m bytes) may h = may_mine (m == l) (b.link l) (offers bytes) (λ t. subst (λ j. MayNote (b.link j) (offers bytes)) (eq_from m l t) (may.up, may.answered, may.all, may.some))
 lines_may b l (action.Wait owner.Setup kind) may h = absurd may
 lines_may b l (action.Wait owner.Auth kind) may h = absurd may
+lines_may b l (action.Wait owner.Resub kind) may h = absurd may
 lines_may b l (action.Wait owner.Monitor kind) may h = absurd may
 lines_may b l (action.Wait (owner.Try n round) kind) may h = tt
 lines_may b l (action.Start m k owner.Setup count len) may h =
     may_mine (m == l) (b.link l) (begins (message_of b m owner.Setup))
     (λ t. (subst (λ j. (b.link j).up ≡ true) (eq_from m l t) (due_is_up (b.link m) may.k may.due), due_has_bytes (b.link m) may.k may.due))
+lines_may b l (action.Start m k owner.Resub count len) may h =
+    may_mine (m == l) (b.link l) (begins (message_of b m owner.Resub))
+    (λ t. (subst (λ j. (b.link j).up ≡ true) (eq_from m l t) (again_is_up (b.link m) may.due), again_has_bytes b.tracked (repeats_subscribed (settings_in b.config) b.tracked (due_repeats_some b m h may.due))))
 lines_may b l (action.Start m k owner.Monitor count len) may h =
     may_mine (m == l) (b.link l) (begins (message_of b m owner.Monitor))
     (λ t. (subst (λ j. (b.link j).up ≡ true) (eq_from m l t) (watch_is_up (b.link m) may.due), monitor_has_bytes))

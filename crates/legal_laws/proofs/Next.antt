@@ -24,17 +24,18 @@ use Rattle.resp_value.specs.declared.push_kind.PushKind.TheVariants.{Disconnecti
 use Rattle.credentials.specs.Credentials.{Credentials}
 use Rattle.driver_model.specs.Push.{is_disconnection}
 use Rattle.driver_model.specs.declared.push_info.PushInfo.{PushInfo}
-use Rattle.legal_trace.specs.Ledger.{Heard, IsOffered, is_over, is_cut, unwritten, ending, failure_in, next_notice, setup_due, setup_message, source_due, renewal_due, renewal_message, renewals_asked, monitor_due, monitor_message}
+use Rattle.legal_trace.specs.Ledger.{Heard, IsOffered, is_over, is_cut, unwritten, ending, failure_in, next_notice, setup_due, setup_message, source_due, renewal_due, renewal_message, renewals_asked, monitor_due, monitor_message, again_due}
 use Rattle.legal_trace.specs.Story.{shape, bytes_of}
 use Rattle.legal_trace.specs.Owed.{owed}
-use Rattle.legal_trace.specs.Book.{Book, book, current}
-use Rattle.legal_trace.specs.Steps.{Step, waits, takes, asks, tells, starts, nothing, is_held_back, next_step}
-use Rattle.legal_trace.specs.Legal.{MayStand, MayConnect, MayTimeConnect, MayTime, MayTake, MayTimer, MayNeed, MayNotify, MayWatch, MayPart, MayPushBy, MayClose, MayBeCreated, MayFail, MayShowCreation, MayAnswer, MayTell, MayStart, MaySetUp, MayWrite, MayWait, IsOpen, IsWaiting, link_of, CanMove, MayTimeRenewal, MayRenew}
+use Rattle.legal_trace.specs.Book.{Book, book}
+use Rattle.legal_trace.specs.Steps.{Step, waits, takes, asks, tells, starts, nothing, is_held_back, next_step, rounds}
+use Rattle.manager_config.specs.Backoff.{backoff}
+use Rattle.legal_trace.specs.Legal.{MayStand, MayConnect, MayTimeConnect, MayRest, MayGenerate, MayBeLazy, word_of, MayTime, MayTake, MayTimer, MayNeed, MayNotify, MayWatch, MayPart, MayPushBy, MayClose, MayBeCreated, MayFail, MayShowCreation, MayAnswer, MayTell, MayStart, MaySetUp, MayWrite, MayWait, IsOpen, IsWaiting, link_of, CanMove, MayTimeRenewal, MayRenew, MayRoundOn, MayRepeat, MayTimeRepeat}
+use Rattle.legal_trace.specs.Again.{again_message}
 use Rattle.legal_laws.specs.Next.{BothAnnounce, OneIsNext, OneIsNextBehind}
-use Rattle.legal_trace.proofs.Moves.{teller_moves, starter_moves, taker_moves, asker_moves, same_kind}
-use Rattle.legal_laws.proofs.Ranks.{answer_rank, creation_rank, push_rank, rank, same_rank, outcome_rank, timer_rank, not_offered, not_shown}
+use Rattle.legal_trace.proofs.Moves.{teller_moves, starter_moves, taker_moves, asker_moves, same_kind, rounder_moves}
+use Rattle.legal_laws.proofs.Ranks.{up_is_current, answer_rank, creation_rank, push_rank, rank, same_rank, outcome_rank, timer_rank, not_offered, not_shown}
 use Rattle.legal_trace.proofs.Plain.{not_none, same_some}
-use Rattle.legal_laws.proofs.Numbers.{up_is_numbered}
 use Rattle.legal_laws.proofs.Sound.{Sound, sound_behind}
 
 -- the least number of a kind is one
@@ -53,10 +54,6 @@ AreOne x y = (x ≡ y) ⊎ BothAnnounce x y
 same_answers : (m n : ℕ) (o p : Outcome) → m ≡ n → Some o ≡ Some p → action.Outcome m o ≡ action.Outcome n p
 same_answers m n o p e f = cc
 
--- an opening has one configuration
-same_config : (c d : Config) (v w : ℕ) → cause.Opening c v ≡ cause.Opening d w → c ≡ d
-same_config c d v w e = cc
-
 -- of what is owed to open submissions whose link has ended, or has not, one is the first
 one_answer : (b : Book) (m n : ℕ) (o p : Outcome) (over : Bool) → is_over (link_of b m) ≡ over → is_over (link_of b n) ≡ over → MayAnswer b m o → MayAnswer b n p → action.Outcome m o ≡ action.Outcome n p
 one_answer b m n o p over of_m of_n h k =
@@ -72,6 +69,7 @@ one_move b = least_is_one (CanMove b)
 -- the action that a step of submission n is
 abbrev pub move_of : Book → ℕ → Step → Action
 move_of b n (waits kind) = action.Wait (owner.Try n 0) kind
+move_of b n rounds = action.Round (owner.Try n 0) (Some (b.story n).link)
 move_of b n (takes count) = action.Took (owner.Try n 0) (b.story n).link count
 move_of b n (asks ms) = action.Timer (length b.timers) ms (purpose.Response (owner.Try n 0))
 move_of b n tells = action.Outcome n (outcome.One Nil)
@@ -101,6 +99,11 @@ start_moving b l k n count len may =
     ∙ ap (λ x. action.Start (b.story n).link (length (link_of b n).starts) (owner.Try n 0) (need_of (shape (b.story n))) x) may.long_as_its_bytes)) in
     (n, starter_moves b l k n count len may, may.in_order, same ∙ sym (ap (move_of b n) may.starts))
 
+-- a round that begins
+round_moving : (b : Book) (n : ℕ) (on : Option ℕ) → MayRoundOn b n on → IsMoving b (action.Round (owner.Try n 0) on)
+round_moving b n None may = absurd may
+round_moving b n (Some l) may = (n, rounder_moves b n l may, may.in_order, ap (λ x. action.Round (owner.Try n 0) (Some x)) may.on_its_link ∙ sym (ap (move_of b n) may.rounds))
+
 -- permits that are taken
 take_moving : (b : Book) (n l count : ℕ) → MayTake b n l count → IsMoving b (action.Took (owner.Try n 0) l count)
 take_moving b n l count may = (n, taker_moves b n l count may, may.in_order, ap (λ x. action.Took (owner.Try n 0) x count) may.on_its_link ∙ sym (ap (move_of b n) may.takes))
@@ -117,23 +120,34 @@ ask_moving b t ms what may = (
 -- two connects are one
 one_connect : (b : Book) (l m : ℕ) (host other : List ℕ) (port number : ℕ) → MayConnect b l host port → MayConnect b m other number → action.Connect l host port ≡ action.Connect m other number
 one_connect b l m host other port number h k =
-    let e : cause.Opening h.config h.word ≡ cause.Opening k.config k.word = same_some (cause.Opening h.config h.word) (cause.Opening k.config k.word) (sym h.opens ∙ k.opens) in
-    let c : h.config ≡ k.config = same_config h.config k.config h.word k.word e in
+    let c : h.config ≡ k.config = same_some h.config k.config (sym h.told ∙ k.told) in
     let i : l ≡ m = h.next ∙ sym k.next in
     let info : h.info ≡ k.info = same_some h.info k.info (sym h.configured ∙ (ap address c ∙ k.configured)) in
     let a : host ≡ other = h.address.0 ∙ (ap (λ (x : ConnectionInfo). x.host) info ∙ sym k.address.0) in
     let p : port ≡ number = h.address.1 ∙ (ap (λ (x : ConnectionInfo). x.port) info ∙ sym k.address.1) in
     cc (i, a, p)
 
--- two timers of the opening are one
+-- two timers of connects are one
 one_timer : (b : Book) (t u ms time : ℕ) (what other : Purpose) → MayTimeConnect b t ms what → MayTimeConnect b u time other → action.Timer t ms what ≡ action.Timer u time other
 one_timer b t u ms time what other h k =
-    let e : cause.Opening h.config h.word ≡ cause.Opening k.config k.word = same_some (cause.Opening h.config h.word) (cause.Opening k.config k.word) (sym h.opens ∙ k.opens) in
-    let c : h.config ≡ k.config = same_config h.config k.config h.word k.word e in
+    let c : h.config ≡ k.config = same_some h.config k.config (sym h.told ∙ k.told) in
     let i : t ≡ u = h.next ∙ sym k.next in
     let m : ms ≡ time = same_some ms time (sym h.bounded ∙ (ap connect_timeout c ∙ k.bounded)) in
     let w : what ≡ other = h.is_for ∙ sym k.is_for in
     cc (i, m, w)
+
+-- two timers of waits behind an attempt are one
+one_rest : (b : Book) (t u ms time : ℕ) (what other : Purpose) → MayRest b t ms what → MayRest b u time other → action.Timer t ms what ≡ action.Timer u time other
+one_rest b t u ms time what other h k =
+    let c : h.settings ≡ k.settings = same_some h.settings k.settings (sym h.set ∙ k.set) in
+    let i : t ≡ u = h.next ∙ sym k.next in
+    let m : ms ≡ time = h.long ∙ (ap (λ s. backoff s b.attempt (word_of b.running)) c ∙ sym k.long) in
+    let w : what ≡ other = h.is_for ∙ sym k.is_for in
+    cc (i, m, w)
+
+-- two generations are one
+one_generation : (b : Book) (g h : ℕ) → MayGenerate b g → MayGenerate b h → action.Generation g ≡ action.Generation h
+one_generation b g h p q = ap action.Generation (p.next ∙ sym q.next)
 
 -- two failures of the creation are one
 one_failure : (b : Book) (d e : RedisError) → MayFail b d → MayFail b e → d ≡ e
@@ -229,6 +243,38 @@ one_watch b l m message other count need len size h k =
     (λ j i w. not_both (is_held_back b (b.link j)) w.1 (h.in_order j i w.0)) (λ j i w. not_both (is_held_back b (b.link j)) w.1 (k.in_order j i w.0)) in
     watch_is b l message count len h ∙ (ap (watch_on b) e ∙ sym (watch_is b m other need size k))
 
+-- what is subscribed again is known by its link
+abbrev pub repeat_on : Book → ℕ → Action
+repeat_on b l = action.Start l (length (b.link l).starts) owner.Resub (need_of (again_message b.tracked).shape) (length (again_message b.tracked).bytes)
+
+-- it is that
+repeat_is : (b : Book) (l message count len : ℕ) (may : MayRepeat b l message count len) → action.Start l message owner.Resub count len ≡ repeat_on b l
+repeat_is b l message count len may =
+    ap (λ x. action.Start l x owner.Resub count len) may.next
+    ∙ (ap (λ x. action.Start l (length (b.link l).starts) owner.Resub x len) may.needs_its_items
+    ∙ ap (λ x. action.Start l (length (b.link l).starts) owner.Resub (need_of (again_message b.tracked).shape) x) may.long_as_its_bytes)
+
+-- it is to start on that link, which isn't held back
+abbrev pub IsRepeating : Book → ℕ → Type 0
+IsRepeating b l = (again_due (b.link l) ≡ true) × (is_held_back b (b.link l) ≡ false)
+
+-- two that start are one
+one_repeat : (b : Book) (l m message other count need len size : ℕ) → MayRepeat b l message count len → MayRepeat b m other need size → action.Start l message owner.Resub count len ≡ action.Start m other owner.Resub need size
+one_repeat b l m message other count need len size h k =
+    let e : l ≡ m = least_is_one (IsRepeating b) l m (h.due, h.free) (k.due, k.free)
+    (λ j i w. not_both (is_held_back b (b.link j)) w.1 (h.in_order j i w.0)) (λ j i w. not_both (is_held_back b (b.link j)) w.1 (k.in_order j i w.0)) in
+    repeat_is b l message count len h ∙ (ap (repeat_on b) e ∙ sym (repeat_is b m other need size k))
+
+-- two timers of what is subscribed again are one
+one_repeat_timer : (b : Book) (t u ms time : ℕ) (what other : Purpose) → MayTimeRepeat b t ms what → MayTimeRepeat b u time other → action.Timer t ms what ≡ action.Timer u time other
+one_repeat_timer b t u ms time what other h k =
+    let e : h.l ≡ k.l = least_is_one (λ j. (again_due (b.link j) ≡ true) × ((b.link j).again.timed ≡ false)) h.l k.l (h.due, h.once) (k.due, k.once)
+    (λ j i w. not_both (b.link j).again.timed w.1 (h.in_order j i w.0)) (λ j i w. not_both (b.link j).again.timed w.1 (k.in_order j i w.0)) in
+    let i : t ≡ u = h.next ∙ sym k.next in
+    let m : ms ≡ time = same_some ms time (sym h.within ∙ k.within) in
+    let w : what ≡ other = h.is_for ∙ (ap purpose.Resubscription e ∙ sym k.is_for) in
+    cc (i, m, w)
+
 -- what tells this of link l
 abbrev pub telling_of : ℕ → Notice → Action
 telling_of l (notice.Push info) = action.Push l info
@@ -313,21 +359,26 @@ IsOfValues b y = IsAnswering b false y ⊎ (IsCreating b y ⊎ (IsTelling b y �
 -- what an action of this rank is, and that it may stand
 abbrev pub OfRank : ℕ → Book → Action → Type 0
 OfRank zero b y = (k : ℕ) × (config : Config) × (word : ℕ) × (y ≡ action.Turn k (cause.Opening config word)) × (k ≡ b.turns)
-OfRank (suc zero) b y = (l : ℕ) × (host : List ℕ) × (port : ℕ) × (y ≡ action.Connect l host port) × MayConnect b l host port
-OfRank (suc (suc zero)) b y = (t : ℕ) × (ms : ℕ) × (what : Purpose) × (y ≡ action.Timer t ms what) × MayTimeConnect b t ms what
-OfRank (suc (suc (suc zero))) b y = IsOfValues b y
-OfRank (suc (suc (suc (suc zero)))) b y = (l : ℕ) × (y ≡ action.Close l) × MayClose b l
-OfRank (suc (suc (suc (suc (suc zero))))) b y = (e : RedisError) × (y ≡ action.Created (Some e)) × MayFail b e
-OfRank (suc (suc (suc (suc (suc (suc zero)))))) b y = (l : ℕ) × (info : PushInfo) × (y ≡ action.Push l info) × (is_disconnection info.kind ≡ true) × MayPart b l info
-OfRank (suc (suc (suc (suc (suc (suc (suc zero))))))) b y = IsAnswering b true y
-OfRank (suc (suc (suc (suc (suc (suc (suc (suc zero)))))))) b y = (l : ℕ) × (k : ℕ) × (count : ℕ) × (len : ℕ) × (y ≡ action.Start l k owner.Setup count len) × MaySetUp b l k count len
-OfRank (suc (suc (suc (suc (suc (suc (suc (suc (suc zero))))))))) b y = (l : ℕ) × (k : ℕ) × (count : ℕ) × (len : ℕ) × (y ≡ action.Start l k owner.Monitor count len) × MayWatch b l k count len
-OfRank (suc (suc (suc (suc (suc (suc (suc (suc (suc (suc zero)))))))))) b y = (t : ℕ) × (ms : ℕ) × (what : Purpose) × (y ≡ action.Timer t ms what) × MayTimeRenewal b t ms what
-OfRank (suc (suc (suc (suc (suc (suc (suc (suc (suc (suc (suc zero))))))))))) b y = (l : ℕ) × (k : ℕ) × (count : ℕ) × (len : ℕ) × (y ≡ action.Start l k owner.Auth count len) × MayRenew b l k count len
-OfRank (suc (suc (suc (suc (suc (suc (suc (suc (suc (suc (suc (suc zero)))))))))))) b y = IsMoving b y
-OfRank (suc (suc (suc (suc (suc (suc (suc (suc (suc (suc (suc (suc (suc zero))))))))))))) b y = (l : ℕ) × (bytes : List ℕ) × (y ≡ action.Write l bytes) × MayWrite b l bytes
-OfRank (suc (suc (suc (suc (suc (suc (suc (suc (suc (suc (suc (suc (suc (suc zero)))))))))))))) b y = (n : ℕ) × (kind : WaitKind) × (y ≡ action.Wait (owner.Try n 0) kind) × MayWait b n kind
-OfRank (suc (suc (suc (suc (suc (suc (suc (suc (suc (suc (suc (suc (suc (suc (suc more))))))))))))))) b y = (k : ℕ) × (e : Event) × (y ≡ action.Turn k (cause.Event e)) × (k ≡ b.turns)
+OfRank (suc zero) b y = (y ≡ action.Created None) × MayBeLazy b
+OfRank (suc (suc zero)) b y = IsOfValues b y
+OfRank (suc (suc (suc zero))) b y = (l : ℕ) × (y ≡ action.Close l) × MayClose b l
+OfRank (suc (suc (suc (suc zero)))) b y = (e : RedisError) × (y ≡ action.Created (Some e)) × MayFail b e
+OfRank (suc (suc (suc (suc (suc zero))))) b y = (l : ℕ) × (info : PushInfo) × (y ≡ action.Push l info) × (is_disconnection info.kind ≡ true) × MayPart b l info
+OfRank (suc (suc (suc (suc (suc (suc zero)))))) b y = IsAnswering b true y
+OfRank (suc (suc (suc (suc (suc (suc (suc zero))))))) b y = (t : ℕ) × (ms : ℕ) × (what : Purpose) × (y ≡ action.Timer t ms what) × MayRest b t ms what
+OfRank (suc (suc (suc (suc (suc (suc (suc (suc zero)))))))) b y = (g : ℕ) × (y ≡ action.Generation g) × MayGenerate b g
+OfRank (suc (suc (suc (suc (suc (suc (suc (suc (suc zero))))))))) b y = (l : ℕ) × (host : List ℕ) × (port : ℕ) × (y ≡ action.Connect l host port) × MayConnect b l host port
+OfRank (suc (suc (suc (suc (suc (suc (suc (suc (suc (suc zero)))))))))) b y = (t : ℕ) × (ms : ℕ) × (what : Purpose) × (y ≡ action.Timer t ms what) × MayTimeConnect b t ms what
+OfRank (suc (suc (suc (suc (suc (suc (suc (suc (suc (suc (suc zero))))))))))) b y = (l : ℕ) × (k : ℕ) × (count : ℕ) × (len : ℕ) × (y ≡ action.Start l k owner.Setup count len) × MaySetUp b l k count len
+OfRank (suc (suc (suc (suc (suc (suc (suc (suc (suc (suc (suc (suc zero)))))))))))) b y = (l : ℕ) × (k : ℕ) × (count : ℕ) × (len : ℕ) × (y ≡ action.Start l k owner.Monitor count len) × MayWatch b l k count len
+OfRank (suc (suc (suc (suc (suc (suc (suc (suc (suc (suc (suc (suc (suc zero))))))))))))) b y = (t : ℕ) × (ms : ℕ) × (what : Purpose) × (y ≡ action.Timer t ms what) × MayTimeRepeat b t ms what
+OfRank (suc (suc (suc (suc (suc (suc (suc (suc (suc (suc (suc (suc (suc (suc zero)))))))))))))) b y = (l : ℕ) × (k : ℕ) × (count : ℕ) × (len : ℕ) × (y ≡ action.Start l k owner.Resub count len) × MayRepeat b l k count len
+OfRank (suc (suc (suc (suc (suc (suc (suc (suc (suc (suc (suc (suc (suc (suc (suc zero))))))))))))))) b y = (t : ℕ) × (ms : ℕ) × (what : Purpose) × (y ≡ action.Timer t ms what) × MayTimeRenewal b t ms what
+OfRank (suc (suc (suc (suc (suc (suc (suc (suc (suc (suc (suc (suc (suc (suc (suc (suc zero)))))))))))))))) b y = (l : ℕ) × (k : ℕ) × (count : ℕ) × (len : ℕ) × (y ≡ action.Start l k owner.Auth count len) × MayRenew b l k count len
+OfRank (suc (suc (suc (suc (suc (suc (suc (suc (suc (suc (suc (suc (suc (suc (suc (suc (suc zero))))))))))))))))) b y = IsMoving b y
+OfRank (suc (suc (suc (suc (suc (suc (suc (suc (suc (suc (suc (suc (suc (suc (suc (suc (suc (suc zero)))))))))))))))))) b y = (l : ℕ) × (bytes : List ℕ) × (y ≡ action.Write l bytes) × MayWrite b l bytes
+OfRank (suc (suc (suc (suc (suc (suc (suc (suc (suc (suc (suc (suc (suc (suc (suc (suc (suc (suc (suc zero))))))))))))))))))) b y = (n : ℕ) × (kind : WaitKind) × (y ≡ action.Wait (owner.Try n 0) kind) × MayWait b n kind
+OfRank (suc (suc (suc (suc (suc (suc (suc (suc (suc (suc (suc (suc (suc (suc (suc (suc (suc (suc (suc (suc more)))))))))))))))))))) b y = (k : ℕ) × (e : Event) × (y ≡ action.Turn k (cause.Event e)) × (k ≡ b.turns)
 
 -- an outcome that is owed is of its rank
 answer_of_rank : (b : Book) (n : ℕ) (o : Outcome) (over : Bool) → is_over (link_of b n) ≡ over → MayAnswer b n o → OfRank (answer_rank over) b (action.Outcome n o)
@@ -340,8 +391,9 @@ outcome_of_rank b n o (inl owes) = answer_of_rank b n o (is_over (link_of b n)) 
 outcome_of_rank b n o (inr told) = tell_moving b n o told
 
 -- so is the creation
-creation_of_rank : (b : Book) (e : Option RedisError) → MayShowCreation b e → OfRank (creation_rank e) b (action.Created e)
-creation_of_rank b None may = inr (inl (refl, may))
+creation_of_rank : (b : Book) (e : Option RedisError) (may : MayShowCreation b e) → OfRank (creation_rank b e may) b (action.Created e)
+creation_of_rank b None (inl may) = inr (inl (refl, may))
+creation_of_rank b None (inr may) = (refl, may)
 creation_of_rank b (Some e) may = (e, refl, may)
 
 -- and a push
@@ -351,9 +403,11 @@ push_of_rank b l info true e may = (l, info, refl, e, may)
 
 -- and a timer
 timer_of_rank : (b : Book) (t ms : ℕ) (what : Purpose) (may : MayTimer b t ms what) → OfRank (timer_rank b t ms what may) b (action.Timer t ms what)
-timer_of_rank b t ms what (inl may) = (t, ms, what, refl, may)
+timer_of_rank b t ms what (inl (inl may)) = (t, ms, what, refl, may)
+timer_of_rank b t ms what (inl (inr may)) = (t, ms, what, refl, may)
 timer_of_rank b t ms what (inr (inl may)) = ask_moving b t ms what may
-timer_of_rank b t ms what (inr (inr may)) = (t, ms, what, refl, may)
+timer_of_rank b t ms what (inr (inr (inl may))) = (t, ms, what, refl, may)
+timer_of_rank b t ms what (inr (inr (inr may))) = (t, ms, what, refl, may)
 
 -- each action that may stand is of its rank
 pub of_rank : (b : Book) (y : Action) (may : MayStand b y) → OfRank (rank b y may) b y
@@ -362,22 +416,31 @@ of_rank b (action.Connect l host port) may = (l, host, port, refl, may)
 of_rank b (action.Timer t ms what) may = timer_of_rank b t ms what may
 of_rank b (action.Took owner.Setup l count) may = absurd may
 of_rank b (action.Took owner.Auth l count) may = absurd may
+of_rank b (action.Took owner.Resub l count) may = absurd may
 of_rank b (action.Took owner.Monitor l count) may = absurd may
 of_rank b (action.Took (owner.Try n round) l count) may = subst (λ r. IsMoving b (action.Took (owner.Try n r) l count)) (sym may.0) (take_moving b n l count may.1)
 of_rank b (action.Outcome n o) may = outcome_of_rank b n o may
 of_rank b (action.Push l info) may = push_of_rank b l info (is_disconnection info.kind) refl may
-of_rank b (action.Message msg) may = inr (inr (inl (current b, notice.Message msg, refl, may)))
-of_rank b (action.Monitor v) may = inr (inr (inl (current b, notice.Monitor v, refl, may)))
+of_rank b (action.Message msg) may = inr (inr (inl (b.current, notice.Message msg, refl, may)))
+of_rank b (action.Monitor v) may = inr (inr (inl (b.current, notice.Monitor v, refl, may)))
 of_rank b (action.NeedCreds c l) may = inr (inr (inr (c, l, refl, may)))
+of_rank b (action.Generation g) may = (g, refl, may)
+of_rank b (action.Round owner.Setup on) may = absurd may
+of_rank b (action.Round owner.Auth on) may = absurd may
+of_rank b (action.Round owner.Resub on) may = absurd may
+of_rank b (action.Round owner.Monitor on) may = absurd may
+of_rank b (action.Round (owner.Try n round) on) may = subst (λ r. IsMoving b (action.Round (owner.Try n r) on)) (sym may.0) (round_moving b n on may.1)
 of_rank b (action.Close l) may = (l, refl, may)
 of_rank b (action.Created e) may = creation_of_rank b e may
 of_rank b (action.Start l k owner.Setup count len) may = (l, k, count, len, refl, may)
 of_rank b (action.Start l k owner.Auth count len) may = (l, k, count, len, refl, may)
+of_rank b (action.Start l k owner.Resub count len) may = (l, k, count, len, refl, may)
 of_rank b (action.Start l k owner.Monitor count len) may = (l, k, count, len, refl, may)
 of_rank b (action.Start l k (owner.Try n round) count len) may = subst (λ r. IsMoving b (action.Start l k (owner.Try n r) count len)) (sym may.0) (start_moving b l k n count len may.1)
 of_rank b (action.Write l bytes) may = (l, bytes, refl, may)
 of_rank b (action.Wait owner.Setup kind) may = absurd may
 of_rank b (action.Wait owner.Auth kind) may = absurd may
+of_rank b (action.Wait owner.Resub kind) may = absurd may
 of_rank b (action.Wait owner.Monitor kind) may = absurd may
 of_rank b (action.Wait (owner.Try n round) kind) may = (n, kind, ap (λ r. action.Wait (owner.Try n r) kind) may.0, may.1)
 of_rank b (action.Turn k (cause.Event e)) may = (k, e, refl, may.next)
@@ -386,18 +449,18 @@ of_rank b (action.Turn k (cause.Event e)) may = (k, e, refl, may.next)
 answer_or_created : (b : Book) (n : ℕ) (o : Outcome) → is_over (link_of b n) ≡ false → MayAnswer b n o → MayBeCreated b → ⊥
 answer_or_created b n o e p q = not_none (owed b n) o (q.answered n p.asked e) p.owes
 
--- submissions go to the link of which something waits to be told
-pub on_its_link : (b : Book) (n l : ℕ) (what : Notice) → Sound b → MayNotify b l what → (b.story n).link ≡ l
-on_its_link b n l what h q =
-    let first : (b.story n).link ≡ 0 = h.goes n in
-    let i : l < b.links = up_is_numbered b l h.links (h.waits l q.is_heard q.heard q.next) in
-    let one : b.links ≤ 1 = h.opens.one_link in
-    omega (arith, first, i, one)
+-- the current link is the one of which something waits to be told
+pub told_is_current : (b : Book) (l : ℕ) (what : Notice) → Sound b → MayNotify b l what → l ≡ b.current
+told_is_current b l what h q = up_is_current b l h (h.waits l q.is_heard q.heard q.next)
+
+-- so open submissions go to it
+pub on_its_link : (b : Book) (n l : ℕ) (what : Notice) → Sound b → IsOpen b n → MayNotify b l what → (b.story n).link ≡ l
+on_its_link b n l what h o q = (h.goes n).open_on o ∙ sym (told_is_current b l what h q)
 
 -- nor do an outcome and what is told
 answer_or_notice : (b : Book) (n : ℕ) (o : Outcome) (l : ℕ) (what : Notice) → Sound b → MayAnswer b n o → MayNotify b l what → ⊥
 answer_or_notice b n o l what h p q =
-    let same : (b.story n).link ≡ l = on_its_link b n l what h q in
+    let same : (b.story n).link ≡ l = on_its_link b n l what h p.asked q in
     q.answered n p.asked same (p.after_notices q.is_heard q.heard (ap (λ j. next_notice (b.link j)) same ∙ q.next))
 
 -- nor that and that a link is ready
@@ -460,15 +523,18 @@ beside_push b l info y false h e p q = beside_telling b l (notice.Push info) y h
 beside_push b l info y true h e p q = inl (one_part b l q.0 info q.1 e q.3 p q.4 ∙ sym q.2)
 
 -- beside the creation
-beside_creation : (b : Book) (e : Option RedisError) (y : Action) → MayShowCreation b e → OfRank (creation_rank e) b y → AreOne (action.Created e) y
-beside_creation b None y p q = beside_ready b y p q
+beside_creation : (b : Book) (e : Option RedisError) (y : Action) (may : MayShowCreation b e) → OfRank (creation_rank b e may) b y → AreOne (action.Created e) y
+beside_creation b None y (inl p) q = beside_ready b y p q
+beside_creation b None y (inr p) q = inl (sym q.0)
 beside_creation b (Some e) y p q = inl (ap (λ x. action.Created (Some x)) (one_failure b e q.0 p q.2) ∙ sym q.1)
 
 -- beside a timer
 beside_timer : (b : Book) (t ms : ℕ) (what : Purpose) (y : Action) (p : MayTimer b t ms what) → OfRank (timer_rank b t ms what p) b y → AreOne (action.Timer t ms what) y
-beside_timer b t ms what y (inl p) q = inl (one_timer b t q.0 ms q.1 what q.2 p q.4 ∙ sym q.3)
+beside_timer b t ms what y (inl (inl p)) q = inl (one_timer b t q.0 ms q.1 what q.2 p q.4 ∙ sym q.3)
+beside_timer b t ms what y (inl (inr p)) q = inl (one_rest b t q.0 ms q.1 what q.2 p q.4 ∙ sym q.3)
 beside_timer b t ms what y (inr (inl p)) q = inl (one_moving b (action.Timer t ms what) y (ask_moving b t ms what p) q)
-beside_timer b t ms what y (inr (inr p)) q = inl (one_renewal_timer b t q.0 ms q.1 what q.2 p q.4 ∙ sym q.3)
+beside_timer b t ms what y (inr (inr (inl p))) q = inl (one_renewal_timer b t q.0 ms q.1 what q.2 p q.4 ∙ sym q.3)
+beside_timer b t ms what y (inr (inr (inr p))) q = inl (one_repeat_timer b t q.0 ms q.1 what q.2 p q.4 ∙ sym q.3)
 
 -- beside each
 pub beside : (b : Book) (x y : Action) (p : MayStand b x) → Sound b → OfRank (rank b x p) b y → AreOne x y
@@ -477,22 +543,31 @@ beside b (action.Connect l host port) y p h q = inl (one_connect b l q.0 host q.
 beside b (action.Timer t ms what) y p h q = beside_timer b t ms what y p q
 beside b (action.Took owner.Setup l count) y p h q = absurd p
 beside b (action.Took owner.Auth l count) y p h q = absurd p
+beside b (action.Took owner.Resub l count) y p h q = absurd p
 beside b (action.Took owner.Monitor l count) y p h q = absurd p
 beside b (action.Took (owner.Try n round) l count) y p h q = subst (λ r. AreOne (action.Took (owner.Try n r) l count) y) (sym p.0) (inl (one_moving b (action.Took (owner.Try n 0) l count) y (take_moving b n l count p.1) q))
 beside b (action.Outcome n o) y p h q = beside_outcome b n o y p h q
 beside b (action.Push l info) y p h q = beside_push b l info y (is_disconnection info.kind) h refl p q
-beside b (action.Message msg) y p h q = beside_telling b (current b) (notice.Message msg) y h p q
-beside b (action.Monitor v) y p h q = beside_telling b (current b) (notice.Monitor v) y h p q
+beside b (action.Message msg) y p h q = beside_telling b b.current (notice.Message msg) y h p q
+beside b (action.Monitor v) y p h q = beside_telling b b.current (notice.Monitor v) y h p q
 beside b (action.NeedCreds c l) y p h q = beside_need b c l y p q
+beside b (action.Generation g) y p h q = inl (one_generation b g q.0 p q.2 ∙ sym q.1)
+beside b (action.Round owner.Setup on) y p h q = absurd p
+beside b (action.Round owner.Auth on) y p h q = absurd p
+beside b (action.Round owner.Resub on) y p h q = absurd p
+beside b (action.Round owner.Monitor on) y p h q = absurd p
+beside b (action.Round (owner.Try n round) on) y p h q = subst (λ r. AreOne (action.Round (owner.Try n r) on) y) (sym p.0) (inl (one_moving b (action.Round (owner.Try n 0) on) y (round_moving b n on p.1) q))
 beside b (action.Close l) y p h q = inl (one_close b l q.0 p q.2 ∙ sym q.1)
 beside b (action.Created e) y p h q = beside_creation b e y p q
 beside b (action.Start l k owner.Setup count len) y p h q = inl (one_setup b l q.0 k q.1 count q.2 len q.3 p q.5 ∙ sym q.4)
 beside b (action.Start l k owner.Auth count len) y p h q = inl (one_renewal b l q.0 k q.1 count q.2 len q.3 p q.5 ∙ sym q.4)
+beside b (action.Start l k owner.Resub count len) y p h q = inl (one_repeat b l q.0 k q.1 count q.2 len q.3 p q.5 ∙ sym q.4)
 beside b (action.Start l k owner.Monitor count len) y p h q = inl (one_watch b l q.0 k q.1 count q.2 len q.3 p q.5 ∙ sym q.4)
 beside b (action.Start l k (owner.Try n round) count len) y p h q = subst (λ r. AreOne (action.Start l k (owner.Try n r) count len) y) (sym p.0) (inl (one_moving b (action.Start l k (owner.Try n 0) count len) y (start_moving b l k n count len p.1) q))
 beside b (action.Write l bytes) y p h q = inl (one_write b l q.0 bytes q.1 p q.3 ∙ sym q.2)
 beside b (action.Wait owner.Setup kind) y p h q = absurd p
 beside b (action.Wait owner.Auth kind) y p h q = absurd p
+beside b (action.Wait owner.Resub kind) y p h q = absurd p
 beside b (action.Wait owner.Monitor kind) y p h q = absurd p
 beside b (action.Wait (owner.Try n round) kind) y p h q = subst (λ r. AreOne (action.Wait (owner.Try n r) kind) y) (sym p.0) (inl (one_wait b n q.0 kind q.1 p.1 q.3 ∙ sym q.2))
 beside b (action.Turn j (cause.Event e)) y p h q = subst (AreOne (action.Turn j (cause.Event e))) (sym q.2) (inr (p.next ∙ sym q.3, tt))

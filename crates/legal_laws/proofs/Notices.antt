@@ -14,11 +14,14 @@ use Rattle.driver_model.specs.Config.{hearing_of}
 use Rattle.driver_model.specs.Hearing.{hears_something}
 use Rattle.driver_model.specs.declared.hearing.Notice.{Notice}
 use Rattle.driver_model.specs.declared.hearing.Notice.TheVariants as notice
-use Rattle.driver_model.specs.News.{News, silence, connected, refused, overdue, took, came, failed, dropped, shut, news_of, authorized, denied, deserted, renewed, unrenewed, late}
+use Rattle.driver_model.specs.News.{News, silence, connected, refused, overdue, took, came, failed, dropped, shut, news_of, authorized, denied, deserted, renewed, unrenewed, late, unrepeated}
 use Rattle.driver_model.specs.Push.{is_disconnection}
-use Rattle.legal_trace.specs.Ledger.{Ledger, Heard, asks, hears, begins, offers, tells, ends, parts, noted, noted_each, refused_in, bytes_came, is_over, dials, next_notice, sources, awaits_credentials, authorized_by, times, may_renew, renewed_by, unrenewed_by, is_renewal_open, lost_by}
-use Rattle.legal_trace.specs.Book.{Book, blank_book, book, entered, entered_each, if_mine, push_line, info_in, message_of, wanted_in, is_renewal_of, hearing_in, current}
+use Rattle.legal_trace.specs.Ledger.{Ledger, Heard, asks, hears, begins, offers, tells, ends, parts, noted, noted_each, refused_in, bytes_came, is_over, dials, next_notice, sources, awaits_credentials, authorized_by, may_renew, renewed_by, unrenewed_by, is_renewal_open, lost_by, is_repeating, unrepeated_by}
+use Rattle.legal_trace.specs.Managers.{settings_in, is_last}
+use Rattle.legal_trace.specs.Book.{Book, blank_book, book, entered, entered_each, if_mine, push_line, info_in, message_of, wanted_in, hearing_in}
 use Rattle.legal_trace.specs.Legal.{MayStand, MayNotify, MayPart, MayPush, MayPushBy, AllStand, IsSettled, is_heard, Legal}
+use Rattle.legal_trace.specs.Again.{repeats_in}
+use Rattle.legal_trace.proofs.Clocks.{timer_tells}
 use Rattle.legal_trace.proofs.Books.{stand_front}
 use Rattle.legal_trace.proofs.Ledgers.{mine_keeps}
 use Rattle.legal_trace.proofs.Plain.{same_some}
@@ -65,6 +68,7 @@ hears_on l turn deserted = same_notices l _ refl refl
 hears_on l turn (renewed c) = chosen (λ (x : Ledger). GoesOn l (record x { heard = renewed c })) (may_renew l) (renewed_by l c) l (λ t. same_notices l _ refl refl) (λ e. same_notices l _ refl refl)
 hears_on l turn unrenewed = chosen (λ (x : Ledger). GoesOn l (record x { heard = unrenewed })) l.up (unrenewed_by l) l (λ t. same_notices l _ refl refl) (λ e. same_notices l _ refl refl)
 hears_on l turn (late k) = chosen (λ (x : Ledger). GoesOn l (record x { heard = late k })) (l.up && is_renewal_open l k) (lost_by l) l (λ t. same_notices l _ refl refl) (λ e. same_notices l _ refl refl)
+hears_on l turn unrepeated = chosen (λ (x : Ledger). GoesOn l (record x { heard = unrepeated })) (is_repeating l) (unrepeated_by l) l (λ t. same_notices l _ refl refl) (λ e. same_notices l _ refl refl)
 hears_on l turn dropped = same_notices l _ refl refl
 hears_on l turn shut = same_notices l _ refl refl
 
@@ -115,12 +119,12 @@ push_told b l m info may mine real =
     (subst (λ j. MayNotify b j (notice.Push info)) (eq_from m l mine) (noting_of b m info real may))
 
 -- what tells it of the link that submissions go to does one of the two
-current_told : (b : Book) (l : ℕ) (n : Notice) (a : Action) → told_by b l a ≡ (if current b == l then n ∷ [] else []) → (entered b a).link l ≡ noted_each (b.link l) (if_mine (current b == l) tells)
-    → MayNotify b (current b) n → TellsNothing b l a ⊎ TellsNext b l a
-current_told b l n a told e may = by_test (current b == l) (TellsNothing b l a ⊎ TellsNext b l a)
-    (λ t. inr (next_told b l n a (told ∙ taken_if (current b == l) (n ∷ []) [] t) (e ∙ ap (λ mine. noted_each (b.link l) (if_mine mine tells)) t) (subst (λ j. MayNotify b j n) (eq_from (current b) l t) may)))
+current_told : (b : Book) (l : ℕ) (n : Notice) (a : Action) → told_by b l a ≡ (if b.current == l then n ∷ [] else []) → (entered b a).link l ≡ noted_each (b.link l) (if_mine (b.current == l) tells)
+    → MayNotify b b.current n → TellsNothing b l a ⊎ TellsNext b l a
+current_told b l n a told e may = by_test (b.current == l) (TellsNothing b l a ⊎ TellsNext b l a)
+    (λ t. inr (next_told b l n a (told ∙ taken_if (b.current == l) (n ∷ []) [] t) (e ∙ ap (λ mine. noted_each (b.link l) (if_mine mine tells)) t) (subst (λ j. MayNotify b j n) (eq_from b.current l t) may)))
     (λ f. inl (record {
-      none = told ∙ left_if (current b == l) (n ∷ []) [] f;
+      none = told ∙ left_if (b.current == l) (n ∷ []) [] f;
       goes = same_notices (b.link l) ((entered b a).link l) (ap (λ (x : Ledger). x.told) (e ∙ ap (λ mine. noted_each (b.link l) (if_mine mine tells)) f)) (ap (λ (x : Ledger). x.notices) (e ∙ ap (λ mine. noted_each (b.link l) (if_mine mine tells)) f));
     }))
 
@@ -139,10 +143,12 @@ step_tells b l (action.Message msg) may = current_told b l (notice.Message msg) 
 step_tells b l (action.Monitor v) may = current_told b l (notice.Monitor v) (action.Monitor v) refl refl may
 step_tells b l (action.Turn k (cause.Opening config word)) may = no_notice b l (action.Turn k (cause.Opening config word)) refl (same_notices (b.link l) (b.link l) refl refl)
 step_tells b l (action.Turn k (cause.Event e)) may = no_notice b l (action.Turn k (cause.Event e)) refl (hears_on (b.link l) k (news_of b.timers b.sources l e.kind))
-step_tells b l (action.Connect m host port) may = no_notice b l (action.Connect m host port) refl (mine_keeps (GoesOn (b.link l)) (m == l) (b.link l) (asks (info_in b.config) (wanted_in b.config) (hearing_in b.config)) (λ t. same_notices (b.link l) _ refl refl) (same_notices (b.link l) (b.link l) refl refl))
-step_tells b l (action.Timer t ms what) may = no_notice b l (action.Timer t ms what) refl (mine_keeps (GoesOn (b.link l)) (is_renewal_of l what) (b.link l) times (λ t. same_notices (b.link l) _ refl refl) (same_notices (b.link l) (b.link l) refl refl))
+step_tells b l (action.Connect m host port) may = no_notice b l (action.Connect m host port) refl (mine_keeps (GoesOn (b.link l)) (m == l) (b.link l) (asks (info_in b.config) (wanted_in b.config) (hearing_in b.config) (is_last (settings_in b.config) b.attempt) (repeats_in (settings_in b.config) b.tracked)) (λ t. same_notices (b.link l) _ refl refl) (same_notices (b.link l) (b.link l) refl refl))
+step_tells b l (action.Timer t ms what) may = no_notice b l (action.Timer t ms what) refl (timer_tells (GoesOn (b.link l)) (b.link l) l what (λ on k is t. same_notices (b.link l) _ refl refl) (λ on is t. same_notices (b.link l) _ refl refl) (same_notices (b.link l) (b.link l) refl refl))
 step_tells b l (action.Took who m count) may = no_notice b l (action.Took who m count) refl (same_notices (b.link l) (b.link l) refl refl)
 step_tells b l (action.NeedCreds c m) may = no_notice b l (action.NeedCreds c m) refl (mine_keeps (GoesOn (b.link l)) (m == l) (b.link l) sources (λ t. same_notices (b.link l) _ refl refl) (same_notices (b.link l) (b.link l) refl refl))
+step_tells b l (action.Generation g) may = no_notice b l (action.Generation g) refl (same_notices (b.link l) (b.link l) refl refl)
+step_tells b l (action.Round who m) may = no_notice b l (action.Round who m) refl (same_notices (b.link l) (b.link l) refl refl)
 step_tells b l (action.Close m) may = no_notice b l (action.Close m) refl (mine_keeps (GoesOn (b.link l)) (m == l) (b.link l) (ends (b.turns - 1)) (λ t. same_notices (b.link l) _ refl refl) (same_notices (b.link l) (b.link l) refl refl))
 step_tells b l (action.Write m bytes) may = no_notice b l (action.Write m bytes) refl (mine_keeps (GoesOn (b.link l)) (m == l) (b.link l) (offers bytes) (λ t. same_notices (b.link l) _ refl refl) (same_notices (b.link l) (b.link l) refl refl))
 step_tells b l (action.Wait who kind) may = no_notice b l (action.Wait who kind) refl (same_notices (b.link l) (b.link l) refl refl)
@@ -234,6 +240,8 @@ settled_whole config word events front (action.Push l info ∷ more) h whole = a
 settled_whole config word events front (action.Message msg ∷ more) h whole = absurd whole
 settled_whole config word events front (action.Monitor v ∷ more) h whole = absurd whole
 settled_whole config word events front (action.NeedCreds c l ∷ more) h whole = absurd whole
+settled_whole config word events front (action.Generation g ∷ more) h whole = absurd whole
+settled_whole config word events front (action.Round who l ∷ more) h whole = absurd whole
 settled_whole config word events front (action.Close l ∷ more) h whole = absurd whole
 settled_whole config word events front (action.Write l bytes ∷ more) h whole = absurd whole
 settled_whole config word events front (action.Wait who kind ∷ more) h whole = absurd whole
@@ -253,4 +261,4 @@ tells_each config word events trace h some front more l is whole =
     let settled = settled_whole config word events front more legal whole in
     let done = settled.written.moved.begun.applied in
     let heard : is_heard (book front) ≡ true = ap (λ config. hears_something (hearing_in config)) (ready.configured (applied_began (book front) ready.sound done)) ∙ some in
-    all_said l front (front_stands config word events front more legal) (done.pushed l heard)
+    all_said l front (front_stands config word events front more legal) (done.shown.pushed l heard)

@@ -1,7 +1,7 @@
 -- Links and submissions are numbered in order.
-use Rattle.std.proofs.Common.{◌≡◌, ◌≢◌, ◌⊎◌, inl, inr, ℕ, ◌+◌, ◌-◌, ◌<◌, ◌≤◌, ◌==◌, nat_le, Bool, true, false, ◌&&◌, not, Option, Some, None, if◌then◌else◌, refl, sym, ap, ◌∙◌, subst, arith}
+use Rattle.std.proofs.Common.{◌≡◌, ◌≢◌, ◌⊎◌, inl, inr, ℕ, ◌+◌, ◌-◌, ◌<◌, ◌≤◌, ◌==◌, nat_le, Bool, true, false, ◌&&◌, not, Option, Some, None, if◌then◌else◌, refl, sym, ap, ◌∙◌, subst, arith, max}
 use Rattle.std.specs.Prelude.{slice_get}
-use Rattle.containers.proofs.Choices.{by_test, chosen, eq_from, left_if, le_from, not_le_from, ne_test, ne_from, not_both}
+use Rattle.containers.proofs.Choices.{by_test, chosen, eq_from, left_if, le_from, not_le_from, ne_test, ne_from, not_both, both_right}
 use Rattle.driver_model.specs.declared.action.Action.{Action}
 use Rattle.driver_model.specs.declared.action.Action.TheVariants as action
 use Rattle.driver_model.specs.declared.action.Cause.TheVariants as cause
@@ -13,17 +13,21 @@ use Rattle.driver_model.specs.declared.action.Purpose.{Purpose}
 use Rattle.driver_model.specs.declared.action.Purpose.TheVariants as purpose
 use Rattle.driver_model.specs.declared.action.SourceUse.{SourceUse}
 use Rattle.driver_model.specs.declared.action.SourceUse.TheVariants as source
-use Rattle.driver_model.specs.News.{News, silence, connected, refused, overdue, took, came, failed, authorized, denied, deserted, renewed, unrenewed, late, news_of, for_link, of_timer, of_source}
+use Rattle.driver_model.specs.News.{News, silence, connected, refused, overdue, took, came, failed, authorized, denied, deserted, renewed, unrenewed, late, unrepeated, news_of, for_link, of_timer, of_source}
 use Rattle.driver_model.specs.declared.outcome.Outcome.{Outcome}
-use Rattle.legal_trace.specs.Ledger.{Ledger, End, asks, begins, offers, ends, is_over, ending, ending_alive, ending_asked, noted_each, sources, times}
-use Rattle.legal_trace.specs.Story.{Story, blank_story, is_open, is_told, handed_in, left, holds, clocked, fires, tried, waits, answered}
-use Rattle.legal_trace.specs.Book.{Book, entered, lines_of, if_mine, info_in, message_of, current, is_clock_of, after_event, submitted_by, is_unspoken, wanted_in, is_renewal_of, hearing_in}
+use Rattle.legal_trace.specs.Ledger.{Ledger, End, asks, begins, offers, ends, is_over, ending, ending_alive, ending_asked, noted_each, sources}
+use Rattle.legal_trace.specs.Story.{Story, blank_story, is_open, is_told, handed_in, carried, left, holds, clocked, rounds, fires, tried, waits, answered}
+use Rattle.legal_trace.specs.Managers.{settings_in, is_last}
+use Rattle.legal_trace.specs.Book.{Book, entered, lines_of, if_mine, if_own, info_in, message_of, is_clock_of, is_rest, after_event, after_timer, submitted_by, is_unspoken, wanted_in, hearing_in}
 use Rattle.legal_trace.specs.Events.{is_bad_event}
 use Rattle.legal_trace.specs.Legal.{MayAnswer, MayTell, MayTimer, MayStand, IsOpen, CanMove}
+use Rattle.legal_trace.specs.Again.{repeats_in}
+use Rattle.legal_trace.proofs.Clocks.{timer_tells}
 use Rattle.legal_trace.proofs.Ledgers.{each_keeps, mine_keeps, IsAsked, asked_keeps, IsUnasked, unasked_hears}
 use Rattle.legal_trace.proofs.Plain.{not_none}
 use Rattle.legal_trace.proofs.Moves.{open_or_told, starter_moves, taker_moves, asker_moves}
 use Rattle.legal_laws.proofs.Pushed.{push_keeps, tell_keeps}
+use Rattle.legal_laws.proofs.Rounds.{round_moves}
 
 -- the links below that number were asked for, and no others
 pub record LinksAreNumbered (links : ℕ) (link : ℕ → Ledger) : Type 0 where
@@ -45,6 +49,8 @@ not_of_timer l None e = cc e
 not_of_timer l (Some (purpose.Connect m)) e = not_for_link (m == l) overdue (λ x. cc x) e
 not_of_timer l (Some (purpose.Response who)) e = cc e
 not_of_timer l (Some (purpose.Renewal m k)) e = not_for_link (m == l) (late k) (λ x. cc x) e
+not_of_timer l (Some (purpose.Backoff g)) e = cc e
+not_of_timer l (Some (purpose.Resubscription m)) e = not_for_link (m == l) unrepeated (λ x. cc x) e
 
 -- nor is what comes of a source
 not_of_source : (l : ℕ) (what : Option SourceUse) (first later : News) → (first ≡ connected → ⊥) → (later ≡ connected → ⊥) → of_source l what first later ≡ connected → ⊥
@@ -53,7 +59,7 @@ not_of_source l (Some (source.Setup m)) first later one two e = not_for_link (m 
 not_of_source l (Some (source.Renewal m)) first later one two e = not_for_link (m == l) later two e
 
 -- the connect of a link that was not asked for can't succeed
-not_connected : (b : Book) (l : ℕ) (kind : EventKind) → b.links ≤ l → is_bad_event b kind ≡ false → news_of b.timers b.sources l kind ≡ connected → ⊥
+pub not_connected : (b : Book) (l : ℕ) (kind : EventKind) → b.links ≤ l → is_bad_event b kind ≡ false → news_of b.timers b.sources l kind ≡ connected → ⊥
 unfolding is_bad_event
 not_connected b l (event.Connected m) i good e =
     let known : m < b.links = not_le_from b.links m good in
@@ -86,13 +92,15 @@ unasked_kept b l (action.Turn k (cause.Event e)) may i h = unasked_hears (b.link
 unasked_kept b l (action.Connect m host port) may i h =
     let e : m ≡ b.links = may.next in
     let other : (m == l) ≡ false = ne_test m l (omega arith) in
-    mine_keeps IsUnasked (m == l) (b.link l) (asks (info_in b.config) (wanted_in b.config) (hearing_in b.config)) (λ t. absurd (not_both (m == l) other t)) h
-unasked_kept b l (action.Timer t ms what) may i h = mine_keeps IsUnasked (is_renewal_of l what) (b.link l) times (λ t. h) h
+    mine_keeps IsUnasked (m == l) (b.link l) (asks (info_in b.config) (wanted_in b.config) (hearing_in b.config) (is_last (settings_in b.config) b.attempt) (repeats_in (settings_in b.config) b.tracked)) (λ t. absurd (not_both (m == l) other t)) h
+unasked_kept b l (action.Timer t ms what) may i h = timer_tells IsUnasked (b.link l) l what (λ on k is t. h) (λ on is t. h) h
 unasked_kept b l (action.Took who m count) may i h = h
 unasked_kept b l (action.Push m info) may i h = push_keeps IsUnasked (m == l) info.kind (b.link l) h h h
-unasked_kept b l (action.Message msg) may i h = tell_keeps IsUnasked (current b == l) (b.link l) h h
-unasked_kept b l (action.Monitor v) may i h = tell_keeps IsUnasked (current b == l) (b.link l) h h
+unasked_kept b l (action.Message msg) may i h = tell_keeps IsUnasked (b.current == l) (b.link l) h h
+unasked_kept b l (action.Monitor v) may i h = tell_keeps IsUnasked (b.current == l) (b.link l) h h
 unasked_kept b l (action.NeedCreds c m) may i h = mine_keeps IsUnasked (m == l) (b.link l) sources (λ t. h) h
+unasked_kept b l (action.Generation g) may i h = h
+unasked_kept b l (action.Round who m) may i h = h
 unasked_kept b l (action.Close m) may i h =
     mine_keeps IsUnasked (m == l) (b.link l) (ends (b.turns - 1))
     (λ t. absurd (not_none (ending (b.link m)) may.why (unasked_stays (b.link m) (subst (λ j. IsUnasked (b.link j)) (sym (eq_from m l t)) h)) may.ends)) h
@@ -103,7 +111,7 @@ unasked_kept b l (action.Created e) may i h = h
 unasked_kept b l (action.Outcome n o) may i h = h
 
 -- links are never taken back
-links_grow : (b : Book) (a : Action) → b.links ≤ (entered b a).links
+pub links_grow : (b : Book) (a : Action) → b.links ≤ (entered b a).links
 links_grow b (action.Turn k (cause.Opening config word)) = omega arith
 links_grow b (action.Turn k (cause.Event e)) = omega arith
 links_grow b (action.Connect m host port) = omega arith
@@ -113,6 +121,8 @@ links_grow b (action.Push m info) = omega arith
 links_grow b (action.Message msg) = omega arith
 links_grow b (action.Monitor v) = omega arith
 links_grow b (action.NeedCreds c m) = omega arith
+links_grow b (action.Generation g) = omega arith
+links_grow b (action.Round who m) = omega arith
 links_grow b (action.Close m) = omega arith
 links_grow b (action.Write m bytes) = omega arith
 links_grow b (action.Wait who kind) = omega arith
@@ -125,31 +135,36 @@ asked_stays : (b : Book) (l : ℕ) (a : Action) → IsAsked (b.link l) → IsAsk
 asked_stays b l a h = each_keeps IsAsked asked_keeps (b.link l) (lines_of b l a) h
 
 -- and a connect asks for the next one
-asked_kept : (b : Book) (l : ℕ) (a : Action) → MayStand b a → HasLinks b → l < (entered b a).links → IsAsked ((entered b a).link l)
+pub asked_kept : (b : Book) (l : ℕ) (a : Action) → MayStand b a → HasLinks b → l < (entered b a).links → IsAsked ((entered b a).link l)
 asked_kept b l (action.Turn k (cause.Opening config word)) may h i = asked_stays b l (action.Turn k (cause.Opening config word)) (h.asked l i)
 asked_kept b l (action.Turn k (cause.Event e)) may h i = asked_stays b l (action.Turn k (cause.Event e)) (h.asked l i)
 asked_kept b l (action.Connect m host port) may h i =
     let e : m ≡ b.links = may.next in
-    by_test (m == l) (IsAsked (noted_each (b.link l) (if_mine (m == l) (asks (info_in b.config) (wanted_in b.config) (hearing_in b.config)))))
-    (λ t. subst (λ (x : Bool). IsAsked (noted_each (b.link l) (if_mine x (asks (info_in b.config) (wanted_in b.config) (hearing_in b.config))))) (sym t) refl)
-    (λ f. let other : m ≢ l = ne_from m l f in mine_keeps IsAsked (m == l) (b.link l) (asks (info_in b.config) (wanted_in b.config) (hearing_in b.config)) (λ t. refl) (h.asked l (omega arith)))
+    by_test (m == l) (IsAsked (noted_each (b.link l) (if_mine (m == l) (asks (info_in b.config) (wanted_in b.config) (hearing_in b.config) (is_last (settings_in b.config) b.attempt) (repeats_in (settings_in b.config) b.tracked)))))
+    (λ t. subst (λ (x : Bool). IsAsked (noted_each (b.link l) (if_mine x (asks (info_in b.config) (wanted_in b.config) (hearing_in b.config) (is_last (settings_in b.config) b.attempt) (repeats_in (settings_in b.config) b.tracked))))) (sym t) refl)
+    (λ f. let other : m ≢ l = ne_from m l f in mine_keeps IsAsked (m == l) (b.link l) (asks (info_in b.config) (wanted_in b.config) (hearing_in b.config) (is_last (settings_in b.config) b.attempt) (repeats_in (settings_in b.config) b.tracked)) (λ t. refl) (h.asked l (omega arith)))
 asked_kept b l (action.Timer t ms what) may h i = asked_stays b l (action.Timer t ms what) (h.asked l i)
 asked_kept b l (action.Took owner.Setup m count) may h i = absurd may
 asked_kept b l (action.Took owner.Auth m count) may h i = absurd may
+asked_kept b l (action.Took owner.Resub m count) may h i = absurd may
 asked_kept b l (action.Took owner.Monitor m count) may h i = absurd may
 asked_kept b l (action.Took (owner.Try n round) m count) may h i = asked_stays b l (action.Took (owner.Try n round) m count) (h.asked l i)
 asked_kept b l (action.Push m info) may h i = asked_stays b l (action.Push m info) (h.asked l i)
 asked_kept b l (action.Message msg) may h i = asked_stays b l (action.Message msg) (h.asked l i)
 asked_kept b l (action.Monitor v) may h i = asked_stays b l (action.Monitor v) (h.asked l i)
 asked_kept b l (action.NeedCreds c m) may h i = asked_stays b l (action.NeedCreds c m) (h.asked l i)
+asked_kept b l (action.Generation g) may h i = asked_stays b l (action.Generation g) (h.asked l i)
+asked_kept b l (action.Round who m) may h i = asked_stays b l (action.Round who m) (h.asked l i)
 asked_kept b l (action.Close m) may h i = asked_stays b l (action.Close m) (h.asked l i)
 asked_kept b l (action.Write m bytes) may h i = asked_stays b l (action.Write m bytes) (h.asked l i)
 asked_kept b l (action.Wait owner.Setup kind) may h i = absurd may
 asked_kept b l (action.Wait owner.Auth kind) may h i = absurd may
+asked_kept b l (action.Wait owner.Resub kind) may h i = absurd may
 asked_kept b l (action.Wait owner.Monitor kind) may h i = absurd may
 asked_kept b l (action.Wait (owner.Try n round) kind) may h i = asked_stays b l (action.Wait (owner.Try n round) kind) (h.asked l i)
 asked_kept b l (action.Start m k owner.Setup count len) may h i = asked_stays b l (action.Start m k owner.Setup count len) (h.asked l i)
 asked_kept b l (action.Start m k owner.Auth count len) may h i = asked_stays b l (action.Start m k owner.Auth count len) (h.asked l i)
+asked_kept b l (action.Start m k owner.Resub count len) may h i = asked_stays b l (action.Start m k owner.Resub count len) (h.asked l i)
 asked_kept b l (action.Start m k owner.Monitor count len) may h i = asked_stays b l (action.Start m k owner.Monitor count len) (h.asked l i)
 asked_kept b l (action.Start m k (owner.Try n round) count len) may h i = asked_stays b l (action.Start m k (owner.Try n round) count len) (h.asked l i)
 asked_kept b l (action.Created e) may h i = asked_stays b l (action.Created e) (h.asked l i)
@@ -172,6 +187,12 @@ up_is_numbered b l h up = by_test (nat_le b.links l) (l < b.links)
 pub over_is_numbered : (b : Book) (l : ℕ) (end : End) → HasLinks b → (b.link l).end ≡ Some end → l < b.links
 over_is_numbered b l end h over = by_test (nat_le b.links l) (l < b.links)
     (λ t. absurd (not_none (b.link l).end end (h.unasked l (le_from b.links l t)).2 over))
+    (λ f. not_le_from b.links l f)
+
+-- so is one that was asked for
+pub asked_is_numbered : (b : Book) (l : ℕ) → HasLinks b → (b.link l).asked ≡ true → l < b.links
+asked_is_numbered b l h asked = by_test (nat_le b.links l) (l < b.links)
+    (λ t. absurd (not_both (b.link l).asked (h.unasked l (le_from b.links l t)).0 asked))
     (λ f. not_le_from b.links l f)
 
 -- and one that is up was asked for
@@ -210,16 +231,25 @@ others_blank b m n changed h i k = left_if (m == n) changed (b.story n) (ne_test
 fires_blank : (s : Story) → s ≡ blank_story → fires s ≡ blank_story
 fires_blank s e = ap fires e
 
--- nor is one that is asked for
-timer_leaves_blank : (b : Book) (t ms : ℕ) (what : Purpose) (n : ℕ) → MayTimer b t ms what → HasStories b → b.submissions ≤ n → (if is_clock_of n (Some what) then clocked (b.story n) t else b.story n) ≡ blank_story
-timer_leaves_blank b t ms what n (inl may) h i = ap (λ x. if is_clock_of n (Some x) then clocked (b.story n) t else b.story n) may.is_for ∙ h n i
-timer_leaves_blank b t ms what n (inr (inr may)) h i = ap (λ x. if is_clock_of n (Some x) then clocked (b.story n) t else b.story n) may.is_for ∙ h n i
-timer_leaves_blank b t ms what n (inr (inl may)) h i = ap (λ x. if is_clock_of n (Some x) then clocked (b.story n) t else b.story n) may.is_for ∙ others_blank b may.n n (clocked (b.story n) t) h i (mover_is_numbered b may.n h (asker_moves b t ms what may))
+-- nor is one that is asked for of another
+clock_leaves_blank : (b : Book) (t ms : ℕ) (what : Purpose) (n : ℕ) → MayTimer b t ms what → HasStories b → b.submissions ≤ n → if_own (is_clock_of n (Some what)) (clocked (b.story n) t) (b.story n) ≡ blank_story
+clock_leaves_blank b t ms what n (inl (inl may)) h i = ap (λ x. if_own (is_clock_of n (Some x)) (clocked (b.story n) t) (b.story n)) may.is_for ∙ h n i
+clock_leaves_blank b t ms what n (inl (inr may)) h i = ap (λ x. if_own (is_clock_of n (Some x)) (clocked (b.story n) t) (b.story n)) may.is_for ∙ h n i
+clock_leaves_blank b t ms what n (inr (inr (inl may))) h i = ap (λ x. if_own (is_clock_of n (Some x)) (clocked (b.story n) t) (b.story n)) may.is_for ∙ h n i
+clock_leaves_blank b t ms what n (inr (inr (inr may))) h i = ap (λ x. if_own (is_clock_of n (Some x)) (clocked (b.story n) t) (b.story n)) may.is_for ∙ h n i
+clock_leaves_blank b t ms what n (inr (inl may)) h i = ap (λ x. if_own (is_clock_of n (Some x)) (clocked (b.story n) t) (b.story n)) may.is_for ∙ others_blank b may.n n (clocked (b.story n) t) h i (mover_is_numbered b may.n h (asker_moves b t ms what may))
+
+-- so whichever it is for
+timer_leaves_blank : (b : Book) (t ms : ℕ) (what : Purpose) (n : ℕ) → MayTimer b t ms what → HasStories b → b.submissions ≤ n → after_timer b n t what ≡ blank_story
+timer_leaves_blank b t ms what n may h i =
+    chosen (λ s. s ≡ blank_story) (is_rest what && is_open (b.story n)) (carried (b.story n) b.links) (if_own (is_clock_of n (Some what)) (clocked (b.story n) t) (b.story n))
+    (λ e. absurd (let numbered : n < b.submissions = open_is_numbered b n h (both_right (is_rest what) (is_open (b.story n)) e) in omega (arith, numbered, i)))
+    (λ f. clock_leaves_blank b t ms what n may h i)
 
 -- an event that isn't bad is nothing to a submission that was not handed in
 event_leaves_blank : (b : Book) (n : ℕ) (kind : EventKind) → is_bad_event b kind ≡ false → HasStories b → b.submissions + submitted_by kind ≤ n → after_event b n kind ≡ blank_story
 unfolding is_bad_event
-event_leaves_blank b n (event.Submit what) good h i = left_if (b.submissions == n) (handed_in (b.story n) what b.shut (is_unspoken b what) (current b) b.timeout) (b.story n) (ne_test b.submissions n (omega arith)) ∙ h n (omega arith)
+event_leaves_blank b n (event.Submit what) good h i = left_if (b.submissions == n) (handed_in (b.story n) what b.shut (is_unspoken b what) (max 1 b.generation) b.current b.timeout) (b.story n) (ne_test b.submissions n (omega arith)) ∙ h n (omega arith)
 event_leaves_blank b n (event.Cancel m) good h i = others_blank b m n (left (b.story n)) h (omega arith) (not_le_from b.submissions m good)
 event_leaves_blank b n (event.Connected l) good h i = h n (omega arith)
 event_leaves_blank b n (event.Refused l f) good h i = h n (omega arith)
@@ -249,20 +279,29 @@ stories_kept b (action.Connect l host port) may h n i = h n i
 stories_kept b (action.Timer t ms what) may h n i = timer_leaves_blank b t ms what n may h i
 stories_kept b (action.Took owner.Setup l count) may h n i = absurd may
 stories_kept b (action.Took owner.Auth l count) may h n i = absurd may
+stories_kept b (action.Took owner.Resub l count) may h n i = absurd may
 stories_kept b (action.Took owner.Monitor l count) may h n i = absurd may
 stories_kept b (action.Took (owner.Try m round) l count) may h n i = others_blank b m n (holds (b.story n) count) h i (mover_is_numbered b m h (taker_moves b m l count may.1))
 stories_kept b (action.Push l info) may h n i = h n i
 stories_kept b (action.Message msg) may h n i = h n i
 stories_kept b (action.Monitor v) may h n i = h n i
 stories_kept b (action.NeedCreds c l) may h n i = h n i
+stories_kept b (action.Generation g) may h n i = h n i
+stories_kept b (action.Round owner.Setup on) may h n i = absurd may
+stories_kept b (action.Round owner.Auth on) may h n i = absurd may
+stories_kept b (action.Round owner.Resub on) may h n i = absurd may
+stories_kept b (action.Round owner.Monitor on) may h n i = absurd may
+stories_kept b (action.Round (owner.Try m round) on) may h n i = others_blank b m n (rounds (b.story n)) h i (mover_is_numbered b m h (round_moves b m on may.1))
 stories_kept b (action.Close l) may h n i = h n i
 stories_kept b (action.Write l bytes) may h n i = h n i
 stories_kept b (action.Wait owner.Setup kind) may h n i = absurd may
 stories_kept b (action.Wait owner.Auth kind) may h n i = absurd may
+stories_kept b (action.Wait owner.Resub kind) may h n i = absurd may
 stories_kept b (action.Wait owner.Monitor kind) may h n i = absurd may
 stories_kept b (action.Wait (owner.Try m round) kind) may h n i = others_blank b m n (waits (b.story n) kind) h i (open_is_numbered b m h may.1.asked)
 stories_kept b (action.Start l k owner.Setup count len) may h n i = h n i
 stories_kept b (action.Start l k owner.Auth count len) may h n i = h n i
+stories_kept b (action.Start l k owner.Resub count len) may h n i = h n i
 stories_kept b (action.Start l k owner.Monitor count len) may h n i = h n i
 stories_kept b (action.Start l k (owner.Try m round) count len) may h n i = others_blank b m n (tried (b.story n) l k) h i (mover_is_numbered b m h (starter_moves b l k m count len may.1))
 stories_kept b (action.Created e) may h n i = h n i

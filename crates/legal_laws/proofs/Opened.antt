@@ -1,5 +1,5 @@
 -- What comes before the first message of a request on a link.
-use Rattle.std.proofs.Common.{◌≡◌, ◌≢◌, ℕ, ◌≤◌, true, List, [], ◌∷◌, ◌++◌, length, Option, Some, None, refl, sym, subst, arith}
+use Rattle.std.proofs.Common.{◌≡◌, ◌≢◌, ℕ, ◌≤◌, true, List, [], ◌∷◌, ◌++◌, length, Option, Some, None, is_some, refl, sym, ap, subst, arith}
 use Rattle.redis_error.specs.declared.redis_error.RedisError.{RedisError}
 use Rattle.connection_setup.specs.declared.judgement.SetupResult.{SetupResult}
 use Rattle.connection_setup.specs.declared.judgement.SetupResult.TheVariants as result
@@ -8,7 +8,7 @@ use Rattle.driver_model.specs.declared.config.Config.{Config}
 use Rattle.driver_model.specs.declared.event.Event.{Event}
 use Rattle.legal_trace.specs.Ledger.{is_ready, is_well, setup_result}
 use Rattle.legal_trace.specs.Book.{Book, blank_book, book}
-use Rattle.legal_trace.specs.Legal.{MayStart, AllStand, Legal}
+use Rattle.legal_trace.specs.Legal.{MayStart, AllStand, Legal, current_link}
 use Rattle.legal_trace.proofs.Books.{stand_front}
 use Rattle.legal_trace.proofs.Moves.{ready_is_up, ready_is_set}
 use Rattle.legal_laws.specs.Creation.{creations}
@@ -17,7 +17,7 @@ use Rattle.legal_laws.proofs.Bounds.{start_of, next_may}
 use Rattle.legal_laws.proofs.Creation.{told_behind}
 use Rattle.legal_laws.proofs.Held.{starts_ready}
 use Rattle.legal_laws.proofs.Quiet.{failed_is_over}
-use Rattle.legal_laws.proofs.Ranks.{none_over}
+use Rattle.legal_laws.proofs.Ranks.{none_up_over}
 use Rattle.legal_laws.proofs.Sound.{sound_behind}
 use Rattle.legal_trace.proofs.Setups.{set_is_greeted}
 
@@ -44,8 +44,9 @@ opened_before front l k n count len all may =
     let told = told_behind front all in
     record {
       answered = well_is_ready (setup_result (b.link l)) (set_is_greeted (b.link l) (ready_is_set (b.link l) ready));
-      told = shown_well (creations front) b.created told.counted told.once (may.begun.applied.created.shown l ready)
-          (λ e is. let cause = told.caused e is in let over = failed_is_over (b.link cause.0).end e cause.1 in none_over b l cause.0 over.0 (sound_behind front all) (ready_is_up (b.link l) ready) over.1);
+      told = shown_well (creations front) b.created told.counted told.once (may.begun.applied.shown.created.shown l ready)
+          (λ e is. let sound = sound_behind front all in let fails = sound.lives.failed (told.fails e is) in let over = failed_is_over (current_link b).end fails.0 fails.1 in
+          none_up_over b sound (ap is_some over.1) l (ready_is_up (b.link l) ready));
     }
 
 -- so it is in a legal trace

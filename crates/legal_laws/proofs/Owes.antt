@@ -1,16 +1,17 @@
 -- When a submission is owed nothing, and that it stays so while messages start.
-use Rattle.std.proofs.Common.{◌≡◌, ◌≢◌, ℕ, ◌+◌, ◌<◌, ◌≤◌, ◌==◌, nat_le, Bool, true, false, [], ◌∷◌, ◌++◌, length, take, Option, Some, None, if◌then◌else◌, refl, ◌∙◌, ap, arith, length-append}
+use Rattle.std.proofs.Common.{◌≡◌, ◌≢◌, ℕ, ◌+◌, ◌<◌, ◌≤◌, ◌==◌, nat_le, Bool, true, false, [], ◌∷◌, ◌++◌, length, take, Option, Some, None, is_some, ◌&&◌, not, if◌then◌else◌, refl, sym, ◌∙◌, ap, arith, length-append}
 use Rattle.std.proofs.lemmas.List.{take-append-le, take_all}
-use Rattle.containers.proofs.Choices.{not_le_test, left_if, not_both, eq_test}
+use Rattle.containers.proofs.Choices.{chosen, not_le_test, taken_if, left_if, not_both, eq_test}
 use Rattle.redis_error.specs.declared.fault_kind.FaultKind.TheVariants as kind
 use Rattle.redis_error.specs.declared.redis_error.RedisError.TheVariants as error
 use Rattle.driver_model.specs.declared.outcome.Outcome.{Outcome}
 use Rattle.driver_model.specs.declared.outcome.Outcome.TheVariants as outcome
 use Rattle.driver_model.specs.declared.outcome.Shape.{Shape}
 use Rattle.driver_model.specs.Shape.{need_of, outcome_of, verdict_of}
-use Rattle.legal_trace.specs.Ledger.{Ledger, Start, End, begins, noted, reach, is_full, cut}
+use Rattle.legal_trace.specs.Ledger.{Ledger, Start, End, Ending, by_shutdown, by_fault, by_opening, by_attempt, begins, noted, reach, is_full, is_over, cut}
+use Rattle.legal_trace.specs.Legal.{is_by_attempt, is_attempt}
 use Rattle.legal_trace.specs.Story.{Story, Try, bytes_of, shape, last_of}
-use Rattle.legal_trace.specs.Owed.{owed_to_try, owed_to_message, owed_unstarted, cut_off_if}
+use Rattle.legal_trace.specs.Owed.{owed_to_try, owed_to_message, owed_by, owed_unstarted, owed_waiting, cut_off_if}
 use Rattle.legal_trace.specs.Book.{Book}
 use Rattle.legal_trace.proofs.Ledgers.{FewAreDealt, reach_more, takes_one}
 
@@ -62,18 +63,13 @@ owes_nothing b s h =
 pub has_bytes : (b : Book) (s : Story) → owed_story b s ≡ None → bytes_of s ≢ []
 has_bytes b s e none = not_both (length (bytes_of s) == 0) (nothing_is_owed b s e).with_bytes (eq_test (length (bytes_of s)) 0 (ap length none))
 
--- where a submission without a message is owed nothing, its link has not ended
-not_over : (o : Option End) → owed_unstarted o ≡ None → o ≡ None
-not_over None e = refl
-not_over (Some end) e = cc
-
 -- its message is owed nothing over another book, where the links stay so
 abbrev pub StayOpen : Book → Book → Story → Type 0
-StayOpen b c s = ((b.link s.link).end ≡ None → (c.link s.link).end ≡ None) × ((t : Try) → last_of s.tries ≡ Some t → owed_to_message (b.link t.link) t.message (shape s) ≡ None → owed_to_message (c.link t.link) t.message (shape s) ≡ None)
+StayOpen b c s = (owed_waiting b.shut (b.link s.link) ≡ None → owed_waiting c.shut (c.link s.link) ≡ None) × ((t : Try) → last_of s.tries ≡ Some t → owed_to_message (b.link t.link) t.message (shape s) ≡ None → owed_to_message (c.link t.link) t.message (shape s) ≡ None)
 
 -- by what it started last
-try_again : (b c : Book) (s : Story) (o : Option Try) → ((b.link s.link).end ≡ None → (c.link s.link).end ≡ None) → ((t : Try) → o ≡ Some t → owed_to_message (b.link t.link) t.message (shape s) ≡ None → owed_to_message (c.link t.link) t.message (shape s) ≡ None) → owed_to_try b s o ≡ None → owed_to_try c s o ≡ None
-try_again b c s None end same e = ap owed_unstarted (end (not_over (b.link s.link).end e))
+try_again : (b c : Book) (s : Story) (o : Option Try) → (owed_waiting b.shut (b.link s.link) ≡ None → owed_waiting c.shut (c.link s.link) ≡ None) → ((t : Try) → o ≡ Some t → owed_to_message (b.link t.link) t.message (shape s) ≡ None → owed_to_message (c.link t.link) t.message (shape s) ≡ None) → owed_to_try b s o ≡ None → owed_to_try c s o ≡ None
+try_again b c s None end same e = end e
 try_again b c s (Some t) end same e = same t refl e
 
 -- so is the story
@@ -117,3 +113,48 @@ new_is_owed_nothing l s k of_shape few end e =
     left_if (is_full (noted l (begins s)) k) (Some (outcome_of (verdict_of of_shape (cut (noted l (begins s)) k of_shape)))) (cut_off_if l.end k of_shape)
     (ap (is_full (noted l (begins s))) e ∙ new_is_not_full l s few)
     ∙ ap (λ x. cut_off_if x k of_shape) end
+
+-- a message that has all its items is owed something, and so is one that its link cut off
+cut_off_owes : (full : Bool) (verdict : Outcome) (o : Option End) (k : ℕ) (of_shape : Shape) → is_some o ≡ true → (if full then Some verdict else cut_off_if o k of_shape) ≡ None → ⊥
+cut_off_owes true verdict o k of_shape over e = cc e
+cut_off_owes false verdict None k of_shape over e = cc over
+cut_off_owes false verdict (Some end) k of_shape over e = cc e
+
+-- so a submission whose message started on a link that has ended is owed something
+pub tried_owes : (b : Book) (s : Story) (t : Try) → last_of s.tries ≡ Some t → is_over (b.link t.link) ≡ true → owed_story b s ≡ None → ⊥
+tried_owes b s t last over none =
+    let l : Ledger = b.link t.link in
+    cut_off_owes (is_full l t.message) (outcome_of (verdict_of (shape s) (cut l t.message (shape s)))) l.end t.message (shape s) over
+    (sym (ap (owed_to_try b s) last) ∙ (nothing_is_owed b s none).by_message)
+
+-- what a link that has ended owes is nothing only where another attempt follows
+by_attempt_alone : (why : Ending) → owed_by why ≡ None → is_by_attempt why ≡ true
+by_attempt_alone by_shutdown e = absurd (cc e)
+by_attempt_alone (by_fault f) e = absurd (cc e)
+by_attempt_alone (by_opening x) e = absurd (cc e)
+by_attempt_alone (by_attempt x) e = refl
+
+-- so where it is over
+attempt_alone : (o : Option End) → is_some o ≡ true → owed_unstarted o ≡ None → is_attempt o ≡ true
+attempt_alone None over e = absurd (cc over)
+attempt_alone (Some end) over e = by_attempt_alone end.why e
+
+-- a submission without a message is owed nothing only where its link has not ended, or another attempt follows
+waiting_alone : (shut : Bool) (l : Ledger) → is_over l ≡ true → owed_waiting shut l ≡ None → is_attempt l.end ≡ true
+waiting_alone shut l over = chosen (λ (o : Option Outcome). o ≡ None → is_attempt l.end ≡ true) (shut && not l.asked) (Some (outcome.Fault error.Closed)) (owed_unstarted l.end) (λ t e. absurd (cc e)) (λ f e. attempt_alone l.end over e)
+
+-- so one whose link has ended is owed something, but where another attempt follows
+pub over_owes : (b : Book) (s : Story) → ((t : Try) → last_of s.tries ≡ Some t → t.link ≡ s.link) → is_over (b.link s.link) ≡ true → is_attempt (b.link s.link).end ≡ false → owed_story b s ≡ None → ⊥
+over_owes b s there over last none = by_last (last_of s.tries) refl
+  where
+    by_last : (o : Option Try) → last_of s.tries ≡ o → ⊥
+    by_last None e = not_both (is_attempt (b.link s.link).end) last (waiting_alone b.shut (b.link s.link) over (sym (ap (owed_to_try b s) e) ∙ (nothing_is_owed b s none).by_message))
+    by_last (Some t) e = tried_owes b s t e (ap (λ l. is_over (b.link l)) (there t e) ∙ over) none
+
+-- where everything is shut down, a submission without a message is owed something while its link isn't asked for
+pub shut_owes : (b : Book) (s : Story) → b.shut ≡ true → (b.link s.link).asked ≡ false → s.tries ≡ [] → owed_story b s ≡ None → ⊥
+shut_owes b s shut unasked none owes =
+    let l : Ledger = b.link s.link in
+    let waits : owed_waiting b.shut l ≡ None = sym (ap (λ ts. owed_to_try b s (last_of ts)) none) ∙ (nothing_is_owed b s owes).by_message in
+    let closed : owed_waiting b.shut l ≡ Some (outcome.Fault error.Closed) = taken_if (b.shut && not l.asked) (Some (outcome.Fault error.Closed)) (owed_unstarted l.end) (ap (λ x. x && not l.asked) shut ∙ ap not unasked) in
+    let x : None ≡ Some (outcome.Fault error.Closed) = sym waits ∙ closed in cc x

@@ -13,31 +13,35 @@ use Rattle.driver_model.specs.declared.event.Event.{Event}
 use Rattle.driver_model.specs.declared.outcome.Outcome.{Outcome}
 use Rattle.driver_model.specs.declared.push_info.PushInfo.{PushInfo}
 use Rattle.driver_model.specs.declared.news.LinkFault.TheVariants as fault
-use Rattle.driver_model.specs.News.{News, silence, connected, refused, overdue, took, came, failed, dropped, shut, news_of, authorized, denied, deserted, renewed, unrenewed, late}
+use Rattle.driver_model.specs.News.{News, silence, connected, refused, overdue, took, came, failed, dropped, shut, news_of, authorized, denied, deserted, renewed, unrenewed, late, unrepeated}
 use Rattle.driver_model.specs.Push.{is_disconnection}
-use Rattle.legal_trace.specs.Ledger.{Ledger, Line, End, Ending, by_opening, asks, hears, begins, offers, tells, ends, parts, noted, noted_each, with_news, refused_in, bytes_came, is_over, is_fault, is_cut, is_set_up, setup_result, error_in, dials, ending, ending_alive, ending_by, ending_unready, ending_asked, ending_or_shutdown, MayNote, AllNoted, sources, lacks_credentials, awaits_credentials, authorized_by, times, may_renew, renewed_by, unrenewed_by, is_renewal_open, lost_by, is_unreadable, opening_error}
-use Rattle.legal_trace.specs.Book.{Book, blank_book, book, entered, entered_each, push_line, info_in, message_of, lines_of_each, wanted_in, is_renewal_of, hearing_in, current}
+use Rattle.legal_trace.specs.Ledger.{Ledger, Line, End, Ending, by_opening, asks, hears, begins, offers, tells, ends, parts, noted, noted_each, with_news, refused_in, bytes_came, is_over, is_fault, is_cut, is_set_up, setup_result, error_in, dials, ending, ending_alive, ending_by, ending_unready, ending_asked, ending_or_shutdown, sources, lacks_credentials, awaits_credentials, authorized_by, times, may_renew, renewed_by, unrenewed_by, is_renewal_open, lost_by, is_unreadable, opening_error, is_repeating, unrepeated_by, repeats_timed}
+use Rattle.legal_trace.specs.Managers.{settings_in, is_last}
+use Rattle.legal_trace.specs.Book.{Book, blank_book, book, entered, entered_each, push_line, info_in, message_of, lines_of_each, wanted_in, hearing_in}
 use Rattle.legal_trace.specs.Legal.{MayStand, MayAnswer, MayTell, MayPart, AllStand, are_pushes_heard, Legal}
+use Rattle.legal_trace.specs.Again.{repeats_in}
+use Rattle.legal_trace.proofs.Clocks.{timer_tells}
 use Rattle.legal_trace.proofs.Books.{stand_front, stand_behind}
 use Rattle.legal_trace.proofs.Renewals.{renewal_is_up}
 use Rattle.legal_trace.proofs.Sources.{awaits_up}
-use Rattle.legal_trace.proofs.Ledgers.{each_keeps, mine_keeps, UpIsNotOver, up_keeps, dials_from}
+use Rattle.legal_trace.proofs.Endings.{lasting_is_fault}
+use Rattle.legal_laws.proofs.Ended.{end_kept}
+use Rattle.legal_trace.proofs.Ledgers.{each_keeps, mine_keeps, UpIsNotOver}
 use Rattle.legal_trace.proofs.Moves.{mover_is_up, starter_moves, teller_moves}
-use Rattle.legal_trace.proofs.Plain.{none_from, not_none}
+use Rattle.legal_trace.proofs.Plain.{not_none}
 use Rattle.legal_trace.proofs.Setups.{due_is_up}
 use Rattle.legal_trace.proofs.Came.{holds_bytes}
 use Rattle.legal_laws.specs.Pushes.{Disconnects, IsClosed, TellsEnds}
 use Rattle.legal_laws.proofs.Bounds.{ready_behind, applied_began}
 use Rattle.legal_laws.proofs.Configured.{config_kept}
 use Rattle.legal_laws.proofs.Lines.{told_behind}
-use Rattle.legal_laws.proofs.Links.{each_may}
 use Rattle.legal_laws.proofs.Numbers.{open_is_numbered}
 use Rattle.legal_laws.proofs.Pushed.{push_keeps, tell_keeps}
 use Rattle.legal_laws.proofs.Notices.{parting_of}
-use Rattle.legal_laws.proofs.Quiet.{over_stays}
 use Rattle.legal_laws.proofs.Sound.{Sound, stays_sound, blank_is_sound, sound_behind}
 use Rattle.driver_model.specs.Hearing.{hears_messages, hears_pushes}
 use Rattle.legal_trace.proofs.Watching.{watch_is_up}
+use Rattle.legal_trace.proofs.Again.{again_is_up}
 
 -- what a test says of books, which it didn't at first, it says by one of the actions
 pub record Comes (test : Book → Bool) (b : Book) (trace : List Action) : Type 0 where
@@ -71,6 +75,7 @@ hears_parted l turn deserted = refl
 hears_parted l turn (renewed c) = chosen (λ (x : Ledger). x.parted ≡ l.parted) (may_renew l) (renewed_by l c) l (λ t. refl) (λ e. refl)
 hears_parted l turn unrenewed = chosen (λ (x : Ledger). x.parted ≡ l.parted) l.up (unrenewed_by l) l (λ t. refl) (λ e. refl)
 hears_parted l turn (late k) = chosen (λ (x : Ledger). x.parted ≡ l.parted) (l.up && is_renewal_open l k) (lost_by l) l (λ t. refl) (λ e. refl)
+hears_parted l turn unrepeated = chosen (λ (x : Ledger). x.parted ≡ l.parted) (is_repeating l) (unrepeated_by l) l (λ t. refl) (λ e. refl)
 hears_parted l turn dropped = refl
 hears_parted l turn shut = refl
 
@@ -80,7 +85,7 @@ WasParted l = l.parted ≡ true
 
 -- so it stays
 parted_keeps : (l : Ledger) (x : Line) → WasParted l → WasParted (noted l x)
-parted_keeps l (asks info wanted hearing) h = h
+parted_keeps l (asks info wanted hearing last again) h = h
 parted_keeps l (hears turn news) h = hears_parted l turn news ∙ h
 parted_keeps l (begins s) h = h
 parted_keeps l (offers bytes) h = h
@@ -88,6 +93,7 @@ parted_keeps l tells h = h
 parted_keeps l (ends turn) h = h
 parted_keeps l sources h = h
 parted_keeps l times h = h
+parted_keeps l repeats_timed h = h
 parted_keeps l parts h = refl
 
 -- behind many actions
@@ -109,16 +115,18 @@ parted_by b l (action.Push m info) not_yet then_is =
     (λ e. absurd (not_both (b.link l).parted not_yet e)) then_is
 parted_by b l (action.Turn k (cause.Opening config word)) not_yet then_is = absurd (not_both (b.link l).parted not_yet then_is)
 parted_by b l (action.Turn k (cause.Event e)) not_yet then_is = absurd (not_both (b.link l).parted not_yet (sym (hears_parted (b.link l) k (news_of b.timers b.sources l e.kind)) ∙ then_is))
-parted_by b l (action.Connect m host port) not_yet then_is = absurd (not_both (b.link l).parted not_yet (mine_keeps (λ (x : Ledger). WasParted x → WasParted (b.link l)) (m == l) (b.link l) (asks (info_in b.config) (wanted_in b.config) (hearing_in b.config)) (λ t e. e) (λ e. e) then_is))
-parted_by b l (action.Timer t ms what) not_yet then_is = absurd (not_both (b.link l).parted not_yet (mine_keeps (λ (x : Ledger). WasParted x → WasParted (b.link l)) (is_renewal_of l what) (b.link l) times (λ t e. e) (λ e. e) then_is))
+parted_by b l (action.Connect m host port) not_yet then_is = absurd (not_both (b.link l).parted not_yet (mine_keeps (λ (x : Ledger). WasParted x → WasParted (b.link l)) (m == l) (b.link l) (asks (info_in b.config) (wanted_in b.config) (hearing_in b.config) (is_last (settings_in b.config) b.attempt) (repeats_in (settings_in b.config) b.tracked)) (λ t e. e) (λ e. e) then_is))
+parted_by b l (action.Timer t ms what) not_yet then_is = absurd (not_both (b.link l).parted not_yet (timer_tells (λ (x : Ledger). WasParted x → WasParted (b.link l)) (b.link l) l what (λ on k is t e. e) (λ on is t e. e) (λ e. e) then_is))
 parted_by b l (action.Took who m count) not_yet then_is = absurd (not_both (b.link l).parted not_yet then_is)
 parted_by b l (action.NeedCreds c m) not_yet then_is = absurd (not_both (b.link l).parted not_yet (mine_keeps (λ (x : Ledger). WasParted x → WasParted (b.link l)) (m == l) (b.link l) sources (λ t e. e) (λ e. e) then_is))
+parted_by b l (action.Generation g) not_yet then_is = absurd (not_both (b.link l).parted not_yet then_is)
+parted_by b l (action.Round who m) not_yet then_is = absurd (not_both (b.link l).parted not_yet then_is)
 parted_by b l (action.Close m) not_yet then_is = absurd (not_both (b.link l).parted not_yet (mine_keeps (λ (x : Ledger). WasParted x → WasParted (b.link l)) (m == l) (b.link l) (ends (b.turns - 1)) (λ t e. e) (λ e. e) then_is))
 parted_by b l (action.Write m bytes) not_yet then_is = absurd (not_both (b.link l).parted not_yet (mine_keeps (λ (x : Ledger). WasParted x → WasParted (b.link l)) (m == l) (b.link l) (offers bytes) (λ t e. e) (λ e. e) then_is))
 parted_by b l (action.Wait who kind) not_yet then_is = absurd (not_both (b.link l).parted not_yet then_is)
 parted_by b l (action.Start m k who count len) not_yet then_is = absurd (not_both (b.link l).parted not_yet (mine_keeps (λ (x : Ledger). WasParted x → WasParted (b.link l)) (m == l) (b.link l) (begins (message_of b m who)) (λ t e. e) (λ e. e) then_is))
-parted_by b l (action.Message msg) not_yet then_is = absurd (not_both (b.link l).parted not_yet (tell_keeps (λ (x : Ledger). WasParted x → WasParted (b.link l)) (current b == l) (b.link l) (λ e. e) (λ e. e) then_is))
-parted_by b l (action.Monitor v) not_yet then_is = absurd (not_both (b.link l).parted not_yet (tell_keeps (λ (x : Ledger). WasParted x → WasParted (b.link l)) (current b == l) (b.link l) (λ e. e) (λ e. e) then_is))
+parted_by b l (action.Message msg) not_yet then_is = absurd (not_both (b.link l).parted not_yet (tell_keeps (λ (x : Ledger). WasParted x → WasParted (b.link l)) (b.current == l) (b.link l) (λ e. e) (λ e. e) then_is))
+parted_by b l (action.Monitor v) not_yet then_is = absurd (not_both (b.link l).parted not_yet (tell_keeps (λ (x : Ledger). WasParted x → WasParted (b.link l)) (b.current == l) (b.link l) (λ e. e) (λ e. e) then_is))
 parted_by b l (action.Created e) not_yet then_is = absurd (not_both (b.link l).parted not_yet then_is)
 parted_by b l (action.Outcome n o) not_yet then_is = absurd (not_both (b.link l).parted not_yet then_is)
 
@@ -130,7 +138,7 @@ IsCut l = is_cut l.end ≡ true
 hears_cut : (l : Ledger) (turn : ℕ) (news : News) → IsCut (with_news l turn news) → IsCut l
 hears_cut l turn silence = λ e. e
 hears_cut l turn connected = chosen (λ (x : Ledger). IsCut x → IsCut l) (is_over l) l (record l { up = true }) (λ t e. e) (λ f e. e)
-hears_cut l turn (refused f) = chosen (λ (x : Ledger). IsCut x → IsCut l) (dials l) (refused_in l turn (error.Io f)) l (λ t e. absurd (cc e)) (λ n e. e)
+hears_cut l turn (refused f) = chosen (λ (x : Ledger). IsCut x → IsCut l) (dials l) (refused_in l turn (error.Io f)) l (λ t e. absurd (let x : false ≡ true = sym (lasting_is_fault l.last (by_opening (error.Io f))) ∙ e in cc x)) (λ n e. e)
 hears_cut l turn overdue = λ e. e
 hears_cut l turn (took count) = chosen (λ (x : Ledger). IsCut x → IsCut l) l.up (record l { taken = l.taken ++ take count l.offer; offer = [] }) l (λ t e. e) (λ f e. e)
 hears_cut l turn (came piece) = chosen (λ (x : Ledger). IsCut x → IsCut l) l.up (bytes_came l piece) l (λ t. holds_bytes (λ (x : Ledger). IsCut x → IsCut l) l piece (λ rest strange told more e. e)) (λ f e. e)
@@ -141,22 +149,25 @@ hears_cut l turn deserted = λ e. e
 hears_cut l turn (renewed c) = chosen (λ (x : Ledger). IsCut x → IsCut l) (may_renew l) (renewed_by l c) l (λ t e. e) (λ f e. e)
 hears_cut l turn unrenewed = chosen (λ (x : Ledger). IsCut x → IsCut l) l.up (unrenewed_by l) l (λ t e. e) (λ f e. e)
 hears_cut l turn (late k) = chosen (λ (x : Ledger). IsCut x → IsCut l) (l.up && is_renewal_open l k) (lost_by l) l (λ t e. e) (λ f e. e)
+hears_cut l turn unrepeated = chosen (λ (x : Ledger). IsCut x → IsCut l) (is_repeating l) (unrepeated_by l) l (λ t e. e) (λ f e. e)
 hears_cut l turn dropped = λ e. e
 hears_cut l turn shut = λ e. e
 
 -- it is closed then
 cut_by : (b : Book) (l : ℕ) (a : Action) → is_cut (b.link l).end ≡ false → IsCut ((entered b a).link l) → a ≡ action.Close l
 cut_by b l (action.NeedCreds c m) not_yet then_is = absurd (not_both (is_cut (b.link l).end) not_yet (mine_keeps (λ (x : Ledger). IsCut x → IsCut (b.link l)) (m == l) (b.link l) sources (λ t e. e) (λ e. e) then_is))
+cut_by b l (action.Generation g) not_yet then_is = absurd (not_both (is_cut (b.link l).end) not_yet then_is)
+cut_by b l (action.Round who m) not_yet then_is = absurd (not_both (is_cut (b.link l).end) not_yet then_is)
 cut_by b l (action.Close m) not_yet then_is =
     mine_keeps (λ (x : Ledger). IsCut x → action.Close m ≡ action.Close l) (m == l) (b.link l) (ends (b.turns - 1))
     (λ t e. ap action.Close (eq_from m l t)) (λ e. absurd (not_both (is_cut (b.link l).end) not_yet e)) then_is
 cut_by b l (action.Push m info) not_yet then_is = absurd (not_both (is_cut (b.link l).end) not_yet (push_keeps (λ (x : Ledger). IsCut x → IsCut (b.link l)) (m == l) info.kind (b.link l) (λ e. e) (λ e. e) (λ e. e) then_is))
-cut_by b l (action.Message msg) not_yet then_is = absurd (not_both (is_cut (b.link l).end) not_yet (tell_keeps (λ (x : Ledger). IsCut x → IsCut (b.link l)) (current b == l) (b.link l) (λ e. e) (λ e. e) then_is))
-cut_by b l (action.Monitor v) not_yet then_is = absurd (not_both (is_cut (b.link l).end) not_yet (tell_keeps (λ (x : Ledger). IsCut x → IsCut (b.link l)) (current b == l) (b.link l) (λ e. e) (λ e. e) then_is))
+cut_by b l (action.Message msg) not_yet then_is = absurd (not_both (is_cut (b.link l).end) not_yet (tell_keeps (λ (x : Ledger). IsCut x → IsCut (b.link l)) (b.current == l) (b.link l) (λ e. e) (λ e. e) then_is))
+cut_by b l (action.Monitor v) not_yet then_is = absurd (not_both (is_cut (b.link l).end) not_yet (tell_keeps (λ (x : Ledger). IsCut x → IsCut (b.link l)) (b.current == l) (b.link l) (λ e. e) (λ e. e) then_is))
 cut_by b l (action.Turn k (cause.Opening config word)) not_yet then_is = absurd (not_both (is_cut (b.link l).end) not_yet then_is)
 cut_by b l (action.Turn k (cause.Event e)) not_yet then_is = absurd (not_both (is_cut (b.link l).end) not_yet (hears_cut (b.link l) k (news_of b.timers b.sources l e.kind) then_is))
-cut_by b l (action.Connect m host port) not_yet then_is = absurd (not_both (is_cut (b.link l).end) not_yet (mine_keeps (λ (x : Ledger). IsCut x → IsCut (b.link l)) (m == l) (b.link l) (asks (info_in b.config) (wanted_in b.config) (hearing_in b.config)) (λ t e. e) (λ e. e) then_is))
-cut_by b l (action.Timer t ms what) not_yet then_is = absurd (not_both (is_cut (b.link l).end) not_yet (mine_keeps (λ (x : Ledger). IsCut x → IsCut (b.link l)) (is_renewal_of l what) (b.link l) times (λ t e. e) (λ e. e) then_is))
+cut_by b l (action.Connect m host port) not_yet then_is = absurd (not_both (is_cut (b.link l).end) not_yet (mine_keeps (λ (x : Ledger). IsCut x → IsCut (b.link l)) (m == l) (b.link l) (asks (info_in b.config) (wanted_in b.config) (hearing_in b.config) (is_last (settings_in b.config) b.attempt) (repeats_in (settings_in b.config) b.tracked)) (λ t e. e) (λ e. e) then_is))
+cut_by b l (action.Timer t ms what) not_yet then_is = absurd (not_both (is_cut (b.link l).end) not_yet (timer_tells (λ (x : Ledger). IsCut x → IsCut (b.link l)) (b.link l) l what (λ on k is t e. e) (λ on is t e. e) (λ e. e) then_is))
 cut_by b l (action.Took who m count) not_yet then_is = absurd (not_both (is_cut (b.link l).end) not_yet then_is)
 cut_by b l (action.Write m bytes) not_yet then_is = absurd (not_both (is_cut (b.link l).end) not_yet (mine_keeps (λ (x : Ledger). IsCut x → IsCut (b.link l)) (m == l) (b.link l) (offers bytes) (λ t e. e) (λ e. e) then_is))
 cut_by b l (action.Wait who kind) not_yet then_is = absurd (not_both (is_cut (b.link l).end) not_yet then_is)
@@ -190,6 +201,7 @@ unready_faults_not l deserted = chosen NoFault (lacks_credentials l) (Some (by_o
 unready_faults_not l (renewed c) = refl
 unready_faults_not l unrenewed = refl
 unready_faults_not l (late k) = refl
+unready_faults_not l unrepeated = refl
 unready_faults_not l dropped = chosen NoFault (hears_messages l.hearing) (Some (by_opening error.Closed)) None (λ t. refl) (λ f. refl)
 unready_faults_not l shut = refl
 
@@ -208,6 +220,7 @@ asked_faults_not l deserted = refl
 asked_faults_not l (renewed c) = refl
 asked_faults_not l unrenewed = refl
 asked_faults_not l (late k) = refl
+asked_faults_not l unrepeated = refl
 asked_faults_not l dropped = chosen NoFault (hears_messages l.hearing) (Some (by_opening error.Closed)) None (λ t. refl) (λ f. refl)
 asked_faults_not l shut = refl
 
@@ -236,7 +249,7 @@ lives_uncut l none cut = let x : false ≡ true = sym (ap is_cut none) ∙ cut i
 hears_set : (l : Ledger) (turn : ℕ) (news : News) → UpIsNotOver l → CutIsSet l → CutIsSet (with_news l turn news)
 hears_set l turn silence up h = h
 hears_set l turn connected up h = chosen CutIsSet (is_over l) l (record l { up = true }) (λ t. h) (λ e. h)
-hears_set l turn (refused f) up h = chosen CutIsSet (dials l) (refused_in l turn (error.Io f)) l (λ t e. absurd (cc e)) (λ n. h)
+hears_set l turn (refused f) up h = chosen CutIsSet (dials l) (refused_in l turn (error.Io f)) l (λ t e. absurd (let x : false ≡ true = sym (lasting_is_fault l.last (by_opening (error.Io f))) ∙ e in cc x)) (λ n. h)
 hears_set l turn overdue up h = h
 hears_set l turn (took count) up h = chosen CutIsSet l.up (record l { taken = l.taken ++ take count l.offer; offer = [] }) l (λ t. h) (λ e. h)
 hears_set l turn (came piece) up h = chosen CutIsSet l.up (bytes_came l piece) l (λ t. holds_bytes CutIsSet l piece (λ rest strange told more cut. absurd (lives_uncut l (up t) cut))) (λ e. h)
@@ -247,6 +260,7 @@ hears_set l turn deserted up h = h
 hears_set l turn (renewed c) up h = chosen CutIsSet (may_renew l) (renewed_by l c) l (λ t. h) (λ e. h)
 hears_set l turn unrenewed up h = chosen CutIsSet l.up (unrenewed_by l) l (λ t. h) (λ e. h)
 hears_set l turn (late k) up h = chosen CutIsSet (l.up && is_renewal_open l k) (lost_by l) l (λ t. h) (λ e. h)
+hears_set l turn unrepeated up h = chosen CutIsSet (is_repeating l) (unrepeated_by l) l (λ t. h) (λ e. h)
 hears_set l turn dropped up h = h
 hears_set l turn shut up h = h
 
@@ -254,27 +268,33 @@ hears_set l turn shut up h = h
 set_kept : (b : Book) (l : ℕ) (a : Action) → MayStand b a → Sound b → CutIsSet (b.link l) → CutIsSet ((entered b a).link l)
 set_kept b l (action.Turn k (cause.Opening config word)) may s h = h
 set_kept b l (action.Turn k (cause.Event e)) may s h = hears_set (b.link l) k (news_of b.timers b.sources l e.kind) (s.up l) h
-set_kept b l (action.Connect m host port) may s h = mine_keeps CutIsSet (m == l) (b.link l) (asks (info_in b.config) (wanted_in b.config) (hearing_in b.config))
+set_kept b l (action.Connect m host port) may s h = mine_keeps CutIsSet (m == l) (b.link l) (asks (info_in b.config) (wanted_in b.config) (hearing_in b.config) (is_last (settings_in b.config) b.attempt) (repeats_in (settings_in b.config) b.tracked))
     (λ t cut. let e : m ≡ l = eq_from m l t in let next : m ≡ b.links = may.next in absurd (lives_uncut (b.link l) (s.links.unasked l (omega (arith, e, next))).2 cut)) h
-set_kept b l (action.Timer t ms what) may s h = mine_keeps CutIsSet (is_renewal_of l what) (b.link l) times (λ t. h) h
+set_kept b l (action.Timer t ms what) may s h = timer_tells CutIsSet (b.link l) l what (λ on k is t. h) (λ on is t. h) h
 set_kept b l (action.Took owner.Setup m count) may s h = absurd may
 set_kept b l (action.Took owner.Auth m count) may s h = absurd may
+set_kept b l (action.Took owner.Resub m count) may s h = absurd may
 set_kept b l (action.Took owner.Monitor m count) may s h = absurd may
 set_kept b l (action.Took (owner.Try n round) m count) may s h = h
 set_kept b l (action.Push m info) may s h = push_keeps CutIsSet (m == l) info.kind (b.link l) h h h
-set_kept b l (action.Message msg) may s h = tell_keeps CutIsSet (current b == l) (b.link l) h h
-set_kept b l (action.Monitor v) may s h = tell_keeps CutIsSet (current b == l) (b.link l) h h
+set_kept b l (action.Message msg) may s h = tell_keeps CutIsSet (b.current == l) (b.link l) h h
+set_kept b l (action.Monitor v) may s h = tell_keeps CutIsSet (b.current == l) (b.link l) h h
 set_kept b l (action.NeedCreds c m) may s h = mine_keeps CutIsSet (m == l) (b.link l) sources (λ t. h) h
-set_kept b l (action.Close m) may s h = mine_keeps CutIsSet (m == l) (b.link l) (ends (b.turns - 1)) (λ t cut. fault_is_set (b.link l) cut) h
+set_kept b l (action.Generation g) may s h = h
+set_kept b l (action.Round who m) may s h = h
+set_kept b l (action.Close m) may s h = mine_keeps CutIsSet (m == l) (b.link l) (ends (b.turns - 1)) (λ t cut. fault_is_set (b.link l) (sym (lasting_is_fault (b.link l).last (ending_or_shutdown (ending (b.link l)))) ∙ cut)) h
 set_kept b l (action.Write m bytes) may s h = mine_keeps CutIsSet (m == l) (b.link l) (offers bytes) (λ t. h) h
 set_kept b l (action.Wait owner.Setup kind) may s h = absurd may
 set_kept b l (action.Wait owner.Auth kind) may s h = absurd may
+set_kept b l (action.Wait owner.Resub kind) may s h = absurd may
 set_kept b l (action.Wait owner.Monitor kind) may s h = absurd may
 set_kept b l (action.Wait (owner.Try n round) kind) may s h = h
 set_kept b l (action.Start m k owner.Setup count len) may s h = mine_keeps CutIsSet (m == l) (b.link l) (begins (message_of b m owner.Setup))
     (λ t cut. absurd (lives_uncut (b.link l) (s.up l (subst (λ j. (b.link j).up ≡ true) (eq_from m l t) (due_is_up (b.link m) may.k may.due))) cut)) h
 set_kept b l (action.Start m k owner.Auth count len) may s h = mine_keeps CutIsSet (m == l) (b.link l) (begins (message_of b m owner.Auth))
     (λ t cut. absurd (lives_uncut (b.link l) (s.up l (subst (λ j. (b.link j).up ≡ true) (eq_from m l t) (renewal_is_up (b.link m) may.credentials may.due))) cut)) h
+set_kept b l (action.Start m k owner.Resub count len) may s h = mine_keeps CutIsSet (m == l) (b.link l) (begins (message_of b m owner.Resub))
+    (λ t cut. absurd (lives_uncut (b.link l) (s.up l (subst (λ j. (b.link j).up ≡ true) (eq_from m l t) (again_is_up (b.link m) may.due))) cut)) h
 set_kept b l (action.Start m k owner.Monitor count len) may s h = mine_keeps CutIsSet (m == l) (b.link l) (begins (message_of b m owner.Monitor))
     (λ t cut. absurd (lives_uncut (b.link l) (s.up l (subst (λ j. (b.link j).up ≡ true) (eq_from m l t) (watch_is_up (b.link m) may.due))) cut)) h
 set_kept b l (action.Start m k (owner.Try n round) count len) may s h = mine_keeps CutIsSet (m == l) (b.link l) (begins (message_of b m (owner.Try n round)))
@@ -291,47 +311,10 @@ cut_is_set : (front : List Action) (l : ℕ) → AllStand blank_book front → C
 unfolding book
 cut_is_set front l all = each_set blank_book l front all blank_is_sound (λ cut. absurd (cc cut))
 
--- it ended so
-abbrev EndedAs : End → Ledger → Type 0
-EndedAs end l = l.end ≡ Some end
-
--- and no news change that
-end_hears : (end : End) (l : Ledger) (turn : ℕ) (news : News) → EndedAs end l → EndedAs end (with_news l turn news)
-end_hears end l turn silence h = h
-end_hears end l turn connected h = chosen (EndedAs end) (is_over l) l (record l { up = true }) (λ t. h) (λ e. h)
-end_hears end l turn (refused f) h = chosen (EndedAs end) (dials l) (refused_in l turn (error.Io f)) l (λ t. absurd (not_none l.end end (none_from l.end (dials_from l t).2) h)) (λ n. h)
-end_hears end l turn overdue h = h
-end_hears end l turn (took count) h = chosen (EndedAs end) l.up (record l { taken = l.taken ++ take count l.offer; offer = [] }) l (λ t. h) (λ e. h)
-end_hears end l turn (came piece) h = chosen (EndedAs end) l.up (bytes_came l piece) l (λ t. holds_bytes (EndedAs end) l piece (λ rest strange told more. h)) (λ e. h)
-end_hears end l turn (failed f) h = h
-end_hears end l turn (authorized c) h = chosen (EndedAs end) (awaits_credentials l) (authorized_by l c) l (λ t. h) (λ e. h)
-end_hears end l turn (denied text) h = h
-end_hears end l turn deserted h = h
-end_hears end l turn (renewed c) h = chosen (EndedAs end) (may_renew l) (renewed_by l c) l (λ t. h) (λ e. h)
-end_hears end l turn unrenewed h = chosen (EndedAs end) l.up (unrenewed_by l) l (λ t. h) (λ e. h)
-end_hears end l turn (late k) h = chosen (EndedAs end) (l.up && is_renewal_open l k) (lost_by l) l (λ t. h) (λ e. h)
-end_hears end l turn dropped h = h
-end_hears end l turn shut h = h
-
--- nor any line that may stand
-end_noted : (end : End) (l : Ledger) (x : Line) → MayNote l x → UpIsNotOver l → EndedAs end l → EndedAs end (noted l x)
-end_noted end l (asks info wanted hearing) may up h = h
-end_noted end l (hears turn news) may up h = end_hears end l turn news h
-end_noted end l (begins s) may up h = h
-end_noted end l (offers bytes) may up h = h
-end_noted end l tells may up h = h
-end_noted end l (ends turn) may up h = absurd (not_none (ending l) may.0 (over_stays l end up h) may.1)
-end_noted end l sources may up h = h
-end_noted end l times may up h = h
-end_noted end l parts may up h = h
-
-end_stays : (end : End) (l : Ledger) (lines : List Line) → AllNoted l lines → UpIsNotOver l → EndedAs end l → EndedAs end (noted_each l lines)
-end_stays end l [] all up h = h
-end_stays end l (x ∷ more) all up h = end_stays end (noted l x) more all.1 (up_keeps l x up) (end_noted end l x all.0 up h)
-
--- so of a book
-end_kept : (b : Book) (l : ℕ) (end : End) (trace : List Action) → AllStand b trace → Sound b → EndedAs end (b.link l) → EndedAs end ((entered_each b trace).link l)
-end_kept b l end trace all s h = subst (EndedAs end) (sym (told_behind b l trace)) (end_stays end (b.link l) (lines_of_each b l trace) (each_may b l trace all s) (s.up l) h)
+-- how a link ended stays so
+each_end_kept : (b : Book) (l : ℕ) (end : End) (trace : List Action) → AllStand b trace → Sound b → (b.link l).end ≡ Some end → ((entered_each b trace).link l).end ≡ Some end
+each_end_kept b l end [] all s h = h
+each_end_kept b l end (a ∷ more) all s h = each_end_kept (entered b a) l end more all.1 (stays_sound b a all.0 s) (end_kept b a l end all.0 (s.up l) h)
 
 -- the push that tells that a link has ended
 parting : (b : Book) (l : ℕ) (a : Action) → MayStand b a → Disconnects l a → (info : PushInfo) × MayPart b l info
@@ -363,7 +346,7 @@ first_behind b middle more a l n o sound all is on over = of_outcome all.0
     of_outcome (inl owes) =
         let e = end (b.link l).end over in
         let front : AllStand b (answer ∷ middle) = stand_front b (answer ∷ middle) (a ∷ more) all in
-        let stays = end_kept b l e.0 (answer ∷ middle) front sound e.1 in
+        let stays = each_end_kept b l e.0 (answer ∷ middle) front sound e.1 in
         let cut : IsCut (b.link l) = ap is_cut e.1 ∙ (sym (ap is_cut stays) ∙ part.1.ended) in
         let numbered : n < b.submissions = open_is_numbered b n sound.stories owes.asked in
         let some : b.turns ≢ 0 = λ none. let empty : b.submissions ≡ 0 = sound.opens.none_yet (omega (arith, none)) in omega (arith, numbered, empty) in
@@ -396,6 +379,6 @@ tells_ends config word events trace h = record {
       let sound : Sound (book trace) = sound_behind trace h.each in
       let ready = ready_behind config word events trace [] (subst (Legal config word events) (sym (append-nil trace)) h) in
       let heard : are_pushes_heard (book trace) ≡ true = ap (λ config. hears_pushes (hearing_in config)) (ready.configured (applied_began (book trace) sound done)) ∙ hears in
-      let c = comes (λ (b : Book). (b.link l).parted) blank_book trace refl (done.parted l heard cut) in
+      let c = comes (λ (b : Book). (b.link l).parted) blank_book trace refl (done.shown.parted l heard cut) in
       record { before = c.before; after = c.after; told = c.told; tells = parted_by (entered_each blank_book c.before) l c.told c.was c.is; splits = c.splits };
 }

@@ -1,5 +1,5 @@
 -- Submissions never hold more permits than there are.
-use Rattle.std.proofs.Common.{◌≡◌, ◌≢◌, ℕ, zero, suc, ◌+◌, ◌-◌, ◌<◌, ◌≤◌, ◌==◌, nat_lt, nat_le, true, List, [], ◌∷◌, ◌++◌, Some, None, refl, sym, ◌∙◌, ap, subst, arith}
+use Rattle.std.proofs.Common.{◌≡◌, ◌≢◌, inl, inr, ℕ, zero, suc, ◌+◌, ◌-◌, ◌<◌, ◌≤◌, ◌==◌, nat_lt, nat_le, true, List, [], ◌∷◌, ◌++◌, Some, None, refl, sym, ◌∙◌, ap, subst, arith, max}
 use Rattle.std.specs.Prelude.{slice_get}
 use Rattle.containers.proofs.Choices.{by_test, chosen, taken_if, left_if, eq_from, ne_from, lt_from, not_lt_from, le_from, not_le_from}
 use Rattle.driver_model.specs.declared.action.Action.{Action}
@@ -11,9 +11,10 @@ use Rattle.driver_model.specs.declared.config.Config.{Config}
 use Rattle.driver_model.specs.declared.event.Event.{Event}
 use Rattle.driver_model.specs.declared.event.EventKind.{EventKind}
 use Rattle.driver_model.specs.declared.event.EventKind.TheVariants as event
-use Rattle.legal_trace.specs.Story.{Story, is_open, handed_in, left, holds, clocked, fires, tried, waits, answered}
-use Rattle.legal_trace.specs.Book.{Book, blank_book, book, entered, entered_each, current, is_clock_of, after_event, is_unspoken}
+use Rattle.legal_trace.specs.Story.{Story, is_open, handed_in, left, holds, rounds, fires, tried, waits, answered}
+use Rattle.legal_trace.specs.Book.{Book, blank_book, book, entered, entered_each, is_clock_of, after_event, is_unspoken}
 use Rattle.legal_trace.specs.Steps.{permits_in, permits_on, permits_held}
+use Rattle.legal_trace.proofs.Clocks.{timer_keeps}
 use Rattle.legal_trace.specs.Legal.{MayTake, MayStand, AllStand, Legal}
 use Rattle.legal_trace.proofs.Books.{stand_front}
 use Rattle.legal_laws.specs.Permits.{KeepsPermits}
@@ -69,6 +70,12 @@ on_less s t l same i = by_test (t.link == l) (permits_on l s ≤ permits_on l t)
     let a : permits_on l s ≡ 0 = left_if (s.link == l) s.permits 0 (ap (λ k. k == l) same ∙ e) in
     omega (arith, a))
 
+-- who holds none holds no more
+none_on : (s t : Story) (l : ℕ) → s.permits ≡ 0 → permits_on l s ≤ permits_on l t
+none_on s t l none =
+    let a : permits_on l s ≡ 0 = chosen (λ k. k ≡ 0) (s.link == l) s.permits 0 (λ e. none) (λ e. refl) in
+    omega (arith, a)
+
 -- no more permits are held than there are
 abbrev pub IsWithinLimit : Book → Type 0
 IsWithinLimit b = (limit l : ℕ) → permits_in b.config ≡ Some limit → permits_held b.story l b.submissions ≤ limit
@@ -86,12 +93,12 @@ kept_by b a may sound same less h limit l counted =
     let old : permits_held b.story l b.submissions ≤ limit = h limit l (sym (ap permits_in same) ∙ counted) in
     let now : permits_held (entered b a).story l (entered b a).submissions ≤ permits_held (entered b a).story l b.submissions = held_behind b a may sound l in
     let fewer : permits_held (entered b a).story l b.submissions ≤ permits_held b.story l b.submissions = held_less (entered b a).story b.story l b.submissions
-    (λ k i. on_less ((entered b a).story k) (b.story k) l (follows b a may k i).link (less k i)) in
+    (λ k i. elim (follows b a may k i).on [ inl stays ↦ on_less ((entered b a).story k) (b.story k) l stays.link (less k i) | inr goes ↦ none_on ((entered b a).story k) (b.story k) l (ap (λ (s : Story). s.permits) goes.2) ]) in
     omega (arith, old, now, fewer)
 
 -- an event gives none
 event_less : (b : Book) (n : ℕ) (kind : EventKind) → (after_event b n kind).permits ≤ (b.story n).permits
-event_less b n (event.Submit what) = chosen (λ (s : Story). s.permits ≤ (b.story n).permits) (b.submissions == n) (handed_in (b.story n) what b.shut (is_unspoken b what) (current b) b.timeout) (b.story n) (λ t. omega arith) (λ f. omega arith)
+event_less b n (event.Submit what) = chosen (λ (s : Story). s.permits ≤ (b.story n).permits) (b.submissions == n) (handed_in (b.story n) what b.shut (is_unspoken b what) (max 1 b.generation) b.current b.timeout) (b.story n) (λ t. omega arith) (λ f. omega arith)
 event_less b n (event.Cancel m) = chosen (λ (s : Story). s.permits ≤ (b.story n).permits) (m == n) (left (b.story n)) (b.story n)
     (λ t. chosen (λ (s : Story). s.permits ≤ (b.story n).permits) (is_open (b.story n)) (record (b.story n) { cancelled = true; permits = 0; waiting = None }) (b.story n) (λ o. omega arith) (λ o. omega arith)) (λ f. omega arith)
 event_less b n (event.Fired t) = chosen (λ (s : Story). s.permits ≤ (b.story n).permits) (is_clock_of n (slice_get b.timers t)) (fires (b.story n)) (b.story n)
@@ -141,29 +148,41 @@ taken_within b m round on count may stand sound h limit l counted =
 -- each action that may stand keeps it
 within_kept : (b : Book) (a : Action) → MayStand b a → Sound b → IsWithinLimit b → IsWithinLimit (entered b a)
 within_kept b (action.Turn k (cause.Opening config word)) may sound h = λ limit l counted.
-    let none : b.submissions ≡ 0 = sound.opens.no_submissions (sound.opens.no_links may.is_for) in
+    let start : b.turns ≡ 0 = may.is_for in
+    let none : b.submissions ≡ 0 = sound.opens.none_yet (omega (arith, start)) in
     subst (λ n. permits_held (entered b (action.Turn k (cause.Opening config word))).story l n ≤ limit) (sym none) (omega arith)
 within_kept b (action.Turn k (cause.Event e)) may sound h = kept_by b (action.Turn k (cause.Event e)) may sound refl (λ n i. event_less b n e.kind) h
 within_kept b (action.Connect m host port) may sound h = kept_by b (action.Connect m host port) may sound refl (λ n i. omega arith) h
 within_kept b (action.Timer t ms what) may sound h = kept_by b (action.Timer t ms what) may sound refl
-    (λ n i. chosen (λ (s : Story). s.permits ≤ (b.story n).permits) (is_clock_of n (Some what)) (clocked (b.story n) t) (b.story n) (λ e. omega arith) (λ f. omega arith)) h
+    (λ n i. timer_keeps (λ (s : Story). s.permits ≤ (b.story n).permits) b n t what (λ e o. omega arith) (λ e. omega arith) (omega arith)) h
 within_kept b (action.Took owner.Setup l count) may sound h = absurd may
 within_kept b (action.Took owner.Auth l count) may sound h = absurd may
+within_kept b (action.Took owner.Resub l count) may sound h = absurd may
 within_kept b (action.Took owner.Monitor l count) may sound h = absurd may
 within_kept b (action.Took (owner.Try m round) l count) may sound h = taken_within b m round l count may.1 may sound h
 within_kept b (action.Push m info) may sound h = kept_by b (action.Push m info) may sound refl (λ n i. omega arith) h
 within_kept b (action.Message msg) may sound h = kept_by b (action.Message msg) may sound refl (λ n i. omega arith) h
 within_kept b (action.Monitor v) may sound h = kept_by b (action.Monitor v) may sound refl (λ n i. omega arith) h
 within_kept b (action.NeedCreds c m) may sound h = kept_by b (action.NeedCreds c m) may sound refl (λ n i. omega arith) h
+within_kept b (action.Generation g) may sound h = kept_by b (action.Generation g) may sound refl (λ n i. omega arith) h
+within_kept b (action.Round owner.Setup on) may sound h = absurd may
+within_kept b (action.Round owner.Auth on) may sound h = absurd may
+within_kept b (action.Round owner.Resub on) may sound h = absurd may
+within_kept b (action.Round owner.Monitor on) may sound h = absurd may
+within_kept b (action.Round (owner.Try m round) on) may sound h =
+    kept_by b (action.Round (owner.Try m round) on) may sound refl
+    (λ n i. chosen (λ (s : Story). s.permits ≤ (b.story n).permits) (m == n) (rounds (b.story n)) (b.story n) (λ e. omega arith) (λ f. omega arith)) h
 within_kept b (action.Close m) may sound h = kept_by b (action.Close m) may sound refl (λ n i. omega arith) h
 within_kept b (action.Write m bytes) may sound h = kept_by b (action.Write m bytes) may sound refl (λ n i. omega arith) h
 within_kept b (action.Wait owner.Setup kind) may sound h = absurd may
 within_kept b (action.Wait owner.Auth kind) may sound h = absurd may
+within_kept b (action.Wait owner.Resub kind) may sound h = absurd may
 within_kept b (action.Wait owner.Monitor kind) may sound h = absurd may
 within_kept b (action.Wait (owner.Try m round) kind) may sound h = kept_by b (action.Wait (owner.Try m round) kind) may sound refl
     (λ n i. chosen (λ (s : Story). s.permits ≤ (b.story n).permits) (m == n) (waits (b.story n) kind) (b.story n) (λ e. omega arith) (λ f. omega arith)) h
 within_kept b (action.Start l k owner.Setup count len) may sound h = kept_by b (action.Start l k owner.Setup count len) may sound refl (λ n i. omega arith) h
 within_kept b (action.Start l k owner.Auth count len) may sound h = kept_by b (action.Start l k owner.Auth count len) may sound refl (λ n i. omega arith) h
+within_kept b (action.Start l k owner.Resub count len) may sound h = kept_by b (action.Start l k owner.Resub count len) may sound refl (λ n i. omega arith) h
 within_kept b (action.Start l k owner.Monitor count len) may sound h = kept_by b (action.Start l k owner.Monitor count len) may sound refl (λ n i. omega arith) h
 within_kept b (action.Start l k (owner.Try m round) count len) may sound h = kept_by b (action.Start l k (owner.Try m round) count len) may sound refl
     (λ n i. chosen (λ (s : Story). s.permits ≤ (b.story n).permits) (m == n) (tried (b.story n) l k) (b.story n) (λ e. omega arith) (λ f. omega arith)) h
@@ -183,12 +202,13 @@ within_behind front all = each_within blank_book front all blank_is_sound (λ li
 
 -- before the first turn nobody is there to hold any
 none_held : (b : Book) (l : ℕ) → Sound b → b.turns ≡ 0 → permits_held b.story l b.submissions ≡ 0
-none_held b l sound none = ap (permits_held b.story l) (sound.opens.no_submissions (sound.opens.no_links none))
+none_held b l sound none = ap (permits_held b.story l) (sound.opens.none_yet (omega (arith, none)))
 
 -- whoever takes permits does so where they are counted
 counted_where_taken : (config : Config) (b : Book) (who : Owner) (l count : ℕ) → IsReady config b → MayStand b (action.Took who l count) → permits config ≡ None → ⊥
 counted_where_taken config b owner.Setup l count ready may none = absurd may
 counted_where_taken config b owner.Auth l count ready may none = absurd may
+counted_where_taken config b owner.Resub l count ready may none = absurd may
 counted_where_taken config b owner.Monitor l count ready may none = absurd may
 counted_where_taken config b (owner.Try n round) l count ready may none =
     let t = takes_mean b n count may.1.takes in

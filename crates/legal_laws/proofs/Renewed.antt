@@ -10,10 +10,13 @@ use Rattle.driver_model.specs.declared.action.Action.{Action}
 use Rattle.driver_model.specs.declared.action.Action.TheVariants as action
 use Rattle.driver_model.specs.declared.action.Cause.TheVariants as cause
 use Rattle.driver_model.specs.declared.action.Owner.TheVariants as owner
-use Rattle.driver_model.specs.News.{News, silence, connected, refused, overdue, took, came, failed, authorized, denied, deserted, renewed, unrenewed, late, dropped, shut, news_of}
-use Rattle.legal_trace.specs.Ledger.{Ledger, Start, asks, hears, begins, offers, sources, times, ends, noted, with_news, refused_in, bytes_came, is_over, dials, awaits_credentials, authorized_by, may_renew, renewed_by, unrenewed_by, is_renewal_open, lost_by, is_of_renewal, is_taken, renewal_count, renewal_due, renewal_message, Heard}
-use Rattle.legal_trace.specs.Book.{Book, blank_book, book, entered, entered_each, info_in, wanted_in, message_of, renewal_in, is_renewal_of, hearing_in, current}
+use Rattle.driver_model.specs.News.{News, silence, connected, refused, overdue, took, came, failed, authorized, denied, deserted, renewed, unrenewed, late, unrepeated, dropped, shut, news_of}
+use Rattle.legal_trace.specs.Ledger.{Ledger, Start, asks, hears, begins, offers, sources, times, ends, noted, with_news, refused_in, bytes_came, is_over, dials, awaits_credentials, authorized_by, may_renew, renewed_by, unrenewed_by, is_renewal_open, lost_by, is_of_renewal, is_taken, renewal_count, renewal_due, renewal_message, Heard, is_repeating, unrepeated_by, repeats_timed}
+use Rattle.legal_trace.specs.Managers.{settings_in, is_last}
+use Rattle.legal_trace.specs.Book.{Book, blank_book, book, entered, entered_each, info_in, wanted_in, message_of, renewal_in, hearing_in}
 use Rattle.legal_trace.specs.Legal.{MayStand, AllStand}
+use Rattle.legal_trace.specs.Again.{repeats_in}
+use Rattle.legal_trace.proofs.Clocks.{timer_tells}
 use Rattle.legal_trace.proofs.Ledgers.{mine_keeps}
 use Rattle.legal_trace.proofs.Plain.{item_behind, item_stays, not_none, item_within}
 use Rattle.legal_trace.proofs.Renewals.{last_told, renewal_came, renewal_is_next, taken_begins, taken_more}
@@ -89,6 +92,7 @@ news_told l turn deserted h = h
 news_told l turn (renewed c) h = chosen TellsWell (may_renew l) (renewed_by l c) l (λ t. renewed_told l c h) (λ e. h)
 news_told l turn unrenewed h = chosen TellsWell l.up (unrenewed_by l) l (λ t. same_told l (unrenewed_by l) refl refl refl h) (λ e. h)
 news_told l turn (late k) h = chosen TellsWell (l.up && is_renewal_open l k) (lost_by l) l (λ t. same_told l (lost_by l) refl refl refl h) (λ e. h)
+news_told l turn unrepeated h = chosen TellsWell (is_repeating l) (unrepeated_by l) l (λ t. same_told l (unrepeated_by l) refl refl refl h) (λ e. h)
 news_told l turn dropped h = h
 news_told l turn shut h = h
 
@@ -160,23 +164,26 @@ renew_told l c due h = subst (λ o. TellsWell (noted l (begins (renewal_in o))))
 told_kept : (b : Book) (a : Action) (l : ℕ) → MayStand b a → Sound b → TellsWell (b.link l) → TellsWell ((entered b a).link l)
 told_kept b (action.Turn k (cause.Opening config word)) l may sound h = h
 told_kept b (action.Turn k (cause.Event e)) l may sound h = hears_told (b.link l) k (news_of b.timers b.sources l e.kind) h
-told_kept b (action.Connect m host port) l may sound h = mine_keeps TellsWell (m == l) (b.link l) (asks (info_in b.config) (wanted_in b.config) (hearing_in b.config))
+told_kept b (action.Connect m host port) l may sound h = mine_keeps TellsWell (m == l) (b.link l) (asks (info_in b.config) (wanted_in b.config) (hearing_in b.config) (is_last (settings_in b.config) b.attempt) (repeats_in (settings_in b.config) b.tracked))
     (λ t.
     let same : m ≡ l = eq_from m l t in
     let next : m ≡ b.links = may.next in
-    none_told (noted (b.link l) (asks (info_in b.config) (wanted_in b.config) (hearing_in b.config))) ((sound.shaped l).none (sound.links.unasked l (omega (arith, same, next))).0)) h
-told_kept b (action.Timer t ms what) l may sound h = mine_keeps TellsWell (is_renewal_of l what) (b.link l) times (λ e. same_told (b.link l) (noted (b.link l) times) refl refl refl h) h
+    none_told (noted (b.link l) (asks (info_in b.config) (wanted_in b.config) (hearing_in b.config) (is_last (settings_in b.config) b.attempt) (repeats_in (settings_in b.config) b.tracked))) ((sound.shaped l).none (sound.links.unasked l (omega (arith, same, next))).0)) h
+told_kept b (action.Timer t ms what) l may sound h = timer_tells TellsWell (b.link l) l what (λ on k is e. same_told (b.link l) (noted (b.link l) times) refl refl refl h) (λ on is e. same_told (b.link l) (noted (b.link l) repeats_timed) refl refl refl h) h
 told_kept b (action.Took who m count) l may sound h = h
 told_kept b (action.Push m info) l may sound h = push_keeps TellsWell (m == l) info.kind (b.link l) (same_told (b.link l) _ refl refl refl h) (same_told (b.link l) _ refl refl refl h) h
-told_kept b (action.Message msg) l may sound h = tell_keeps TellsWell (current b == l) (b.link l) (same_told (b.link l) _ refl refl refl h) h
-told_kept b (action.Monitor v) l may sound h = tell_keeps TellsWell (current b == l) (b.link l) (same_told (b.link l) _ refl refl refl h) h
+told_kept b (action.Message msg) l may sound h = tell_keeps TellsWell (b.current == l) (b.link l) (same_told (b.link l) _ refl refl refl h) h
+told_kept b (action.Monitor v) l may sound h = tell_keeps TellsWell (b.current == l) (b.link l) (same_told (b.link l) _ refl refl refl h) h
 told_kept b (action.NeedCreds c m) l may sound h = mine_keeps TellsWell (m == l) (b.link l) sources (λ t. same_told (b.link l) (noted (b.link l) sources) refl refl refl h) h
+told_kept b (action.Generation g) l may sound h = h
+told_kept b (action.Round who m) l may sound h = h
 told_kept b (action.Close m) l may sound h = mine_keeps TellsWell (m == l) (b.link l) (ends (b.turns - 1)) (λ t. same_told (b.link l) (noted (b.link l) (ends (b.turns - 1))) refl refl refl h) h
 told_kept b (action.Write m bytes) l may sound h = mine_keeps TellsWell (m == l) (b.link l) (offers bytes) (λ t. same_told (b.link l) (noted (b.link l) (offers bytes)) refl refl refl h) h
 told_kept b (action.Wait who kind) l may sound h = h
 told_kept b (action.Start m k owner.Setup count len) l may sound h = mine_keeps TellsWell (m == l) (b.link l) (begins (message_of b m owner.Setup)) (λ t. other_told (b.link l) (message_of b m owner.Setup) refl h) h
 told_kept b (action.Start m k owner.Auth count len) l may sound h = mine_keeps TellsWell (m == l) (b.link l) (begins (message_of b m owner.Auth))
     (λ t. subst (λ j. TellsWell (b.link j) → TellsWell (noted (b.link j) (begins (message_of b m owner.Auth)))) (eq_from m l t) (renew_told (b.link m) may.credentials may.due) h) h
+told_kept b (action.Start m k owner.Resub count len) l may sound h = mine_keeps TellsWell (m == l) (b.link l) (begins (message_of b m owner.Resub)) (λ t. other_told (b.link l) (message_of b m owner.Resub) refl h) h
 told_kept b (action.Start m k owner.Monitor count len) l may sound h = mine_keeps TellsWell (m == l) (b.link l) (begins (message_of b m owner.Monitor)) (λ t. other_told (b.link l) (message_of b m owner.Monitor) refl h) h
 told_kept b (action.Start m k (owner.Try n round) count len) l may sound h =
     mine_keeps TellsWell (m == l) (b.link l) (begins (message_of b m (owner.Try n round))) (λ t. other_told (b.link l) (message_of b m (owner.Try n round)) refl h) h

@@ -1,6 +1,6 @@
 -- A monitor's link is set up once MONITOR is answered, and deals nothing from then on.
 use Rattle.std.proofs.Common.{◌≡◌, ℕ, ◌+◌, ◌-◌, ◌==◌, Bool, true, false, ◌&&◌, ◌||◌, not, List, [], ◌∷◌, ◌++◌, take, Option, Some, None, refl, sym, ◌∙◌, ap, subst, arith, zero, suc}
-use Rattle.std.specs.Prelude.{slice_get, unwrap_or}
+use Rattle.std.specs.Prelude.{slice_get}
 use Rattle.containers.proofs.Choices.{chosen, eq_from, not_both, taken_if, by_test, left_if}
 use Rattle.redis_error.specs.declared.redis_error.RedisError.TheVariants as error
 use Rattle.resp_value.specs.Data.{Data}
@@ -13,9 +13,10 @@ use Rattle.driver_model.specs.declared.event.Event.{Event}
 use Rattle.driver_model.specs.declared.hearing.Hearing.{Hearing}
 use Rattle.driver_model.specs.declared.hearing.Hearing.TheVariants as hearing
 use Rattle.driver_model.specs.Hearing.{taking, is_watching}
-use Rattle.driver_model.specs.News.{News, silence, connected, refused, overdue, took, came, failed, dropped, shut, news_of, authorized, denied, deserted, renewed, unrenewed, late}
-use Rattle.legal_trace.specs.Ledger.{Ledger, asks, begins, offers, ends, sources, times, with_news, refused_in, bytes_came, is_answered, is_awaiting, is_over, is_set_up, dials, items_came, heard_at, monitor_of, taking_of, value_by, value_came, awaits_credentials, authorized_by, may_renew, renewed_by, unrenewed_by, is_renewal_open, lost_by, Start, is_of_monitor, monitor_among, monitor_due}
-use Rattle.legal_trace.specs.Book.{Book, blank_book, book, entered, entered_each, current, hearing_in, info_in, message_of, wanted_in, is_renewal_of, kind_in, submitted_by}
+use Rattle.driver_model.specs.News.{News, silence, connected, refused, overdue, took, came, failed, dropped, shut, news_of, authorized, denied, deserted, renewed, unrenewed, late, unrepeated}
+use Rattle.legal_trace.specs.Ledger.{Ledger, asks, begins, offers, ends, sources, with_news, refused_in, bytes_came, is_answered, is_awaiting, is_over, is_set_up, dials, items_came, heard_at, monitor_of, taking_of, value_by, value_came, awaits_credentials, authorized_by, may_renew, renewed_by, unrenewed_by, is_renewal_open, lost_by, Start, is_of_monitor, monitor_among, monitor_due, is_repeating, unrepeated_by}
+use Rattle.legal_trace.specs.Managers.{settings_in, is_last}
+use Rattle.legal_trace.specs.Book.{Book, blank_book, book, entered, entered_each, hearing_in, info_in, message_of, wanted_in, kind_in, submitted_by}
 use Rattle.legal_trace.specs.Legal.{MayStand, AllStand, Legal}
 use Rattle.legal_trace.proofs.Books.{stand_front, stand_behind, book_append}
 use Rattle.legal_trace.proofs.Came.{ValueKeeps, bytes_keep, holds_came, value_is}
@@ -29,6 +30,8 @@ use Rattle.legal_laws.proofs.Pushed.{push_keeps, tell_keeps}
 use Rattle.legal_laws.proofs.Sound.{Sound, stays_sound, sound_behind, blank_is_sound}
 use Rattle.legal_laws.proofs.Suits.{tells_what_came}
 use Rattle.legal_trace.specs.Events.{is_bad_event}
+use Rattle.legal_trace.specs.Again.{repeats_in}
+use Rattle.legal_trace.proofs.Clocks.{timer_tells}
 use Rattle.legal_trace.proofs.Plain.{not_none, same_some}
 use Rattle.legal_trace.proofs.Watching.{watch_is_up, watch_is_heard, watch_is_greeted, watch_is_new}
 use Rattle.legal_laws.proofs.Bounds.{ready_behind, next_may, applied_began}
@@ -39,7 +42,7 @@ use Rattle.driver_model.specs.declared.event.EventKind.{EventKind}
 use Rattle.driver_model.specs.declared.kind.SessionKind.{SessionKind}
 use Rattle.driver_model.specs.declared.kind.SessionKind.TheVariants as kind
 use Rattle.driver_model.specs.declared.event.EventKind.TheVariants as event
-use Rattle.driver_model.specs.Config.{hearing_in as kind_hears}
+use Rattle.driver_model.specs.Config.{kind_of, wants_pushes, hearing_in as kind_hears}
 
 -- where a server is put into monitor mode, and the link is set up, MONITOR is answered
 watched_by : (l : Ledger) (o : Option ℕ) → monitor_of l ≡ o → is_answered l o ≡ true → IsWatched l
@@ -109,6 +112,7 @@ news_done ds l turn deserted are h = h
 news_done ds l turn (renewed c) are h = chosen (IsDone ds) (may_renew l) (renewed_by l c) l (λ t. record { asked = h.asked; watching = h.watching; ready = h.ready; dealt = h.dealt }) (λ e. h)
 news_done ds l turn unrenewed are h = chosen (IsDone ds) l.up (unrenewed_by l) l (λ t. record { asked = h.asked; watching = h.watching; ready = h.ready; dealt = h.dealt }) (λ e. h)
 news_done ds l turn (late k) are h = chosen (IsDone ds) (l.up && is_renewal_open l k) (lost_by l) l (λ t. record { asked = h.asked; watching = h.watching; ready = h.ready; dealt = h.dealt }) (λ e. h)
+news_done ds l turn unrepeated are h = chosen (IsDone ds) (is_repeating l) (unrepeated_by l) l (λ t. record { asked = h.asked; watching = h.watching; ready = h.ready; dealt = h.dealt }) (λ e. h)
 news_done ds l turn dropped are h = h
 news_done ds l turn shut are h = h
 
@@ -116,19 +120,22 @@ news_done ds l turn shut are h = h
 done_kept : (b : Book) (l : ℕ) (ds : List Data) (a : Action) → MayStand b a → Sound b → IsDone ds (b.link l) → IsDone ds ((entered b a).link l)
 done_kept b l ds (action.Turn k (cause.Opening config word)) may s h = h
 done_kept b l ds (action.Turn k (cause.Event e)) may s h = let m = news_done ds (b.link l) k (news_of b.timers b.sources l e.kind) (s.shaped l).are h in record { asked = m.asked; watching = m.watching; ready = m.ready; dealt = m.dealt }
-done_kept b l ds (action.Connect m host port) may s h = mine_keeps (IsDone ds) (m == l) (b.link l) (asks (info_in b.config) (wanted_in b.config) (hearing_in b.config))
+done_kept b l ds (action.Connect m host port) may s h = mine_keeps (IsDone ds) (m == l) (b.link l) (asks (info_in b.config) (wanted_in b.config) (hearing_in b.config) (is_last (settings_in b.config) b.attempt) (repeats_in (settings_in b.config) b.tracked))
     (λ t. let same : m ≡ l = eq_from m l t in let next : m ≡ b.links = may.next in absurd (not_both (b.link l).asked (s.links.unasked l (omega (arith, same, next))).0 h.asked)) h
-done_kept b l ds (action.Timer t ms what) may s h = mine_keeps (IsDone ds) (is_renewal_of l what) (b.link l) times (λ e. record { asked = h.asked; watching = h.watching; ready = h.ready; dealt = h.dealt }) h
+done_kept b l ds (action.Timer t ms what) may s h = timer_tells (IsDone ds) (b.link l) l what (λ on k is e. record { asked = h.asked; watching = h.watching; ready = h.ready; dealt = h.dealt }) (λ on is e. record { asked = h.asked; watching = h.watching; ready = h.ready; dealt = h.dealt }) h
 done_kept b l ds (action.Took who m count) may s h = h
 done_kept b l ds (action.Push m info) may s h = push_keeps (IsDone ds) (m == l) info.kind (b.link l) (record { asked = h.asked; watching = h.watching; ready = h.ready; dealt = h.dealt }) (record { asked = h.asked; watching = h.watching; ready = h.ready; dealt = h.dealt }) h
-done_kept b l ds (action.Message msg) may s h = tell_keeps (IsDone ds) (current b == l) (b.link l) (record { asked = h.asked; watching = h.watching; ready = h.ready; dealt = h.dealt }) h
-done_kept b l ds (action.Monitor v) may s h = tell_keeps (IsDone ds) (current b == l) (b.link l) (record { asked = h.asked; watching = h.watching; ready = h.ready; dealt = h.dealt }) h
+done_kept b l ds (action.Message msg) may s h = tell_keeps (IsDone ds) (b.current == l) (b.link l) (record { asked = h.asked; watching = h.watching; ready = h.ready; dealt = h.dealt }) h
+done_kept b l ds (action.Monitor v) may s h = tell_keeps (IsDone ds) (b.current == l) (b.link l) (record { asked = h.asked; watching = h.watching; ready = h.ready; dealt = h.dealt }) h
 done_kept b l ds (action.NeedCreds c m) may s h = mine_keeps (IsDone ds) (m == l) (b.link l) sources (λ t. record { asked = h.asked; watching = h.watching; ready = h.ready; dealt = h.dealt }) h
+done_kept b l ds (action.Generation g) may s h = h
+done_kept b l ds (action.Round who m) may s h = h
 done_kept b l ds (action.Close m) may s h = mine_keeps (IsDone ds) (m == l) (b.link l) (ends (b.turns - 1)) (λ t. record { asked = h.asked; watching = h.watching; ready = h.ready; dealt = h.dealt }) h
 done_kept b l ds (action.Write m bytes) may s h = mine_keeps (IsDone ds) (m == l) (b.link l) (offers bytes) (λ t. record { asked = h.asked; watching = h.watching; ready = h.ready; dealt = h.dealt }) h
 done_kept b l ds (action.Wait who kind) may s h = h
 done_kept b l ds (action.Start m k owner.Setup count len) may s h = mine_keeps (IsDone ds) (m == l) (b.link l) (begins (message_of b m owner.Setup))
     (λ t. absurd (set_is_undue (b.link m) may.k (subst (λ j. is_set_up (b.link j) ≡ true) (sym (eq_from m l t)) h.ready) may.due)) h
+done_kept b l ds (action.Start m k owner.Resub count len) may s h = mine_keeps (IsDone ds) (m == l) (b.link l) (begins (message_of b m owner.Resub)) (λ t. record { asked = h.asked; watching = h.watching; ready = set_begins (b.link l) (message_of b m owner.Resub) refl h.ready; dealt = h.dealt }) h
 done_kept b l ds (action.Start m k owner.Monitor count len) may s h = mine_keeps (IsDone ds) (m == l) (b.link l) (begins (message_of b m owner.Monitor)) (λ t. record { asked = h.asked; watching = h.watching; ready = set_begins (b.link l) (message_of b m owner.Monitor) refl h.ready; dealt = h.dealt }) h
 done_kept b l ds (action.Start m k owner.Auth count len) may s h = mine_keeps (IsDone ds) (m == l) (b.link l) (begins (message_of b m owner.Auth)) (λ t. record { asked = h.asked; watching = h.watching; ready = set_begins (b.link l) (message_of b m owner.Auth) refl h.ready; dealt = h.dealt }) h
 done_kept b l ds (action.Start m k (owner.Try n round) count len) may s h = mine_keeps (IsDone ds) (m == l) (b.link l) (begins (message_of b m (owner.Try n round))) (λ t. record { asked = h.asked; watching = h.watching; ready = set_begins (b.link l) (message_of b m (owner.Try n round)) refl h.ready; dealt = h.dealt }) h
@@ -184,6 +191,8 @@ watched_once config word events trace h front more _ l is watches = absurd watch
 kind_is_monitor : (of_kind : SessionKind) (heard : Bool) → is_watching (kind_hears of_kind heard) ≡ true → of_kind ≡ kind.Monitor
 kind_is_monitor kind.Monitor heard e = refl
 kind_is_monitor kind.PubSub heard e = cc
+kind_is_monitor (kind.Manager lazy) true e = cc
+kind_is_monitor (kind.Manager lazy) false e = cc
 kind_is_monitor kind.Single true e = cc
 kind_is_monitor kind.Single false e = cc
 
@@ -198,7 +207,7 @@ event_submits b (event.Submit what) good is = absurd (not_both (has_no_form (kin
 event_submits b _ good is = refl
 
 none_submitted : (b : Book) (a : Action) → MayStand b a → Sound b → NoneSubmitted b → NoneSubmitted (entered b a)
-none_submitted b (action.Turn k (cause.Opening config word)) may s h = λ is. s.opens.no_submissions (s.opens.no_links may.is_for)
+none_submitted b (action.Turn k (cause.Opening config word)) may s h = λ is. let start : b.turns ≡ 0 = may.is_for in s.opens.none_yet (omega (arith, start))
 none_submitted b (action.Turn k (cause.Event e)) may s h = λ is. let none : b.submissions ≡ 0 = h is in let more : submitted_by e.kind ≡ 0 = event_submits b e.kind may.is_for.2 is in omega (arith, none, more)
 none_submitted b (action.Connect l host port) may s h = h
 none_submitted b (action.Timer t ms what) may s h = h
@@ -207,6 +216,8 @@ none_submitted b (action.Push l info) may s h = h
 none_submitted b (action.Message msg) may s h = h
 none_submitted b (action.Monitor v) may s h = h
 none_submitted b (action.NeedCreds c l) may s h = h
+none_submitted b (action.Generation g) may s h = h
+none_submitted b (action.Round who l) may s h = h
 none_submitted b (action.Close l) may s h = h
 none_submitted b (action.Write l bytes) may s h = h
 none_submitted b (action.Wait who kind) may s h = h
@@ -224,7 +235,7 @@ submits_nothing config word events trace h watching =
     let sound : Sound (book trace) = sound_behind trace h.each in
     let ready = ready_behind config word events trace [] (subst (Legal config word events) (sym (append-nil trace)) h) in
     let configured : (book trace).config ≡ Some config = ready.configured (applied_began (book trace) sound h.settled.written.moved.begun.applied) in
-    each_unsubmitted blank_book trace h.each blank_is_sound (λ is. refl) (ap kind_in configured ∙ kind_is_monitor config.kind (unwrap_or config.push false) watching)
+    each_unsubmitted blank_book trace h.each blank_is_sound (λ is. refl) (ap kind_in configured ∙ kind_is_monitor (kind_of config) (wants_pushes config) watching)
 
 pub tells_reports : (config : Config) (word : ℕ) (events : List Event) (trace : List Action) → Legal config word events trace → TellsReports config trace
 tells_reports config word events trace h = record {

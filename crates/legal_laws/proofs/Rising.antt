@@ -7,7 +7,7 @@ use Rattle.driver_model.specs.declared.action.Action.TheVariants as action
 use Rattle.driver_model.specs.declared.action.Owner.TheVariants as owner
 use Rattle.driver_model.specs.declared.config.Config.{Config}
 use Rattle.driver_model.specs.declared.event.Event.{Event}
-use Rattle.legal_trace.specs.Ledger.{dials, is_ready, renewal_due}
+use Rattle.legal_trace.specs.Ledger.{dials, is_ready, renewal_due, is_served}
 use Rattle.legal_trace.specs.Story.{has_place, is_told, is_unstarted, tried}
 use Rattle.legal_trace.specs.Book.{Book, blank_book, book, entered, entered_each}
 use Rattle.legal_trace.specs.Steps.{queue_size, is_held_back, permits_in, is_let_in, line_before, renewals_in_line, is_outside, is_due, next_step}
@@ -17,8 +17,9 @@ use Rattle.legal_trace.proofs.Plain.{not_empty}
 use Rattle.legal_laws.specs.Starts.{IsStart, StartsRise}
 use Rattle.legal_laws.proofs.Bounds.{start_of, starter_has_room}
 use Rattle.legal_laws.proofs.InLine.{is_to_start, submissions_grow, stays_out, starter_to_start, earlier}
-use Rattle.legal_trace.proofs.Moves.{has_no_tries, holds_some, is_timed, starts_mean, told_is_due, free_is_due, starter_moves}
-use Rattle.legal_laws.proofs.Numbers.{mover_is_numbered}
+use Rattle.legal_trace.proofs.Moves.{ready_is_up, has_no_tries, holds_some, is_timed, starts_mean, told_is_due, free_is_due, starter_moves, mover_is_served}
+use Rattle.legal_laws.proofs.Held.{starts_ready}
+use Rattle.legal_laws.proofs.Numbers.{links_grow, mover_is_numbered, up_is_numbered}
 use Rattle.legal_laws.proofs.Seated.{IsSeated, holds_like, seated_behind, told_place}
 use Rattle.legal_laws.proofs.Sound.{Sound, sound_behind}
 use Rattle.legal_laws.proofs.Told.{none_unless}
@@ -68,10 +69,11 @@ first_to_start b l k m count len sound seated may n i e =
     let s = starts_mean b m may.starts in
     let dialing : dials (link_of b n) ≡ false = ap (λ x. dials (b.link x)) same ∙ s.0 in
     let up : is_ready (link_of b n) ≡ true = ap (λ x. is_ready (b.link x)) same ∙ s.1 in
+    let served : is_served (link_of b n) ≡ true = ap (λ x. is_served (b.link x)) same ∙ mover_is_served b m (starter_moves b l k m count len may) in
     let free : is_held_back b (link_of b n) ≡ false = ap (λ x. is_held_back b (b.link x)) same ∙ s.2 in
     let inside : is_outside b n ≡ false = inside_before b n m same i (none_in_line b (b.story n).link may.begun.renewed free) (starter_has_room b l k m count len sound seated may) in
-    let due : is_due (next_step b n) ≡ true = by_test (is_told (b.story n)) (is_due (next_step b n) ≡ true) (told_is_due b n dialing up free)
-    (λ untold. free_is_due b n dialing up free untold (holds_before b l k m count len sound seated may n i (subst (λ x. is_to_start x (b.story n) ≡ true) may.on_its_link e) untold) inside) in
+    let due : is_due (next_step b n) ≡ true = by_test (is_told (b.story n)) (is_due (next_step b n) ≡ true) (told_is_due b n dialing up served free)
+    (λ untold. free_is_due b n dialing up served free untold (holds_before b l k m count len sound seated may n i (subst (λ x. is_to_start x (b.story n) ≡ true) may.on_its_link e) untold) inside) in
     may.in_order n i (record { unstarted = both_right ((b.story n).link == l) (is_unstarted (b.story n)) e; due = due })
 
 -- behind a start neither whoever started nor anyone before it does
@@ -87,6 +89,12 @@ out_behind b _ l m sound seated may is n below = absurd is
 start_is_numbered : (b : Book) (a : Action) (l m : ℕ) → Sound b → MayStand b a → IsStart l m a → m < b.submissions
 start_is_numbered b a l m sound may is = let s = start_of b a l m may is in mover_is_numbered b m sound.stories (starter_moves b l s.0 m s.1 s.2 s.3)
 
+-- and does so on a link that was asked for
+start_is_asked : (b : Book) (a : Action) (l m : ℕ) → Sound b → MayStand b a → IsStart l m a → l < b.links
+start_is_asked b a l m sound may is =
+    let s = start_of b a l m may is in
+    up_is_numbered b l sound.links (ready_is_up (b.link l) (starts_ready b l s.0 m s.1 s.2 s.3))
+
 -- of two starts on a link, behind actions that may stand
 rise_behind : (b : Book) (middle more : List Action) (a c : Action) (l m n : ℕ) → Sound b → IsSeated b → AllStand b (a ∷ (middle ++ c ∷ more)) → IsStart l m a → IsStart l n c → m < n
 rise_behind b middle more a c l m n sound seated all first second = by_test (nat_lt m n) (m < n) (λ t. lt_from m n t)
@@ -95,8 +103,10 @@ rise_behind b middle more a c l m n sound seated all first second = by_test (nat
     let after : Book = entered b a in
     let grows : b.submissions ≤ after.submissions = submissions_grow b a in
     let numbered : m < b.submissions = start_is_numbered b a l m sound all.0 first in
+    let asked : l < b.links = start_is_asked b a l m sound all.0 first in
+    let longer : b.links ≤ after.links = links_grow b a in
     let s = start_of (entered_each after middle) c l n (stand_behind after middle (c ∷ more) all.1).0 second in
-    absurd (stays_out after middle (stand_front after middle (c ∷ more) all.1) l n (omega (arith, below, grows, numbered)) (out_behind b a l m sound seated all.0 first n below)
+    absurd (stays_out after middle (stand_front after middle (c ∷ more) all.1) l n (omega (arith, longer, asked)) (omega (arith, below, grows, numbered)) (out_behind b a l m sound seated all.0 first n below)
     (starter_to_start (entered_each after middle) l s.0 n s.1 s.2 s.3)))
 
 -- so it is in a legal trace

@@ -9,10 +9,13 @@ use Rattle.driver_model.specs.declared.action.Action.{Action}
 use Rattle.driver_model.specs.declared.action.Action.TheVariants as action
 use Rattle.driver_model.specs.declared.action.Cause.TheVariants as cause
 use Rattle.driver_model.specs.declared.action.Owner.TheVariants as owner
-use Rattle.driver_model.specs.News.{News, silence, connected, refused, overdue, took, came, failed, authorized, denied, deserted, dropped, shut, news_of, renewed, unrenewed, late}
-use Rattle.legal_trace.specs.Ledger.{Ledger, Start, asks, hears, begins, offers, sources, ends, noted, with_news, refused_in, bytes_came, is_over, dials, is_of_setup, is_ready, is_set_up, lacks_credentials, awaits_credentials, authorized_by, setup_after, setup_count, setup_due, setup_steps, times, may_renew, renewed_by, unrenewed_by, is_renewal_open, lost_by, renewal_count, renewal_due, source_due, monitor_due}
-use Rattle.legal_trace.specs.Book.{Book, entered, info_in, wanted_in, message_of, is_renewal_of, hearing_in, current}
+use Rattle.driver_model.specs.News.{News, silence, connected, refused, overdue, took, came, failed, authorized, denied, deserted, dropped, shut, news_of, renewed, unrenewed, late, unrepeated}
+use Rattle.legal_trace.specs.Ledger.{Ledger, Start, asks, hears, begins, offers, sources, ends, noted, with_news, refused_in, bytes_came, is_over, dials, is_of_setup, is_ready, is_set_up, lacks_credentials, awaits_credentials, authorized_by, setup_after, setup_count, setup_due, setup_steps, may_renew, renewed_by, unrenewed_by, is_renewal_open, lost_by, renewal_count, renewal_due, source_due, monitor_due, is_repeating, unrepeated_by, again_due}
+use Rattle.legal_trace.specs.Managers.{settings_in, is_last}
+use Rattle.legal_trace.specs.Book.{Book, entered, info_in, wanted_in, message_of, hearing_in}
 use Rattle.legal_trace.specs.Legal.{MayStand}
+use Rattle.legal_trace.specs.Again.{repeats_in}
+use Rattle.legal_trace.proofs.Clocks.{timer_tells}
 use Rattle.legal_trace.proofs.Ledgers.{mine_keeps}
 use Rattle.legal_trace.proofs.Moves.{mover_is_ready, ready_is_set, ready_is_up, starter_moves}
 use Rattle.legal_trace.proofs.Plain.{not_none}
@@ -24,6 +27,7 @@ use Rattle.legal_laws.proofs.Numbers.{HasLinks, up_is_asked}
 use Rattle.legal_laws.proofs.Pushed.{push_keeps, tell_keeps}
 use Rattle.driver_model.specs.declared.hearing.Hearing.{Hearing}
 use Rattle.legal_trace.proofs.Watching.{watch_is_up, watch_is_greeted}
+use Rattle.legal_trace.proofs.Again.{again_is_set, again_is_up}
 
 -- nothing starts on a link that was not asked for, or lacks credentials; its setups take what they are to; and it has a second
 -- source of credentials only once it has a first and is set up, and new credentials only of that
@@ -70,6 +74,7 @@ news_shaped l turn deserted h = h
 news_shaped l turn (renewed c) h = chosen IsShaped (may_renew l) (renewed_by l c) l (λ t. record { none = h.none; are = h.are; bare = h.bare; ready = h.ready; second = h.second; came = λ none. absurd (not_both l.creds.renews none (renewed_renews l t)) }) (λ e. h)
 news_shaped l turn unrenewed h = chosen IsShaped l.up (unrenewed_by l) l (λ t. record { none = h.none; are = h.are; bare = h.bare; ready = h.ready; second = h.second; came = h.came }) (λ e. h)
 news_shaped l turn (late k) h = chosen IsShaped (l.up && is_renewal_open l k) (lost_by l) l (λ t. record { none = h.none; are = h.are; bare = h.bare; ready = h.ready; second = h.second; came = h.came }) (λ e. h)
+news_shaped l turn unrepeated h = chosen IsShaped (is_repeating l) (unrepeated_by l) l (λ t. record { none = h.none; are = h.are; bare = h.bare; ready = h.ready; second = h.second; came = h.came }) (λ e. h)
 news_shaped l turn dropped h = h
 news_shaped l turn shut h = h
 
@@ -78,8 +83,8 @@ hears_shaped : (l : Ledger) (turn : ℕ) (news : News) → IsShaped l → IsShap
 hears_shaped l turn news h = let m = news_shaped l turn news h in record { none = m.none; are = m.are; bare = m.bare; ready = m.ready; second = m.second; came = m.came }
 
 -- with the connect of a link that was not asked for
-asks_shaped : (l : Ledger) (info : RedisConnectionInfo) (wanted : Bool) (hearing : Hearing) → l.asked ≡ false → IsShaped l → IsShaped (noted l (asks info wanted hearing))
-asks_shaped l info wanted hearing unasked h = record {
+asks_shaped : (l : Ledger) (info : RedisConnectionInfo) (wanted : Bool) (hearing : Hearing) (last again : Bool) → l.asked ≡ false → IsShaped l → IsShaped (noted l (asks info wanted hearing last again))
+asks_shaped l info wanted hearing last again unasked h = record {
   none = λ f. cc f;
   are = subst (SetupsOf info) (sym (h.none unasked)) (λ k s i. absurd (omega (arith, i)));
   bare = λ lacks. h.none unasked;
@@ -133,22 +138,26 @@ begins_shaped l s other asked given h = record {
 pub shaped_kept : (b : Book) (a : Action) (l : ℕ) → MayStand b a → HasLinks b → IsShaped (b.link l) → IsShaped ((entered b a).link l)
 shaped_kept b (action.Turn k (cause.Opening config word)) l may links h = h
 shaped_kept b (action.Turn k (cause.Event e)) l may links h = hears_shaped (b.link l) k (news_of b.timers b.sources l e.kind) h
-shaped_kept b (action.Connect m host port) l may links h = mine_keeps IsShaped (m == l) (b.link l) (asks (info_in b.config) (wanted_in b.config) (hearing_in b.config))
-    (λ t. let same : m ≡ l = eq_from m l t in let next : m ≡ b.links = may.next in asks_shaped (b.link l) (info_in b.config) (wanted_in b.config) (hearing_in b.config) (links.unasked l (omega (arith, same, next))).0 h) h
-shaped_kept b (action.Timer t ms what) l may links h = mine_keeps IsShaped (is_renewal_of l what) (b.link l) times (λ t. record { none = h.none; are = h.are; bare = h.bare; ready = h.ready; second = h.second; came = h.came }) h
+shaped_kept b (action.Connect m host port) l may links h = mine_keeps IsShaped (m == l) (b.link l) (asks (info_in b.config) (wanted_in b.config) (hearing_in b.config) (is_last (settings_in b.config) b.attempt) (repeats_in (settings_in b.config) b.tracked))
+    (λ t. let same : m ≡ l = eq_from m l t in let next : m ≡ b.links = may.next in asks_shaped (b.link l) (info_in b.config) (wanted_in b.config) (hearing_in b.config) (is_last (settings_in b.config) b.attempt) (repeats_in (settings_in b.config) b.tracked) (links.unasked l (omega (arith, same, next))).0 h) h
+shaped_kept b (action.Timer t ms what) l may links h = timer_tells IsShaped (b.link l) l what (λ on k is t. record { none = h.none; are = h.are; bare = h.bare; ready = h.ready; second = h.second; came = h.came }) (λ on is t. record { none = h.none; are = h.are; bare = h.bare; ready = h.ready; second = h.second; came = h.came }) h
 shaped_kept b (action.Took owner.Setup m count) l may links h = absurd may
 shaped_kept b (action.Took owner.Auth m count) l may links h = absurd may
+shaped_kept b (action.Took owner.Resub m count) l may links h = absurd may
 shaped_kept b (action.Took owner.Monitor m count) l may links h = absurd may
 shaped_kept b (action.Took (owner.Try n round) m count) l may links h = h
 shaped_kept b (action.Push m info) l may links h = push_keeps IsShaped (m == l) info.kind (b.link l) (record { none = h.none; are = h.are; bare = h.bare; ready = h.ready; second = h.second; came = h.came }) (record { none = h.none; are = h.are; bare = h.bare; ready = h.ready; second = h.second; came = h.came }) h
-shaped_kept b (action.Message msg) l may links h = tell_keeps IsShaped (current b == l) (b.link l) (record { none = h.none; are = h.are; bare = h.bare; ready = h.ready; second = h.second; came = h.came }) h
-shaped_kept b (action.Monitor v) l may links h = tell_keeps IsShaped (current b == l) (b.link l) (record { none = h.none; are = h.are; bare = h.bare; ready = h.ready; second = h.second; came = h.came }) h
+shaped_kept b (action.Message msg) l may links h = tell_keeps IsShaped (b.current == l) (b.link l) (record { none = h.none; are = h.are; bare = h.bare; ready = h.ready; second = h.second; came = h.came }) h
+shaped_kept b (action.Monitor v) l may links h = tell_keeps IsShaped (b.current == l) (b.link l) (record { none = h.none; are = h.are; bare = h.bare; ready = h.ready; second = h.second; came = h.came }) h
 shaped_kept b (action.NeedCreds c m) l may links h = mine_keeps IsShaped (m == l) (b.link l) sources
     (λ t. source_shaped (b.link l) (subst (λ j. source_due (b.link j) ≡ true) (eq_from m l t) may.due) h) h
+shaped_kept b (action.Generation g) l may links h = h
+shaped_kept b (action.Round who m) l may links h = h
 shaped_kept b (action.Close m) l may links h = mine_keeps IsShaped (m == l) (b.link l) (ends (b.turns - 1)) (λ t. record { none = h.none; are = h.are; bare = h.bare; ready = h.ready; second = h.second; came = h.came }) h
 shaped_kept b (action.Write m bytes) l may links h = mine_keeps IsShaped (m == l) (b.link l) (offers bytes) (λ t. record { none = h.none; are = h.are; bare = h.bare; ready = h.ready; second = h.second; came = h.came }) h
 shaped_kept b (action.Wait owner.Setup kind) l may links h = absurd may
 shaped_kept b (action.Wait owner.Auth kind) l may links h = absurd may
+shaped_kept b (action.Wait owner.Resub kind) l may links h = absurd may
 shaped_kept b (action.Wait owner.Monitor kind) l may links h = absurd may
 shaped_kept b (action.Wait (owner.Try n round) kind) l may links h = h
 shaped_kept b (action.Start m k owner.Setup count len) l may links h = mine_keeps IsShaped (m == l) (b.link l) (begins (message_of b m owner.Setup))
@@ -165,6 +174,10 @@ shaped_kept b (action.Start m k owner.Auth count len) l may links h = mine_keeps
     (λ t.
     let due : renewal_due (b.link l) ≡ Some may.credentials = subst (λ j. renewal_due (b.link j) ≡ Some may.credentials) (eq_from m l t) may.due in
     begins_shaped (b.link l) (message_of b m owner.Auth) refl (up_is_asked b l links (renewal_is_up (b.link l) may.credentials due)) (set_is_given (b.link l) (renewal_is_set (b.link l) may.credentials h due)) h) h
+shaped_kept b (action.Start m k owner.Resub count len) l may links h = mine_keeps IsShaped (m == l) (b.link l) (begins (message_of b m owner.Resub))
+    (λ t.
+    let due : again_due (b.link l) ≡ true = subst (λ j. again_due (b.link j) ≡ true) (eq_from m l t) may.due in
+    begins_shaped (b.link l) (message_of b m owner.Resub) refl (up_is_asked b l links (again_is_up (b.link l) due)) (set_is_given (b.link l) (again_is_set (b.link l) due)) h) h
 shaped_kept b (action.Start m k owner.Monitor count len) l may links h = mine_keeps IsShaped (m == l) (b.link l) (begins (message_of b m owner.Monitor))
     (λ t.
     let due : monitor_due (b.link l) ≡ true = subst (λ j. monitor_due (b.link j) ≡ true) (eq_from m l t) may.due in

@@ -1,6 +1,7 @@
 -- What every link hears of a shutdown.
-use Rattle.std.proofs.Common.{◌≡◌, ℕ, ◌-◌, ◌==◌, Bool, true, false, ◌&&◌, ◌||◌, not, Option, Some, None, is_some, if◌then◌else◌, refl, sym, ◌∙◌, ap}
-use Rattle.containers.proofs.Choices.{not_both, chosen}
+use Rattle.std.proofs.Common.{◌≡◌, ℕ, ◌-◌, ◌==◌, nat_lt, Bool, true, false, ◌&&◌, ◌||◌, not, Option, Some, None, is_some, is_none, if◌then◌else◌, refl, sym, ◌∙◌, ap}
+use Rattle.std.proofs.lemmas.Bool.{not-true}
+use Rattle.containers.proofs.Choices.{by_test, chosen, taken_if, lt_from, not_lt_from, not_both, both_right}
 use Rattle.redis_error.specs.declared.redis_error.RedisError.{RedisError}
 use Rattle.driver_model.specs.declared.action.Action.{Action}
 use Rattle.driver_model.specs.declared.action.Action.TheVariants as action
@@ -9,12 +10,13 @@ use Rattle.driver_model.specs.declared.action.Owner.TheVariants as owner
 use Rattle.driver_model.specs.declared.event.EventKind.{EventKind}
 use Rattle.driver_model.specs.declared.event.EventKind.TheVariants as event
 use Rattle.driver_model.specs.News.{News, shut, news_of}
-use Rattle.legal_trace.specs.Ledger.{Ledger, End, Ending, by_shutdown, hears, begins, offers, ends, noted, is_set_up, setup_result, error_in, ending, ending_up, ending_by, ending_unready, ending_alive, ending_asked, sources, times}
-use Rattle.legal_trace.specs.Book.{Book, entered, message_of, shuts, is_renewal_of, current}
-use Rattle.legal_trace.specs.Legal.{MayStand, NoneEnds}
+use Rattle.legal_trace.specs.Ledger.{Ledger, End, Ending, by_shutdown, hears, begins, offers, ends, noted, is_set_up, setup_result, error_in, ending, ending_up, ending_by, ending_unready, ending_alive, ending_asked, sources}
+use Rattle.legal_trace.specs.Book.{Book, entered, has_generations, message_of, shuts}
+use Rattle.legal_trace.specs.Legal.{MayStand, NoneEnds, current_link, link_due}
+use Rattle.legal_trace.proofs.Clocks.{timer_tells}
 use Rattle.legal_trace.proofs.Ledgers.{mine_keeps, hears_past}
 use Rattle.legal_trace.proofs.Plain.{not_none}
-use Rattle.legal_laws.proofs.Opens.{IsOpening}
+use Rattle.legal_laws.proofs.Opens.{IsOpening, due_has_no_link}
 use Rattle.legal_laws.proofs.Pushed.{push_keeps, tell_keeps}
 
 -- a link that was asked for and has not ended was told of the shutdown by the turn that runs
@@ -80,28 +82,43 @@ turn_heard b turn (event.Ended m) none h = λ s l. still_none b turn (news_of b.
 turn_heard b turn (event.ReadFault m kind) none h = λ s l. still_none b turn (news_of b.timers b.sources l (event.ReadFault m kind)) l none h s
 turn_heard b turn (event.WriteFault m kind) none h = λ s l. still_none b turn (news_of b.timers b.sources l (event.WriteFault m kind)) l none h s
 
+-- where a link is to be asked for, nothing was shut down
+pub connect_is_open : (b : Book) → IsOpening b → link_due b ≡ true → b.shut ≡ false
+connect_is_open b opening due = by_test (has_generations b) (b.shut ≡ false)
+    (λ has. let all = sym (taken_if (has_generations b) (nat_lt 0 b.generation && (not (current_link b).asked && (is_none b.rest && not b.shut))) (b.links == 0) has) ∙ due in
+    not-true b.shut (both_right (is_none b.rest) (not b.shut) (both_right (not (current_link b).asked) (is_none b.rest && not b.shut) (both_right (nat_lt 0 b.generation) (not (current_link b).asked && (is_none b.rest && not b.shut)) all))))
+    (λ plain. let none : b.links ≡ 0 = due_has_no_link b due plain in
+    by_test (nat_lt 1 b.turns) (b.shut ≡ false)
+    (λ later. absurd (opening.asked (lt_from 1 b.turns later) plain none))
+    (λ early. opening.not_shut (not_lt_from 1 b.turns early)))
+
 -- it stays so
 pub shut_kept : (b : Book) (a : Action) → MayStand b a → IsOpening b → ShutIsHeard b.shut b.link → ShutIsHeard (entered b a).shut (entered b a).link
 shut_kept b (action.Turn k (cause.Opening config word)) may opening h = h
-shut_kept b (action.Turn k (cause.Event e)) may opening h = turn_heard b k e.kind may.is_for.1.written.moved.begun.applied.ended h
-shut_kept b (action.Connect m host port) may opening h = λ s. absurd (not_both b.shut (opening.not_shut may.first) s)
-shut_kept b (action.Timer t ms what) may opening h = λ s l. mine_keeps HearsShut (is_renewal_of l what) (b.link l) times (λ t. h s l) (h s l)
+shut_kept b (action.Turn k (cause.Event e)) may opening h = turn_heard b k e.kind may.is_for.1.written.moved.begun.applied.shown.ended h
+shut_kept b (action.Connect m host port) may opening h = λ s. absurd (not_both b.shut (connect_is_open b opening may.due) s)
+shut_kept b (action.Timer t ms what) may opening h = λ s l. timer_tells HearsShut (b.link l) l what (λ on k is t. h s l) (λ on is t. h s l) (h s l)
 shut_kept b (action.Took owner.Setup l count) may opening h = absurd may
 shut_kept b (action.Took owner.Auth l count) may opening h = absurd may
+shut_kept b (action.Took owner.Resub l count) may opening h = absurd may
 shut_kept b (action.Took owner.Monitor l count) may opening h = absurd may
 shut_kept b (action.Took (owner.Try n round) l count) may opening h = h
 shut_kept b (action.Push m info) may opening h = λ s l. push_keeps HearsShut (m == l) info.kind (b.link l) (h s l) (h s l) (h s l)
-shut_kept b (action.Message msg) may opening h = λ s l. tell_keeps HearsShut (current b == l) (b.link l) (h s l) (h s l)
-shut_kept b (action.Monitor v) may opening h = λ s l. tell_keeps HearsShut (current b == l) (b.link l) (h s l) (h s l)
+shut_kept b (action.Message msg) may opening h = λ s l. tell_keeps HearsShut (b.current == l) (b.link l) (h s l) (h s l)
+shut_kept b (action.Monitor v) may opening h = λ s l. tell_keeps HearsShut (b.current == l) (b.link l) (h s l) (h s l)
 shut_kept b (action.NeedCreds c m) may opening h = λ s l. mine_keeps HearsShut (m == l) (b.link l) sources (λ t. h s l) (h s l)
+shut_kept b (action.Generation g) may opening h = h
+shut_kept b (action.Round who m) may opening h = h
 shut_kept b (action.Close m) may opening h = λ s l. mine_keeps HearsShut (m == l) (b.link l) (ends (b.turns - 1)) (λ t a e. cc) (h s l)
 shut_kept b (action.Write m bytes) may opening h = λ s l. mine_keeps HearsShut (m == l) (b.link l) (offers bytes) (λ t. h s l) (h s l)
 shut_kept b (action.Wait owner.Setup kind) may opening h = absurd may
 shut_kept b (action.Wait owner.Auth kind) may opening h = absurd may
+shut_kept b (action.Wait owner.Resub kind) may opening h = absurd may
 shut_kept b (action.Wait owner.Monitor kind) may opening h = absurd may
 shut_kept b (action.Wait (owner.Try n round) kind) may opening h = h
 shut_kept b (action.Start m k owner.Setup count len) may opening h = λ s l. mine_keeps HearsShut (m == l) (b.link l) (begins (message_of b m owner.Setup)) (λ t. h s l) (h s l)
 shut_kept b (action.Start m k owner.Auth count len) may opening h = λ s l. mine_keeps HearsShut (m == l) (b.link l) (begins (message_of b m owner.Auth)) (λ t. h s l) (h s l)
+shut_kept b (action.Start m k owner.Resub count len) may opening h = λ s l. mine_keeps HearsShut (m == l) (b.link l) (begins (message_of b m owner.Resub)) (λ t. h s l) (h s l)
 shut_kept b (action.Start m k owner.Monitor count len) may opening h = λ s l. mine_keeps HearsShut (m == l) (b.link l) (begins (message_of b m owner.Monitor)) (λ t. h s l) (h s l)
 shut_kept b (action.Start m k (owner.Try n round) count len) may opening h = λ s l. mine_keeps HearsShut (m == l) (b.link l) (begins (message_of b m (owner.Try n round))) (λ t. h s l) (h s l)
 shut_kept b (action.Created e) may opening h = h

@@ -1,5 +1,5 @@
 -- What holds of the book at each place of a legal trace.
-use Rattle.std.proofs.Common.{ℕ, List, [], ◌∷◌, refl, arith}
+use Rattle.std.proofs.Common.{inl, ℕ, List, [], ◌∷◌, refl, arith}
 use Rattle.driver_model.specs.declared.action.Action.{Action}
 use Rattle.legal_trace.specs.Book.{Book, blank_book, book, entered, entered_each, lines_of}
 use Rattle.legal_trace.specs.Legal.{MayStand, AllStand}
@@ -9,11 +9,15 @@ use Rattle.legal_laws.proofs.Numbers.{HasLinks, links_kept, HasStories, stories_
 use Rattle.legal_laws.proofs.Tales.{AnsweredOnce, once_kept, TriesAreStarted, starts_kept}
 use Rattle.legal_laws.proofs.Shutdown.{ShutIsHeard, shut_kept}
 use Rattle.legal_laws.proofs.Shaped.{IsShaped, shaped_kept}
-use Rattle.legal_laws.proofs.Told.{NoticesWait, waits_kept, GoToOne, goes_kept}
+use Rattle.legal_laws.proofs.Told.{NoticesWait, waits_kept}
+use Rattle.legal_laws.proofs.Lives.{Lives, lives_kept, Goes}
+use Rattle.legal_laws.proofs.Goes.{goes_kept}
+use Rattle.legal_laws.proofs.Repeats.{Repeats, repeats_kept}
 
 -- how it opens, and that until the first event nothing happens to links; the numbers of links and submissions; that links which are up have not ended, and are not dealt too many
 -- items; what submissions were answered, and which messages they started; what links hear of a shutdown, that setups take what they are to, and that nothing
--- starts on a link that lacks credentials; that a link of which something waits to be told is up, where it is heard, and that submissions go to one link
+-- starts on a link that lacks credentials; that a link of which something waits to be told is up, where it is heard; that one link is
+-- current, to which submissions go that are open; and what is subscribed again
 pub record Sound (b : Book) : Type 0 where
   pub opens : IsOpening b
   pub still : StillAtFirst b.turns b.link
@@ -26,7 +30,9 @@ pub record Sound (b : Book) : Type 0 where
   pub shut : ShutIsHeard b.shut b.link
   pub shaped : (l : ℕ) → IsShaped (b.link l)
   pub waits : NoticesWait b
-  pub goes : GoToOne b
+  pub lives : Lives b
+  pub goes : Goes b
+  pub repeats : Repeats b
 
 -- each action that may stand keeps it
 pub stays_sound : (b : Book) (a : Action) → MayStand b a → Sound b → Sound (entered b a)
@@ -42,7 +48,9 @@ stays_sound b a may h = record {
   shut = shut_kept b a may h.opens h.shut;
   shaped = λ l. shaped_kept b a l may h.links (h.shaped l);
   waits = waits_kept b a may h.still h.waits;
-  goes = goes_kept b a h.opens.one_link h.goes;
+  lives = lives_kept b a may h.opens h.links h.up h.goes h.lives;
+  goes = goes_kept b a may h.links h.stories h.lives h.goes;
+  repeats = repeats_kept b a may h.opens h.links h.stories h.goes h.repeats;
 }
 
 -- the blank book has it
@@ -50,12 +58,11 @@ pub blank_is_sound : Sound blank_book
 blank_is_sound = record {
   opens = record {
     no_links = λ e. refl;
-    not_running = λ e. refl;
-    first = λ config word e. absurd (cc e);
-    no_submissions = λ e. refl;
+    no_config = λ e. refl;
     none_yet = λ i. refl;
-    not_shut = λ e. refl;
-    one_link = omega arith;
+    not_shut = λ i. refl;
+    asked = λ i. absurd (omega (arith, i));
+    one_link = λ plain. omega arith;
   };
   still = λ i l. record { down = refl; lives = refl; untold = refl; mute = refl };
   links = record { asked = λ l i. absurd (omega arith); unasked = λ l i. (refl, refl, refl) };
@@ -67,7 +74,16 @@ blank_is_sound = record {
   shut = λ s l. absurd (cc s);
   shaped = λ l. record { none = λ e. refl; are = λ k s i. absurd (omega (arith, i)); bare = λ lacks. refl; ready = λ some. absurd (cc some); second = λ none. refl; came = λ none. refl };
   waits = λ l heard. absurd (cc heard);
-  goes = λ n. refl;
+  lives = record {
+    near = inl refl;
+    aside = λ l apart. record { down = refl; still = refl; parted = λ heard cut. absurd (cc cut); shown = λ e fails. absurd (cc fails) };
+    first = λ has none. refl;
+    failed = λ f. absurd (cc f);
+    errors = λ some. absurd (cc some);
+    lazy = λ i. absurd (omega (arith, i));
+  };
+  goes = λ n. record { open_on = λ o. refl; open_in = λ o. absurd (cc o); tries_on = λ t last. absurd (cc last); late_on = λ late. absurd (cc late); behind = omega arith };
+  repeats = record { unasked = λ l e. refl; tried = λ n l k o. absurd (cc o); holds = λ unserved. absurd (cc unserved) };
 }
 
 -- and so do many

@@ -4,8 +4,8 @@ use Rattle.std.proofs.lemmas.List.{append-nil, take-append-drop}
 use Rattle.std.proofs.Math.Seq.{drop-append_seam}
 use Rattle.containers.proofs.Choices.{chosen}
 use Rattle.redis_error.specs.declared.redis_error.RedisError.TheVariants as error
-use Rattle.driver_model.specs.News.{News, silence, connected, refused, overdue, took, came, failed, dropped, shut, authorized, denied, deserted, renewed, unrenewed, late}
-use Rattle.legal_trace.specs.Ledger.{Ledger, Line, asks, hears, begins, offers, tells, ends, parts, blank_ledger, noted, noted_each, with_news, refused_in, bytes_came, is_over, dials, joined, stream, MayNote, AllNoted, LinkLegal, sources, awaits_credentials, authorized_by, times, may_renew, renewed_by, unrenewed_by, is_renewal_open, lost_by}
+use Rattle.driver_model.specs.News.{News, silence, connected, refused, overdue, took, came, failed, dropped, shut, authorized, denied, deserted, renewed, unrenewed, late, unrepeated}
+use Rattle.legal_trace.specs.Ledger.{Ledger, Line, asks, hears, begins, offers, tells, ends, parts, blank_ledger, noted, noted_each, with_news, refused_in, bytes_came, is_over, dials, joined, stream, MayNote, AllNoted, LinkLegal, sources, awaits_credentials, authorized_by, times, may_renew, renewed_by, unrenewed_by, is_renewal_open, lost_by, is_repeating, unrepeated_by, repeats_timed}
 use Rattle.legal_trace.proofs.Ledgers.{joined_more}
 use Rattle.legal_trace.proofs.Came.{holds_bytes}
 use Rattle.legal_laws.specs.Links.{IsPrefix, TakesInOrder}
@@ -50,12 +50,13 @@ hears_in_order l turn deserted h = h
 hears_in_order l turn (renewed c) h = chosen InOrder (may_renew l) (renewed_by l c) l (λ t. h) (λ e. h)
 hears_in_order l turn unrenewed h = chosen InOrder l.up (unrenewed_by l) l (λ t. h) (λ e. h)
 hears_in_order l turn (late k) h = chosen InOrder (l.up && is_renewal_open l k) (lost_by l) l (λ t. h) (λ e. h)
+hears_in_order l turn unrepeated h = chosen InOrder (is_repeating l) (unrepeated_by l) l (λ t. h) (λ e. h)
 hears_in_order l turn dropped h = h
 hears_in_order l turn shut h = h
 
 -- so does a line that may stand
 noted_in_order : (l : Ledger) (x : Line) → MayNote l x → InOrder l → InOrder (noted l x)
-noted_in_order l (asks info wanted hearing) may h = h
+noted_in_order l (asks info wanted hearing last again) may h = h
 noted_in_order l (hears turn news) may h = hears_in_order l turn news h
 noted_in_order l (begins s) may h = subst (IsPrefix (stream l)) (sym (joined_more l.starts s)) (prefix_more (stream l) (joined l.starts) s.bytes h)
 noted_in_order l (offers bytes) may h = subst (λ x. IsPrefix (l.taken ++ x) (joined l.starts)) (sym may.2) (prefix_offered l.taken l.offer (joined l.starts) h)
@@ -63,6 +64,7 @@ noted_in_order l tells may h = h
 noted_in_order l (ends turn) may h = h
 noted_in_order l sources may h = h
 noted_in_order l times may h = h
+noted_in_order l repeats_timed may h = h
 noted_in_order l parts may h = h
 
 -- so do many

@@ -19,7 +19,7 @@ use Rattle.driver_model.specs.Config.{hearing_of}
 use Rattle.driver_model.specs.Hearing.{hears_something, hears_pushes, hears_messages, is_watching, push_told}
 use Rattle.driver_model.specs.Push.{is_disconnection}
 use Rattle.legal_trace.specs.Ledger.{Ledger, Heard}
-use Rattle.legal_trace.specs.Book.{Book, blank_book, book, current, hearing_in}
+use Rattle.legal_trace.specs.Book.{Book, blank_book, book, hearing_in}
 use Rattle.legal_trace.specs.Legal.{MayNotify, MayPushBy, AllStand, Legal}
 use Rattle.legal_trace.proofs.Plain.{same_some}
 use Rattle.legal_laws.specs.Notices.{said_by, notices_told, IsPush, IsMessage, IsReport, TellsNotices}
@@ -94,7 +94,7 @@ push_later true = omega arith
 
 -- so a turn began before it, and before whatever else is told
 tell_began : (b : Book) (l : ℕ) (n : Notice) → Sound b → MayNotify b l n → b.turns ≢ 0
-tell_began b l n s may = step_of b 0 3 (omega arith) (notice_reached b l n may s)
+tell_began b l n s may = step_of b 0 2 (omega arith) (notice_reached b l n may s)
 
 push_began : (b : Book) (l : ℕ) (info : PushInfo) (disconnects : Bool) → Sound b → MayPushBy disconnects b l info → b.turns ≢ 0
 push_began b l info disconnects s may = step_of b 0 (push_rank disconnects) (push_later disconnects) (push_reached b l info disconnects may s)
@@ -112,16 +112,16 @@ message_is_heard : (config : Config) (word : ℕ) (events : List Event) (front m
 message_is_heard config word events front more (action.Message msg) h is =
     let ready = ready_behind config word events front (action.Message msg ∷ more) h in
     let may = next_may config word events front more (action.Message msg) h in
-    sym (ap (λ c. hears_messages (hearing_in c)) (ready.configured (tell_began (book front) (current (book front)) (notice.Message msg) ready.sound may)))
-    ∙ told_suits front (current (book front)) (notice.Message msg) (front_stands config word events front (action.Message msg ∷ more) h) may
+    sym (ap (λ c. hears_messages (hearing_in c)) (ready.configured (tell_began (book front) (book front).current (notice.Message msg) ready.sound may)))
+    ∙ told_suits front (book front).current (notice.Message msg) (front_stands config word events front (action.Message msg ∷ more) h) may
 message_is_heard config word events front more _ h is = absurd is
 
 report_is_heard : (config : Config) (word : ℕ) (events : List Event) (front more : List Action) (a : Action) → Legal config word events (front ++ a ∷ more) → IsReport a → is_watching (hearing_of config) ≡ true
 report_is_heard config word events front more (action.Monitor v) h is =
     let ready = ready_behind config word events front (action.Monitor v ∷ more) h in
     let may = next_may config word events front more (action.Monitor v) h in
-    sym (ap (λ c. is_watching (hearing_in c)) (ready.configured (tell_began (book front) (current (book front)) (notice.Monitor v) ready.sound may)))
-    ∙ told_suits front (current (book front)) (notice.Monitor v) (front_stands config word events front (action.Monitor v ∷ more) h) may
+    sym (ap (λ c. is_watching (hearing_in c)) (ready.configured (tell_began (book front) (book front).current (notice.Monitor v) ready.sound may)))
+    ∙ told_suits front (book front).current (notice.Monitor v) (front_stands config word events front (action.Monitor v ∷ more) h) may
 report_is_heard config word events front more _ h is = absurd is
 
 -- so nothing is told that nobody hears, and all that somebody does

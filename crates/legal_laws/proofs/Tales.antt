@@ -1,5 +1,5 @@
 -- What each submission of a legal trace was answered, and which messages it started.
-use Rattle.std.proofs.Common.{◌≡◌, ◌≢◌, ◌⊎◌, inl, inr, ℕ, ◌+◌, ◌≤◌, ◌==◌, Bool, true, false, List, [], ◌∷◌, ◌++◌, length, Option, Some, None, if◌then◌else◌, refl, sym, ◌∙◌, subst, ap, arith, length-append}
+use Rattle.std.proofs.Common.{◌≡◌, ◌≢◌, ◌⊎◌, inl, inr, ℕ, ◌+◌, ◌≤◌, ◌==◌, Bool, true, false, ◌&&◌, not, List, [], ◌∷◌, ◌++◌, length, Option, Some, None, if◌then◌else◌, refl, sym, ◌∙◌, subst, ap, arith, length-append, max}
 use Rattle.std.specs.Prelude.{slice_get}
 use Rattle.std.proofs.lemmas.List.{nil_from_length}
 use Rattle.std.proofs.lemmas.Bool.Decides.{nat_tests}
@@ -16,11 +16,12 @@ use Rattle.driver_model.specs.declared.event.EventKind.{EventKind}
 use Rattle.driver_model.specs.declared.event.EventKind.TheVariants as event
 use Rattle.driver_model.specs.declared.outcome.Outcome.{Outcome}
 use Rattle.driver_model.specs.declared.outcome.Outcome.TheVariants as outcome
-use Rattle.legal_trace.specs.Ledger.{Ledger, Line, End, begins, noted_each}
-use Rattle.legal_trace.specs.Story.{Story, Try, is_open, is_no_error, handed_in, left, holds, clocked, fires, tried, waits, answered, last_of, bytes_of}
-use Rattle.legal_trace.specs.Owed.{owed, owed_to_try, owed_unstarted, unstarted_error}
-use Rattle.legal_trace.specs.Book.{Book, entered, lines_of, message_of, current, is_clock_of, after_event, is_unspoken}
+use Rattle.legal_trace.specs.Ledger.{Ledger, Line, End, Ending, by_shutdown, by_fault, by_opening, by_attempt, begins, noted_each}
+use Rattle.legal_trace.specs.Story.{Story, Try, is_open, is_no_error, handed_in, left, holds, rounds, fires, tried, waits, answered, last_of, bytes_of}
+use Rattle.legal_trace.specs.Owed.{owed, owed_to_try, owed_by, owed_unstarted, owed_waiting}
+use Rattle.legal_trace.specs.Book.{Book, entered, lines_of, message_of, is_clock_of, after_event, is_unspoken}
 use Rattle.legal_trace.specs.Legal.{MayAnswer, MayTell, MayStand, IsOpen}
+use Rattle.legal_trace.proofs.Clocks.{timer_keeps}
 use Rattle.legal_trace.proofs.Ledgers.{each_keeps, HasStarted, started_keeps}
 use Rattle.legal_laws.proofs.Owes.{has_bytes}
 use Rattle.legal_trace.proofs.Plain.{not_empty, same_some}
@@ -33,21 +34,36 @@ of_fault e (outcome.One v) owes n = cc owes
 of_fault e (outcome.Many vs) owes n = cc owes
 of_fault e outcome.Done owes n = cc owes
 
+-- what an end owes is a fault, if anything
+end_owes_a_fault : (why : Ending) (o : Outcome) → owed_by why ≡ Some o → is_no_error (o ∷ []) ≡ true → ⊥
+end_owes_a_fault by_shutdown o owes n = of_fault error.Closed o owes n
+end_owes_a_fault (by_fault f) o owes n = of_fault error.Closed o owes n
+end_owes_a_fault (by_opening e) o owes n = of_fault e o owes n
+end_owes_a_fault (by_attempt e) o owes n = cc owes
+
+-- so what is owed where a link has ended
+over_owes_a_fault : (end : Option End) (o : Outcome) → owed_unstarted end ≡ Some o → is_no_error (o ∷ []) ≡ true → ⊥
+over_owes_a_fault None o owes n = cc owes
+over_owes_a_fault (Some end) o owes n = end_owes_a_fault end.why o owes n
+
+-- or where everything is shut down
+waiting_owes_a_fault : (shut : Bool) (l : Ledger) (o : Outcome) → owed_waiting shut l ≡ Some o → is_no_error (o ∷ []) ≡ true → ⊥
+waiting_owes_a_fault shut l o = chosen (λ (x : Option Outcome). x ≡ Some o → is_no_error (o ∷ []) ≡ true → ⊥) (shut && not l.asked) (Some (outcome.Fault error.Closed)) (owed_unstarted l.end) (λ t. of_fault error.Closed o) (λ f. over_owes_a_fault l.end o)
+
 -- one that started no message is owed a fault, if anything
-a_fault_only : (late unspoken empty overdue : Bool) (w x y z : RedisError) (end : Option End) (o : Outcome)
-    → (if late then Some (outcome.Fault w) else if unspoken then Some (outcome.Fault x) else if empty then Some (outcome.Fault y) else if overdue then Some (outcome.Fault z) else owed_unstarted end) ≡ Some o
+a_fault_only : (late unspoken empty overdue : Bool) (w x y z : RedisError) (shut : Bool) (l : Ledger) (o : Outcome)
+    → (if late then Some (outcome.Fault w) else if unspoken then Some (outcome.Fault x) else if empty then Some (outcome.Fault y) else if overdue then Some (outcome.Fault z) else owed_waiting shut l) ≡ Some o
     → is_no_error (o ∷ []) ≡ true → ⊥
-a_fault_only true unspoken empty overdue w x y z end o owes n = of_fault w o owes n
-a_fault_only false true empty overdue w x y z end o owes n = of_fault x o owes n
-a_fault_only false false true overdue w x y z end o owes n = of_fault y o owes n
-a_fault_only false false false true w x y z end o owes n = of_fault z o owes n
-a_fault_only false false false false w x y z None o owes n = cc owes
-a_fault_only false false false false w x y z (Some end) o owes n = of_fault (unstarted_error end.why) o owes n
+a_fault_only true unspoken empty overdue w x y z shut l o owes n = of_fault w o owes n
+a_fault_only false true empty overdue w x y z shut l o owes n = of_fault x o owes n
+a_fault_only false false true overdue w x y z shut l o owes n = of_fault y o owes n
+a_fault_only false false false true w x y z shut l o owes n = of_fault z o owes n
+a_fault_only false false false false w x y z shut l o owes n = waiting_owes_a_fault shut l o owes n
 
 -- so what it is owed is an error
 pub unstarted_gets_a_fault : (b : Book) (n : ℕ) (o : Outcome) → (b.story n).tries ≡ [] → owed b n ≡ Some o → is_no_error (o ∷ []) ≡ true → ⊥
 unstarted_gets_a_fault b n o none owes =
-    a_fault_only (b.story n).late (b.story n).unspoken (length (bytes_of (b.story n)) == 0) (b.story n).overdue error.Closed error.Resp3Required error.EmptyCommand (error.Io kind.TimedOut) (b.link (b.story n).link).end o
+    a_fault_only (b.story n).late (b.story n).unspoken (length (bytes_of (b.story n)) == 0) (b.story n).overdue error.Closed error.Resp3Required error.EmptyCommand (error.Io kind.TimedOut) b.shut (b.link (b.story n).link) o
     (subst (λ (ts : List Try). (if (b.story n).late then Some (outcome.Fault error.Closed) else if (b.story n).unspoken then Some (outcome.Fault error.Resp3Required) else if length (bytes_of (b.story n)) == 0 then Some (outcome.Fault error.EmptyCommand)
     else if (b.story n).overdue then Some (outcome.Fault (error.Io kind.TimedOut)) else owed_to_try b (b.story n) (last_of ts)) ≡ Some o) none owes)
 
@@ -78,12 +94,12 @@ first_outcome b n o asked bytes =
 -- so with each outcome that may stand
 outcome_once : (b : Book) (n : ℕ) (o : Outcome) → MayAnswer b n o ⊎ MayTell b n o → AnsweredOnce (answered (b.story n) o)
 outcome_once b n o (inl owes) = first_outcome b n o owes.asked (λ t e. absurd (unstarted_gets_a_fault b n o t owes.owes e))
-outcome_once b n o (inr told) = first_outcome b n o told.asked (λ t e. has_bytes b (b.story n) (told.begun.applied.answered n told.asked))
+outcome_once b n o (inr told) = first_outcome b n o told.asked (λ t e. has_bytes b (b.story n) (told.begun.applied.shown.answered n told.asked))
 
 -- events answer none
 event_once : (b : Book) (n : ℕ) (kind : EventKind) → HasStories b → AnsweredOnce (b.story n) → AnsweredOnce (after_event b n kind)
 event_once b n (event.Submit what) blank h =
-    chosen AnsweredOnce (b.submissions == n) (handed_in (b.story n) what b.shut (is_unspoken b what) (current b) b.timeout) (b.story n)
+    chosen AnsweredOnce (b.submissions == n) (handed_in (b.story n) what b.shut (is_unspoken b what) (max 1 b.generation) b.current b.timeout) (b.story n)
     (λ t. let e : b.submissions ≡ n = eq_from b.submissions n t in unanswered (b.story n).outcomes (b.story n).tries (packed_bytes what) (ap (λ (s : Story). s.outcomes) (blank n (omega arith))))
     (λ f. h)
 event_once b n (event.Cancel m) blank h = chosen AnsweredOnce (m == n) (left (b.story n)) (b.story n) (λ t. chosen AnsweredOnce (is_open (b.story n)) (record (b.story n) { cancelled = true; permits = 0; waiting = None }) (b.story n) (λ o. h) (λ o. h)) (λ f. h)
@@ -111,23 +127,32 @@ pub once_kept : (b : Book) (a : Action) → MayStand b a → HasStories b → (n
 once_kept b (action.Turn k (cause.Opening config word)) may blank n h = h
 once_kept b (action.Turn k (cause.Event e)) may blank n h = event_once b n e.kind blank h
 once_kept b (action.Connect l host port) may blank n h = h
-once_kept b (action.Timer t ms what) may blank n h = chosen AnsweredOnce (is_clock_of n (Some what)) (clocked (b.story n) t) (b.story n) (λ e. h) (λ f. h)
+once_kept b (action.Timer t ms what) may blank n h = timer_keeps AnsweredOnce b n t what (λ e o. h) (λ e. h) h
 once_kept b (action.Took owner.Setup l count) may blank n h = absurd may
 once_kept b (action.Took owner.Auth l count) may blank n h = absurd may
+once_kept b (action.Took owner.Resub l count) may blank n h = absurd may
 once_kept b (action.Took owner.Monitor l count) may blank n h = absurd may
 once_kept b (action.Took (owner.Try m round) l count) may blank n h = chosen AnsweredOnce (m == n) (holds (b.story n) count) (b.story n) (λ t. h) (λ f. h)
 once_kept b (action.Push l info) may blank n h = h
 once_kept b (action.Message msg) may blank n h = h
 once_kept b (action.Monitor v) may blank n h = h
 once_kept b (action.NeedCreds c l) may blank n h = h
+once_kept b (action.Generation g) may blank n h = h
+once_kept b (action.Round owner.Setup on) may blank n h = absurd may
+once_kept b (action.Round owner.Auth on) may blank n h = absurd may
+once_kept b (action.Round owner.Resub on) may blank n h = absurd may
+once_kept b (action.Round owner.Monitor on) may blank n h = absurd may
+once_kept b (action.Round (owner.Try m round) on) may blank n h = chosen AnsweredOnce (m == n) (rounds (b.story n)) (b.story n) (λ t. h) (λ f. h)
 once_kept b (action.Close l) may blank n h = h
 once_kept b (action.Write l bytes) may blank n h = h
 once_kept b (action.Wait owner.Setup kind) may blank n h = absurd may
 once_kept b (action.Wait owner.Auth kind) may blank n h = absurd may
+once_kept b (action.Wait owner.Resub kind) may blank n h = absurd may
 once_kept b (action.Wait owner.Monitor kind) may blank n h = absurd may
 once_kept b (action.Wait (owner.Try m round) kind) may blank n h = chosen AnsweredOnce (m == n) (waits (b.story n) kind) (b.story n) (λ t. h) (λ f. h)
 once_kept b (action.Start l k owner.Setup count len) may blank n h = h
 once_kept b (action.Start l k owner.Auth count len) may blank n h = h
+once_kept b (action.Start l k owner.Resub count len) may blank n h = h
 once_kept b (action.Start l k owner.Monitor count len) may blank n h = h
 once_kept b (action.Start l k (owner.Try m round) count len) may blank n h = chosen AnsweredOnce (m == n) (tried (b.story n) l k) (b.story n) (λ t. started_once (b.story n) l k h) (λ f. h)
 once_kept b (action.Created e) may blank n h = h
@@ -160,7 +185,7 @@ starts_next b l k n count len round next t e =
 
 -- events start none
 event_tries : (b : Book) (n : ℕ) (kind : EventKind) (link : ℕ → Ledger) → TriesAreStarted link (b.story n) → TriesAreStarted link (after_event b n kind)
-event_tries b n (event.Submit what) link h = chosen (TriesAreStarted link) (b.submissions == n) (handed_in (b.story n) what b.shut (is_unspoken b what) (current b) b.timeout) (b.story n) (λ t. h) (λ f. h)
+event_tries b n (event.Submit what) link h = chosen (TriesAreStarted link) (b.submissions == n) (handed_in (b.story n) what b.shut (is_unspoken b what) (max 1 b.generation) b.current b.timeout) (b.story n) (λ t. h) (λ f. h)
 event_tries b n (event.Cancel m) link h = chosen (TriesAreStarted link) (m == n) (left (b.story n)) (b.story n) (λ t. chosen (TriesAreStarted link) (is_open (b.story n)) (record (b.story n) { cancelled = true; permits = 0; waiting = None }) (b.story n) (λ o. h) (λ o. h)) (λ f. h)
 event_tries b n (event.Connected l) link h = h
 event_tries b n (event.Refused l f) link h = h
@@ -182,23 +207,32 @@ tries_kept : (b : Book) (a : Action) → MayStand b a → (n : ℕ) → TriesAre
 tries_kept b (action.Turn k (cause.Opening config word)) may n h = h
 tries_kept b (action.Turn k (cause.Event e)) may n h = event_tries b n e.kind (entered b (action.Turn k (cause.Event e))).link h
 tries_kept b (action.Connect l host port) may n h = h
-tries_kept b (action.Timer t ms what) may n h = chosen (TriesAreStarted (entered b (action.Timer t ms what)).link) (is_clock_of n (Some what)) (clocked (b.story n) t) (b.story n) (λ e. h) (λ f. h)
+tries_kept b (action.Timer t ms what) may n h = timer_keeps (TriesAreStarted (entered b (action.Timer t ms what)).link) b n t what (λ e o. h) (λ e. h) h
 tries_kept b (action.Took owner.Setup l count) may n h = absurd may
 tries_kept b (action.Took owner.Auth l count) may n h = absurd may
+tries_kept b (action.Took owner.Resub l count) may n h = absurd may
 tries_kept b (action.Took owner.Monitor l count) may n h = absurd may
 tries_kept b (action.Took (owner.Try m round) l count) may n h = chosen (TriesAreStarted (entered b (action.Took (owner.Try m round) l count)).link) (m == n) (holds (b.story n) count) (b.story n) (λ t. h) (λ f. h)
 tries_kept b (action.Push l info) may n h = h
 tries_kept b (action.Message msg) may n h = h
 tries_kept b (action.Monitor v) may n h = h
 tries_kept b (action.NeedCreds c l) may n h = h
+tries_kept b (action.Generation g) may n h = h
+tries_kept b (action.Round owner.Setup on) may n h = absurd may
+tries_kept b (action.Round owner.Auth on) may n h = absurd may
+tries_kept b (action.Round owner.Resub on) may n h = absurd may
+tries_kept b (action.Round owner.Monitor on) may n h = absurd may
+tries_kept b (action.Round (owner.Try m round) on) may n h = chosen (TriesAreStarted (entered b (action.Round (owner.Try m round) on)).link) (m == n) (rounds (b.story n)) (b.story n) (λ t. h) (λ f. h)
 tries_kept b (action.Close l) may n h = h
 tries_kept b (action.Write l bytes) may n h = h
 tries_kept b (action.Wait owner.Setup kind) may n h = absurd may
 tries_kept b (action.Wait owner.Auth kind) may n h = absurd may
+tries_kept b (action.Wait owner.Resub kind) may n h = absurd may
 tries_kept b (action.Wait owner.Monitor kind) may n h = absurd may
 tries_kept b (action.Wait (owner.Try m round) kind) may n h = chosen (TriesAreStarted (entered b (action.Wait (owner.Try m round) kind)).link) (m == n) (waits (b.story n) kind) (b.story n) (λ t. h) (λ f. h)
 tries_kept b (action.Start l k owner.Setup count len) may n h = h
 tries_kept b (action.Start l k owner.Auth count len) may n h = h
+tries_kept b (action.Start l k owner.Resub count len) may n h = h
 tries_kept b (action.Start l k owner.Monitor count len) may n h = h
 tries_kept b (action.Start l k (owner.Try m round) count len) may n h =
     chosen (TriesAreStarted (entered b (action.Start l k (owner.Try m round) count len)).link) (m == n) (tried (b.story n) l k) (b.story n)

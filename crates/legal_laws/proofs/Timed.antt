@@ -11,11 +11,13 @@ use Rattle.driver_model.specs.declared.action.Purpose.{Purpose}
 use Rattle.driver_model.specs.declared.action.Purpose.TheVariants as purpose
 use Rattle.driver_model.specs.declared.config.Config.{Config}
 use Rattle.driver_model.specs.declared.event.Event.{Event}
-use Rattle.driver_model.specs.News.{News, silence, connected, refused, overdue, took, came, failed, authorized, denied, deserted, renewed, unrenewed, late, dropped, shut, news_of}
-use Rattle.legal_trace.specs.Ledger.{Ledger, asks, hears, begins, offers, sources, times, ends, noted, noted_each, with_news, refused_in, bytes_came, is_over, dials, awaits_credentials, authorized_by, may_renew, renewed_by, unrenewed_by, is_renewal_open, lost_by, renewal_count, renewal_due, renewals_asked}
-use Rattle.legal_trace.specs.Book.{Book, blank_book, book, entered, if_mine, info_in, wanted_in, message_of, is_renewal_of, hearing_in, current}
+use Rattle.driver_model.specs.News.{News, silence, connected, refused, overdue, took, came, failed, authorized, denied, deserted, renewed, unrenewed, late, unrepeated, dropped, shut, news_of}
+use Rattle.legal_trace.specs.Ledger.{Ledger, asks, hears, begins, offers, sources, times, ends, noted, noted_each, with_news, refused_in, bytes_came, is_over, dials, awaits_credentials, authorized_by, may_renew, renewed_by, unrenewed_by, is_renewal_open, lost_by, renewal_count, renewal_due, renewals_asked, is_repeating, unrepeated_by, repeats_timed}
+use Rattle.legal_trace.specs.Managers.{settings_in, is_last}
+use Rattle.legal_trace.specs.Book.{is_of_connect, is_rest, Book, blank_book, book, entered, if_mine, info_in, wanted_in, message_of, hearing_in}
 use Rattle.legal_trace.specs.Steps.{renewals_in_line}
 use Rattle.legal_trace.specs.Legal.{MayStand, MayTimer, MayTimeRenewal, AllStand, IsApplied, answer_time, Legal}
+use Rattle.legal_trace.specs.Again.{repeats_in}
 use Rattle.legal_trace.proofs.Books.{Grows, book_more, of_each_front, stand_front}
 use Rattle.legal_trace.proofs.Ledgers.{mine_keeps}
 use Rattle.legal_trace.proofs.Renewals.{renewal_is_up}
@@ -51,6 +53,7 @@ news_timers count l turn deserted h = h
 news_timers count l turn (renewed c) h = chosen (HasTimers count) (may_renew l) (renewed_by l c) l (λ t. same_timers count l (renewed_by l c) refl refl h) (λ f. h)
 news_timers count l turn unrenewed h = chosen (HasTimers count) l.up (unrenewed_by l) l (λ t. same_timers count l (unrenewed_by l) refl refl h) (λ f. h)
 news_timers count l turn (late k) h = chosen (HasTimers count) (l.up && is_renewal_open l k) (lost_by l) l (λ t. same_timers count l (lost_by l) refl refl h) (λ f. h)
+news_timers count l turn unrepeated h = chosen (HasTimers count) (is_repeating l) (unrepeated_by l) l (λ t. same_timers count l (unrepeated_by l) refl refl h) (λ f. h)
 news_timers count l turn dropped h = h
 news_timers count l turn shut h = h
 
@@ -64,19 +67,29 @@ no_more count l h = subst (λ n. HasTimers n l) (let e : count ≡ count + 0 = o
 
 -- a timer that may be asked for, for new credentials
 renewal_of : (b : Book) (t ms l k : ℕ) → MayTimer b t ms (purpose.Renewal l k) → MayTimeRenewal b t ms (purpose.Renewal l k)
-renewal_of b t ms l k (inl may) = absurd (let x : false ≡ true = ap is_connect may.is_for in cc x)
-  where
-    is_connect : Purpose → Bool
-    is_connect (purpose.Connect m) = true
-    is_connect (purpose.Response who) = false
-    is_connect (purpose.Renewal m j) = false
+renewal_of b t ms l k (inl (inl may)) = absurd (let x : false ≡ true = ap is_of_connect may.is_for in cc x)
+renewal_of b t ms l k (inl (inr may)) = absurd (let x : false ≡ true = ap is_rest may.is_for in cc x)
 renewal_of b t ms l k (inr (inl may)) = absurd (let x : false ≡ true = ap is_response may.is_for in cc x)
   where
     is_response : Purpose → Bool
     is_response (purpose.Connect m) = false
     is_response (purpose.Response who) = true
     is_response (purpose.Renewal m j) = false
-renewal_of b t ms l k (inr (inr may)) = may
+    is_response (purpose.Backoff g) = false
+    is_response (purpose.Resubscription m) = false
+renewal_of b t ms l k (inr (inr (inl may))) = may
+renewal_of b t ms l k (inr (inr (inr may))) = absurd (let x : false ≡ true = ap is_repeat may.is_for in cc x)
+  where
+    is_repeat : Purpose → Bool
+    is_repeat (purpose.Connect m) = false
+    is_repeat (purpose.Response who) = false
+    is_repeat (purpose.Renewal m j) = false
+    is_repeat (purpose.Backoff g) = false
+    is_repeat (purpose.Resubscription m) = true
+
+-- of two that are one, the links are
+same_link : (l m k j : ℕ) → purpose.Renewal l k ≡ purpose.Renewal m j → l ≡ m
+same_link l m k j e = cc e
 
 -- it is of the next that have none
 renewal_number : (b : Book) (t ms l k : ℕ) → MayTimer b t ms (purpose.Renewal l k) → (answer_time b.config ≡ Some ms) × (k ≡ (b.link l).creds.timed)
@@ -85,9 +98,6 @@ renewal_number b t ms l k timer =
     let on : l ≡ may.l = same_link l may.l k (b.link may.l).creds.timed may.is_for in
     (may.within, same_number l may.l k (b.link may.l).creds.timed may.is_for ∙ ap (λ j. (b.link j).creds.timed) (sym on))
   where
-    same_link : (l m k j : ℕ) → purpose.Renewal l k ≡ purpose.Renewal m j → l ≡ m
-    same_link l m k j e = cc e
-
     same_number : (l m k j : ℕ) → purpose.Renewal l k ≡ purpose.Renewal m j → k ≡ j
     same_number l m k j e = cc e
 
@@ -116,26 +126,31 @@ timers_kept b (action.Turn k (cause.Event e)) l count may sound h =
     let news : News = news_of b.timers b.sources l e.kind in
     no_more count (noted (b.link l) (hears k news)) (same_timers count (with_news (b.link l) k news) (noted (b.link l) (hears k news)) refl refl (news_timers count (b.link l) k news h))
 timers_kept b (action.Connect m host port) l count may sound h = no_more count _
-    (mine_keeps (HasTimers count) (m == l) (b.link l) (asks (info_in b.config) (wanted_in b.config) (hearing_in b.config))
+    (mine_keeps (HasTimers count) (m == l) (b.link l) (asks (info_in b.config) (wanted_in b.config) (hearing_in b.config) (is_last (settings_in b.config) b.attempt) (repeats_in (settings_in b.config) b.tracked))
     (λ t.
     let same : m ≡ l = eq_from m l t in
     let next : m ≡ b.links = may.next in
-    connect_timers count (b.link l) (noted (b.link l) (asks (info_in b.config) (wanted_in b.config) (hearing_in b.config))) (sound.links.unasked l (omega (arith, same, next))).0 refl h) h)
+    connect_timers count (b.link l) (noted (b.link l) (asks (info_in b.config) (wanted_in b.config) (hearing_in b.config) (is_last (settings_in b.config) b.attempt) (repeats_in (settings_in b.config) b.tracked))) (sound.links.unasked l (omega (arith, same, next))).0 refl h) h)
 timers_kept b (action.Timer t ms (purpose.Connect m)) l count may sound h = no_more count (b.link l) h
 timers_kept b (action.Timer t ms (purpose.Response who)) l count may sound h = no_more count (b.link l) h
+timers_kept b (action.Timer t ms (purpose.Backoff g)) l count may sound h = no_more count (b.link l) h
+timers_kept b (action.Timer t ms (purpose.Resubscription m)) l count may sound h = no_more count _
+    (mine_keeps (HasTimers count) (m == l) (b.link l) repeats_timed (λ t. same_timers count (b.link l) (noted (b.link l) repeats_timed) refl refl h) h)
 timers_kept b (action.Timer t ms (purpose.Renewal m k)) l count may sound h = one_more (m == l) count (b.link l)
     (λ e.
     let its : MayTimeRenewal b t ms (purpose.Renewal m k) = renewal_of b t ms m k may in
-    let on : its.l ≡ l = eq_from its.l l (sym (ap (is_renewal_of l) its.is_for) ∙ e) in
+    let on : its.l ≡ l = sym (same_link m its.l k (b.link its.l).creds.timed its.is_for) ∙ eq_from m l e in
     asked_timers b l sound (subst (λ j. (b.link j).creds.timed < renewals_asked (b.link j)) on its.asked)) h
 timers_kept b (action.Took who m n) l count may sound h = no_more count (b.link l) h
 timers_kept b (action.Push m info) l count may sound h = no_more count _
     (push_keeps (HasTimers count) (m == l) info.kind (b.link l) (same_timers count (b.link l) _ refl refl h) (same_timers count (b.link l) _ refl refl h) h)
 timers_kept b (action.Message msg) l count may sound h = no_more count _
-    (tell_keeps (HasTimers count) (current b == l) (b.link l) (same_timers count (b.link l) _ refl refl h) h)
+    (tell_keeps (HasTimers count) (b.current == l) (b.link l) (same_timers count (b.link l) _ refl refl h) h)
 timers_kept b (action.Monitor v) l count may sound h = no_more count _
-    (tell_keeps (HasTimers count) (current b == l) (b.link l) (same_timers count (b.link l) _ refl refl h) h)
+    (tell_keeps (HasTimers count) (b.current == l) (b.link l) (same_timers count (b.link l) _ refl refl h) h)
 timers_kept b (action.NeedCreds c m) l count may sound h = no_more count _ (mine_keeps (HasTimers count) (m == l) (b.link l) sources (λ t. same_timers count (b.link l) (noted (b.link l) sources) refl refl h) h)
+timers_kept b (action.Generation g) l count may sound h = no_more count (b.link l) h
+timers_kept b (action.Round who m) l count may sound h = no_more count (b.link l) h
 timers_kept b (action.Close m) l count may sound h = no_more count _
     (mine_keeps (HasTimers count) (m == l) (b.link l) (ends (b.turns - 1)) (λ t. same_timers count (b.link l) (noted (b.link l) (ends (b.turns - 1))) refl refl h) h)
 timers_kept b (action.Write m bytes) l count may sound h = no_more count _ (mine_keeps (HasTimers count) (m == l) (b.link l) (offers bytes) (λ t. same_timers count (b.link l) (noted (b.link l) (offers bytes)) refl refl h) h)

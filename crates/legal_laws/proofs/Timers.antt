@@ -1,5 +1,5 @@
 -- The timers of submissions: one at most for each, of the time that was in force where it was handed in, once it holds its permits.
-use Rattle.std.proofs.Common.{◌≡◌, ◌⊎◌, inl, inr, ℕ, ◌<◌, ◌≤◌, ◌==◌, Bool, true, false, List, [], ◌∷◌, ◌++◌, Option, Some, None, is_some, refl, sym, ◌∙◌, ap, subst, arith}
+use Rattle.std.proofs.Common.{◌≡◌, ◌⊎◌, inl, inr, ℕ, ◌<◌, ◌≤◌, ◌==◌, Bool, true, false, List, [], ◌∷◌, ◌++◌, Option, Some, None, is_some, refl, sym, ◌∙◌, ap, subst, arith, max}
 use Rattle.std.specs.Prelude.{slice_get}
 use Rattle.containers.proofs.Choices.{chosen, if_true, left_if, eq_test, ne_test, lt_from}
 use Rattle.driver_model.specs.declared.action.Action.{Action}
@@ -13,9 +13,10 @@ use Rattle.driver_model.specs.declared.event.Event.{Event}
 use Rattle.driver_model.specs.declared.event.EventKind.{EventKind}
 use Rattle.driver_model.specs.declared.event.EventKind.TheVariants as event
 use Rattle.driver_model.specs.declared.event.Submission.{Submission}
-use Rattle.legal_trace.specs.Story.{Story, is_open, handed_in, left, holds, clocked, fires, tried, waits, answered}
-use Rattle.legal_trace.specs.Book.{Book, blank_book, book, entered, entered_each, current, is_clock_of, after_event, is_unspoken}
+use Rattle.legal_trace.specs.Story.{Story, is_open, handed_in, left, holds, clocked, rounds, fires, tried, waits, answered}
+use Rattle.legal_trace.specs.Book.{is_of_connect, is_rest, Book, blank_book, book, entered, entered_each, is_clock_of, after_event, is_unspoken}
 use Rattle.legal_trace.specs.Steps.{permits_in}
+use Rattle.legal_trace.proofs.Clocks.{timer_keeps}
 use Rattle.legal_trace.specs.Legal.{MayTimer, MayTime, MayStand, AllStand, Legal}
 use Rattle.legal_trace.proofs.Books.{stand_behind}
 use Rattle.legal_laws.specs.Permits.{IsAsking, AsksTimers}
@@ -24,20 +25,20 @@ use Rattle.legal_laws.proofs.InLine.{submissions_grow}
 use Rattle.legal_trace.proofs.Moves.{holds_some, asks_mean}
 use Rattle.driver_model.specs.Config.{permits}
 
+-- a timer is for new credentials of a link, or for what is subscribed again there
+abbrev is_of_link : Purpose → Bool
+is_of_link (purpose.Connect l) = false
+is_of_link (purpose.Response who) = false
+is_of_link (purpose.Renewal l k) = true
+is_of_link (purpose.Backoff g) = false
+is_of_link (purpose.Resubscription l) = true
+
 -- of a timer of submission n that may be asked for
 ask_of : (b : Book) (t ms n round : ℕ) → MayTimer b t ms (purpose.Response (owner.Try n round)) → (may : MayTime b t ms (purpose.Response (owner.Try n round))) × (may.n ≡ n)
-ask_of b t ms n round (inl may) = absurd (let x : false ≡ true = ap is_response may.is_for in cc x)
-  where
-    is_response : Purpose → Bool
-    is_response (purpose.Connect l) = true
-    is_response (purpose.Response who) = false
-    is_response (purpose.Renewal l k) = true
-ask_of b t ms n round (inr (inr may)) = absurd (let x : false ≡ true = ap is_renewal may.is_for in cc x)
-  where
-    is_renewal : Purpose → Bool
-    is_renewal (purpose.Connect l) = false
-    is_renewal (purpose.Response who) = false
-    is_renewal (purpose.Renewal l k) = true
+ask_of b t ms n round (inl (inl may)) = absurd (let x : false ≡ true = ap is_of_connect may.is_for in cc x)
+ask_of b t ms n round (inl (inr may)) = absurd (let x : false ≡ true = ap is_rest may.is_for in cc x)
+ask_of b t ms n round (inr (inr (inl may))) = absurd (let x : false ≡ true = ap is_of_link may.is_for in cc x)
+ask_of b t ms n round (inr (inr (inr may))) = absurd (let x : false ≡ true = ap is_of_link may.is_for in cc x)
 ask_of b t ms n round (inr (inl may)) = (may, same_owner may.n n round may.is_for)
   where
     same_owner : (m n round : ℕ) → purpose.Response (owner.Try n round) ≡ purpose.Response (owner.Try m 0) → m ≡ n
@@ -55,7 +56,7 @@ Clocked s = is_some s.clock ≡ true
 
 -- so it does with an event
 event_clocked : (b : Book) (n : ℕ) (kind : EventKind) → Clocked (b.story n) → Clocked (after_event b n kind)
-event_clocked b n (event.Submit what) h = chosen Clocked (b.submissions == n) (handed_in (b.story n) what b.shut (is_unspoken b what) (current b) b.timeout) (b.story n) (λ t. h) (λ f. h)
+event_clocked b n (event.Submit what) h = chosen Clocked (b.submissions == n) (handed_in (b.story n) what b.shut (is_unspoken b what) (max 1 b.generation) b.current b.timeout) (b.story n) (λ t. h) (λ f. h)
 event_clocked b n (event.Cancel m) h = chosen Clocked (m == n) (left (b.story n)) (b.story n) (λ t. chosen Clocked (is_open (b.story n)) (record (b.story n) { cancelled = true; permits = 0; waiting = None }) (b.story n) (λ o. h) (λ o. h)) (λ f. h)
 event_clocked b n (event.Fired t) h = chosen Clocked (is_clock_of n (slice_get b.timers t)) (fires (b.story n)) (b.story n) (λ e. chosen Clocked (is_open (b.story n)) (record (b.story n) { overdue = true }) (b.story n) (λ o. h) (λ o. h)) (λ f. h)
 event_clocked b n (event.Connected l) h = h
@@ -77,23 +78,32 @@ clock_stays : (b : Book) (a : Action) (n : ℕ) → Clocked (b.story n) → Cloc
 clock_stays b (action.Turn k (cause.Opening config word)) n h = h
 clock_stays b (action.Turn k (cause.Event e)) n h = event_clocked b n e.kind h
 clock_stays b (action.Connect m host port) n h = h
-clock_stays b (action.Timer t ms what) n h = chosen Clocked (is_clock_of n (Some what)) (clocked (b.story n) t) (b.story n) (λ e. refl) (λ f. h)
+clock_stays b (action.Timer t ms what) n h = timer_keeps Clocked b n t what (λ e o. h) (λ e. refl) h
 clock_stays b (action.Took owner.Setup l count) n h = h
 clock_stays b (action.Took owner.Auth l count) n h = h
+clock_stays b (action.Took owner.Resub l count) n h = h
 clock_stays b (action.Took owner.Monitor l count) n h = h
 clock_stays b (action.Took (owner.Try m round) l count) n h = chosen Clocked (m == n) (holds (b.story n) count) (b.story n) (λ e. h) (λ f. h)
 clock_stays b (action.Push m info) n h = h
 clock_stays b (action.Message msg) n h = h
 clock_stays b (action.Monitor v) n h = h
 clock_stays b (action.NeedCreds c m) n h = h
+clock_stays b (action.Generation g) n h = h
+clock_stays b (action.Round owner.Setup on) n h = h
+clock_stays b (action.Round owner.Auth on) n h = h
+clock_stays b (action.Round owner.Resub on) n h = h
+clock_stays b (action.Round owner.Monitor on) n h = h
+clock_stays b (action.Round (owner.Try m round) on) n h = chosen Clocked (m == n) (rounds (b.story n)) (b.story n) (λ e. h) (λ f. h)
 clock_stays b (action.Close m) n h = h
 clock_stays b (action.Write m bytes) n h = h
 clock_stays b (action.Wait owner.Setup kind) n h = h
 clock_stays b (action.Wait owner.Auth kind) n h = h
+clock_stays b (action.Wait owner.Resub kind) n h = h
 clock_stays b (action.Wait owner.Monitor kind) n h = h
 clock_stays b (action.Wait (owner.Try m round) kind) n h = chosen Clocked (m == n) (waits (b.story n) kind) (b.story n) (λ e. h) (λ f. h)
 clock_stays b (action.Start l k owner.Setup count len) n h = h
 clock_stays b (action.Start l k owner.Auth count len) n h = h
+clock_stays b (action.Start l k owner.Resub count len) n h = h
 clock_stays b (action.Start l k owner.Monitor count len) n h = h
 clock_stays b (action.Start l k (owner.Try m round) count len) n h = chosen Clocked (m == n) (tried (b.story n) l k) (b.story n) (λ e. h) (λ f. h)
 clock_stays b (action.Created e) n h = h
@@ -125,7 +135,7 @@ once_behind b middle more a c n all first second =
 
 -- a submission keeps the time within which it is to be answered
 event_timeout : (b : Book) (n : ℕ) (kind : EventKind) → n < b.submissions → (after_event b n kind).timeout ≡ (b.story n).timeout
-event_timeout b n (event.Submit what) i = ap (λ (s : Story). s.timeout) (left_if (b.submissions == n) (handed_in (b.story n) what b.shut (is_unspoken b what) (current b) b.timeout) (b.story n) (ne_test b.submissions n (omega arith)))
+event_timeout b n (event.Submit what) i = ap (λ (s : Story). s.timeout) (left_if (b.submissions == n) (handed_in (b.story n) what b.shut (is_unspoken b what) (max 1 b.generation) b.current b.timeout) (b.story n) (ne_test b.submissions n (omega arith)))
 event_timeout b n (event.Cancel m) i = chosen (λ (s : Story). s.timeout ≡ (b.story n).timeout) (m == n) (left (b.story n)) (b.story n)
     (λ t. chosen (λ (s : Story). s.timeout ≡ (b.story n).timeout) (is_open (b.story n)) (record (b.story n) { cancelled = true; permits = 0; waiting = None }) (b.story n) (λ o. refl) (λ o. refl)) (λ f. refl)
 event_timeout b n (event.Fired t) i = chosen (λ (s : Story). s.timeout ≡ (b.story n).timeout) (is_clock_of n (slice_get b.timers t)) (fires (b.story n)) (b.story n)
@@ -149,23 +159,32 @@ timeout_stays : (b : Book) (a : Action) (n : ℕ) → n < b.submissions → ((en
 timeout_stays b (action.Turn k (cause.Opening config word)) n i = refl
 timeout_stays b (action.Turn k (cause.Event e)) n i = event_timeout b n e.kind i
 timeout_stays b (action.Connect m host port) n i = refl
-timeout_stays b (action.Timer t ms what) n i = chosen (λ (s : Story). s.timeout ≡ (b.story n).timeout) (is_clock_of n (Some what)) (clocked (b.story n) t) (b.story n) (λ e. refl) (λ f. refl)
+timeout_stays b (action.Timer t ms what) n i = timer_keeps (λ (s : Story). s.timeout ≡ (b.story n).timeout) b n t what (λ e o. refl) (λ e. refl) refl
 timeout_stays b (action.Took owner.Setup l count) n i = refl
 timeout_stays b (action.Took owner.Auth l count) n i = refl
+timeout_stays b (action.Took owner.Resub l count) n i = refl
 timeout_stays b (action.Took owner.Monitor l count) n i = refl
 timeout_stays b (action.Took (owner.Try m round) l count) n i = chosen (λ (s : Story). s.timeout ≡ (b.story n).timeout) (m == n) (holds (b.story n) count) (b.story n) (λ e. refl) (λ f. refl)
 timeout_stays b (action.Push m info) n i = refl
 timeout_stays b (action.Message msg) n i = refl
 timeout_stays b (action.Monitor v) n i = refl
 timeout_stays b (action.NeedCreds c m) n i = refl
+timeout_stays b (action.Generation g) n i = refl
+timeout_stays b (action.Round owner.Setup on) n i = refl
+timeout_stays b (action.Round owner.Auth on) n i = refl
+timeout_stays b (action.Round owner.Resub on) n i = refl
+timeout_stays b (action.Round owner.Monitor on) n i = refl
+timeout_stays b (action.Round (owner.Try m round) on) n i = chosen (λ (s : Story). s.timeout ≡ (b.story n).timeout) (m == n) (rounds (b.story n)) (b.story n) (λ e. refl) (λ f. refl)
 timeout_stays b (action.Close m) n i = refl
 timeout_stays b (action.Write m bytes) n i = refl
 timeout_stays b (action.Wait owner.Setup kind) n i = refl
 timeout_stays b (action.Wait owner.Auth kind) n i = refl
+timeout_stays b (action.Wait owner.Resub kind) n i = refl
 timeout_stays b (action.Wait owner.Monitor kind) n i = refl
 timeout_stays b (action.Wait (owner.Try m round) kind) n i = chosen (λ (s : Story). s.timeout ≡ (b.story n).timeout) (m == n) (waits (b.story n) kind) (b.story n) (λ e. refl) (λ f. refl)
 timeout_stays b (action.Start l k owner.Setup count len) n i = refl
 timeout_stays b (action.Start l k owner.Auth count len) n i = refl
+timeout_stays b (action.Start l k owner.Resub count len) n i = refl
 timeout_stays b (action.Start l k owner.Monitor count len) n i = refl
 timeout_stays b (action.Start l k (owner.Try m round) count len) n i = chosen (λ (s : Story). s.timeout ≡ (b.story n).timeout) (m == n) (tried (b.story n) l k) (b.story n) (λ e. refl) (λ f. refl)
 timeout_stays b (action.Created e) n i = refl
@@ -179,7 +198,7 @@ each_timeout b (a ∷ more) n i = let grows : b.submissions ≤ (entered b a).su
 -- what is handed in is to be answered within the time in force
 handed_in_force : (b : Book) (kind : EventKind) (s : Submission) → kind ≡ event.Submit s → (after_event b b.submissions kind).timeout ≡ b.timeout
 handed_in_force b kind s e = subst (λ k. (after_event b b.submissions k).timeout ≡ b.timeout) (sym e)
-    (if_true (λ (x : Story). x.timeout ≡ b.timeout) (b.submissions == b.submissions) (handed_in (b.story b.submissions) s b.shut (is_unspoken b s) (current b) b.timeout) (b.story b.submissions) (eq_test b.submissions b.submissions refl) refl)
+    (if_true (λ (x : Story). x.timeout ≡ b.timeout) (b.submissions == b.submissions) (handed_in (b.story b.submissions) s b.shut (is_unspoken b s) (max 1 b.generation) b.current b.timeout) (b.story b.submissions) (eq_test b.submissions b.submissions refl) refl)
 
 -- and numbered
 handed_in_numbered : (b : Book) (k : ℕ) (e : Event) (s : Submission) → e.kind ≡ event.Submit s → b.submissions < (entered b (action.Turn k (cause.Event e))).submissions

@@ -1,5 +1,5 @@
 -- What a push that is told does to ledgers, and where pushes wait that aren't told.
-use Rattle.std.proofs.Common.{◌≡◌, ℕ, zero, suc, ◌+◌, ◌≤◌, ◌==◌, ◌-◌, Bool, true, false, ◌&&◌, List, [], ◌∷◌, ◌++◌, take, Option, Some, None, is_some, if◌then◌else◌, refl, ap, subst, arith}
+use Rattle.std.proofs.Common.{◌≡◌, ℕ, zero, suc, ◌+◌, ◌==◌, ◌-◌, Bool, true, false, ◌&&◌, List, [], ◌∷◌, ◌++◌, take, Option, Some, None, is_some, if◌then◌else◌, refl, ap, subst, arith}
 use Rattle.std.specs.Prelude.{slice_get}
 use Rattle.containers.proofs.Choices.{chosen}
 use Rattle.redis_error.specs.declared.redis_error.RedisError.TheVariants as error
@@ -9,13 +9,13 @@ use Rattle.driver_model.specs.declared.action.Action.{Action}
 use Rattle.driver_model.specs.declared.action.Action.TheVariants as action
 use Rattle.driver_model.specs.declared.action.Cause.TheVariants as cause
 use Rattle.driver_model.specs.declared.action.Owner.TheVariants as owner
-use Rattle.driver_model.specs.declared.event.EventKind.{EventKind}
-use Rattle.driver_model.specs.declared.event.EventKind.TheVariants as event
-use Rattle.driver_model.specs.News.{News, silence, connected, refused, overdue, took, came, failed, dropped, shut, news_of, authorized, denied, deserted, renewed, unrenewed, late}
-use Rattle.legal_trace.specs.Ledger.{Ledger, Heard, asks, begins, offers, tells, ends, parts, noted, with_news, refused_in, bytes_came, is_over, dials, next_notice, MayNote, sources, awaits_credentials, authorized_by, times, may_renew, renewed_by, unrenewed_by, is_renewal_open, lost_by}
-use Rattle.legal_trace.specs.Story.{Story, is_open, handed_in, left, holds, clocked, fires, tried, waits, answered}
-use Rattle.legal_trace.specs.Book.{Book, entered, push_line, info_in, message_of, current, is_clock_of, after_event, is_unspoken, wanted_in, is_renewal_of, hearing_in}
+use Rattle.driver_model.specs.News.{News, silence, connected, refused, overdue, took, came, failed, dropped, shut, news_of, authorized, denied, deserted, renewed, unrenewed, late, unrepeated}
+use Rattle.legal_trace.specs.Ledger.{Ledger, Heard, asks, begins, offers, tells, ends, parts, noted, with_news, refused_in, bytes_came, is_over, dials, next_notice, MayNote, sources, awaits_credentials, authorized_by, may_renew, renewed_by, unrenewed_by, is_renewal_open, lost_by, is_repeating, unrepeated_by}
+use Rattle.legal_trace.specs.Managers.{settings_in, is_last}
+use Rattle.legal_trace.specs.Book.{Book, entered, push_line, info_in, message_of, wanted_in, hearing_in}
 use Rattle.legal_trace.specs.Legal.{MayStand, MayPush, MayPushBy, is_heard}
+use Rattle.legal_trace.specs.Again.{repeats_in}
+use Rattle.legal_trace.proofs.Clocks.{timer_tells}
 use Rattle.legal_trace.proofs.Ledgers.{mine_keeps}
 use Rattle.legal_trace.proofs.Plain.{not_none}
 use Rattle.legal_trace.proofs.Came.{holds_bytes}
@@ -60,6 +60,7 @@ waits_hears l turn deserted h = h
 waits_hears l turn (renewed c) h = chosen Waits (may_renew l) (renewed_by l c) l (λ t. h) (λ e. h)
 waits_hears l turn unrenewed h = chosen Waits l.up (unrenewed_by l) l (λ t. h) (λ e. h)
 waits_hears l turn (late k) h = chosen Waits (l.up && is_renewal_open l k) (lost_by l) l (λ t. h) (λ e. h)
+waits_hears l turn unrepeated h = chosen Waits (is_repeating l) (unrepeated_by l) l (λ t. h) (λ e. h)
 waits_hears l turn dropped h = h
 waits_hears l turn shut h = h
 
@@ -77,79 +78,30 @@ waits_kept b (action.Turn k (cause.Opening config word)) may still h = λ l hear
     let none : b.turns ≡ 0 = may.is_for in
     absurd (not_none (next_notice (b.link l)) p (ap (λ (hs : List Heard). slice_get hs (b.link l).told) (still (omega (arith, none)) l).mute) next)
 waits_kept b (action.Turn k (cause.Event e)) may still h = λ l heard. waits_hears (b.link l) k (news_of b.timers b.sources l e.kind) (h l heard)
-waits_kept b (action.Connect m host port) may still h = λ l heard. mine_keeps Waits (m == l) (b.link l) (asks (info_in b.config) (wanted_in b.config) (hearing_in b.config)) (λ t. h l heard) (h l heard)
-waits_kept b (action.Timer t ms what) may still h = λ l heard. mine_keeps Waits (is_renewal_of l what) (b.link l) times (λ t. h l heard) (h l heard)
+waits_kept b (action.Connect m host port) may still h = λ l heard. mine_keeps Waits (m == l) (b.link l) (asks (info_in b.config) (wanted_in b.config) (hearing_in b.config) (is_last (settings_in b.config) b.attempt) (repeats_in (settings_in b.config) b.tracked)) (λ t. h l heard) (h l heard)
+waits_kept b (action.Timer t ms what) may still h = λ l heard. timer_tells Waits (b.link l) l what (λ on k is t. h l heard) (λ on is t. h l heard) (h l heard)
 waits_kept b (action.Took owner.Setup m count) may still h = absurd may
 waits_kept b (action.Took owner.Auth m count) may still h = absurd may
+waits_kept b (action.Took owner.Resub m count) may still h = absurd may
 waits_kept b (action.Took owner.Monitor m count) may still h = absurd may
 waits_kept b (action.Took (owner.Try n round) m count) may still h = h
 waits_kept b (action.Push m info) may still h = λ l heard. push_keeps Waits (m == l) info.kind (b.link l) (waits_tells (b.link l) (h l heard)) (h l heard) (h l heard)
-waits_kept b (action.Message msg) may still h = λ l heard. tell_keeps Waits (current b == l) (b.link l) (waits_tells (b.link l) (h l heard)) (h l heard)
-waits_kept b (action.Monitor v) may still h = λ l heard. tell_keeps Waits (current b == l) (b.link l) (waits_tells (b.link l) (h l heard)) (h l heard)
+waits_kept b (action.Message msg) may still h = λ l heard. tell_keeps Waits (b.current == l) (b.link l) (waits_tells (b.link l) (h l heard)) (h l heard)
+waits_kept b (action.Monitor v) may still h = λ l heard. tell_keeps Waits (b.current == l) (b.link l) (waits_tells (b.link l) (h l heard)) (h l heard)
 waits_kept b (action.NeedCreds c m) may still h = λ l heard. mine_keeps Waits (m == l) (b.link l) sources (λ t. h l heard) (h l heard)
+waits_kept b (action.Generation g) may still h = h
+waits_kept b (action.Round who m) may still h = h
 waits_kept b (action.Close m) may still h = λ l heard. mine_keeps Waits (m == l) (b.link l) (ends (b.turns - 1)) (λ t p next. absurd (not_none (next_notice (b.link l)) p (may.pushed l heard) next)) (h l heard)
 waits_kept b (action.Write m bytes) may still h = λ l heard. mine_keeps Waits (m == l) (b.link l) (offers bytes) (λ t. h l heard) (h l heard)
 waits_kept b (action.Wait owner.Setup kind) may still h = absurd may
 waits_kept b (action.Wait owner.Auth kind) may still h = absurd may
+waits_kept b (action.Wait owner.Resub kind) may still h = absurd may
 waits_kept b (action.Wait owner.Monitor kind) may still h = absurd may
 waits_kept b (action.Wait (owner.Try n round) kind) may still h = h
 waits_kept b (action.Start m k owner.Setup count len) may still h = λ l heard. mine_keeps Waits (m == l) (b.link l) (begins (message_of b m owner.Setup)) (λ t. h l heard) (h l heard)
 waits_kept b (action.Start m k owner.Auth count len) may still h = λ l heard. mine_keeps Waits (m == l) (b.link l) (begins (message_of b m owner.Auth)) (λ t. h l heard) (h l heard)
+waits_kept b (action.Start m k owner.Resub count len) may still h = λ l heard. mine_keeps Waits (m == l) (b.link l) (begins (message_of b m owner.Resub)) (λ t. h l heard) (h l heard)
 waits_kept b (action.Start m k owner.Monitor count len) may still h = λ l heard. mine_keeps Waits (m == l) (b.link l) (begins (message_of b m owner.Monitor)) (λ t. h l heard) (h l heard)
 waits_kept b (action.Start m k (owner.Try n round) count len) may still h = λ l heard. mine_keeps Waits (m == l) (b.link l) (begins (message_of b m (owner.Try n round))) (λ t. h l heard) (h l heard)
 waits_kept b (action.Created e) may still h = h
 waits_kept b (action.Outcome n o) may still h = h
-
--- each submission goes to the only link
-abbrev pub GoToOne : Book → Type 0
-GoToOne b = (n : ℕ) → (b.story n).link ≡ 0
-
--- it goes to that link
-abbrev OnFirst : Story → Type 0
-OnFirst s = s.link ≡ 0
-
--- so it does behind an event
-event_goes : (b : Book) (n : ℕ) (kind : EventKind) → b.links ≤ 1 → OnFirst (b.story n) → OnFirst (after_event b n kind)
-event_goes b n (event.Submit what) one h = chosen OnFirst (b.submissions == n) (handed_in (b.story n) what b.shut (is_unspoken b what) (current b) b.timeout) (b.story n) (λ t. omega (arith, one)) (λ f. h)
-event_goes b n (event.Cancel m) one h = chosen OnFirst (m == n) (left (b.story n)) (b.story n) (λ t. chosen OnFirst (is_open (b.story n)) (record (b.story n) { cancelled = true; permits = 0; waiting = None }) (b.story n) (λ o. h) (λ o. h)) (λ f. h)
-event_goes b n (event.Fired t) one h = chosen OnFirst (is_clock_of n (slice_get b.timers t)) (fires (b.story n)) (b.story n) (λ e. chosen OnFirst (is_open (b.story n)) (record (b.story n) { overdue = true }) (b.story n) (λ o. h) (λ o. h)) (λ f. h)
-event_goes b n (event.Connected l) one h = h
-event_goes b n (event.Refused l f) one h = h
-event_goes b n (event.Wrote l count) one h = h
-event_goes b n (event.Bytes l piece) one h = h
-event_goes b n (event.Ended l) one h = h
-event_goes b n (event.ReadFault l kind) one h = h
-event_goes b n (event.WriteFault l kind) one h = h
-event_goes b n (event.Timeout ms) one h = h
-event_goes b n (event.Creds c auth) one h = h
-event_goes b n (event.CredsError c text) one h = h
-event_goes b n (event.CredsEnd c) one h = h
-event_goes b n event.DropStream one h = h
-event_goes b n event.Shutdown one h = h
-
--- and behind each action
-pub goes_kept : (b : Book) (a : Action) → b.links ≤ 1 → GoToOne b → GoToOne (entered b a)
-goes_kept b (action.Turn k (cause.Opening config word)) one h n = h n
-goes_kept b (action.Turn k (cause.Event e)) one h n = event_goes b n e.kind one (h n)
-goes_kept b (action.Connect m host port) one h n = h n
-goes_kept b (action.Timer t ms what) one h n = chosen OnFirst (is_clock_of n (Some what)) (clocked (b.story n) t) (b.story n) (λ e. h n) (λ f. h n)
-goes_kept b (action.Took owner.Setup m count) one h n = h n
-goes_kept b (action.Took owner.Auth m count) one h n = h n
-goes_kept b (action.Took owner.Monitor m count) one h n = h n
-goes_kept b (action.Took (owner.Try i round) m count) one h n = chosen OnFirst (i == n) (holds (b.story n) count) (b.story n) (λ e. h n) (λ f. h n)
-goes_kept b (action.Push m info) one h n = h n
-goes_kept b (action.Message msg) one h n = h n
-goes_kept b (action.Monitor v) one h n = h n
-goes_kept b (action.NeedCreds c m) one h n = h n
-goes_kept b (action.Close m) one h n = h n
-goes_kept b (action.Write m bytes) one h n = h n
-goes_kept b (action.Wait owner.Setup kind) one h n = h n
-goes_kept b (action.Wait owner.Auth kind) one h n = h n
-goes_kept b (action.Wait owner.Monitor kind) one h n = h n
-goes_kept b (action.Wait (owner.Try i round) kind) one h n = chosen OnFirst (i == n) (waits (b.story n) kind) (b.story n) (λ e. h n) (λ f. h n)
-goes_kept b (action.Start m k owner.Setup count len) one h n = h n
-goes_kept b (action.Start m k owner.Auth count len) one h n = h n
-goes_kept b (action.Start m k owner.Monitor count len) one h n = h n
-goes_kept b (action.Start m k (owner.Try i round) count len) one h n = chosen OnFirst (i == n) (tried (b.story n) m k) (b.story n) (λ e. h n) (λ f. h n)
-goes_kept b (action.Created e) one h n = h n
-goes_kept b (action.Outcome i o) one h n = chosen OnFirst (i == n) (answered (b.story n) o) (b.story n) (λ e. h n) (λ f. h n)

@@ -9,10 +9,13 @@ use Rattle.driver_model.specs.declared.action.Action.{Action}
 use Rattle.driver_model.specs.declared.action.Action.TheVariants as action
 use Rattle.driver_model.specs.declared.action.Cause.TheVariants as cause
 use Rattle.driver_model.specs.declared.hearing.Hearing.{Hearing}
-use Rattle.driver_model.specs.News.{News, silence, connected, refused, overdue, took, came, failed, dropped, shut, news_of, authorized, denied, deserted, renewed, unrenewed, late}
-use Rattle.legal_trace.specs.Ledger.{Ledger, asks, hears, begins, offers, ends, sources, times, noted, with_news, refused_in, bytes_came, is_over, dials, awaits_credentials, authorized_by, may_renew, renewed_by, unrenewed_by, is_renewal_open, lost_by}
-use Rattle.legal_trace.specs.Book.{Book, blank_book, book, entered, entered_each, current, hearing_in, info_in, message_of, wanted_in, is_renewal_of}
+use Rattle.driver_model.specs.News.{News, silence, connected, refused, overdue, took, came, failed, dropped, shut, news_of, authorized, denied, deserted, renewed, unrenewed, late, unrepeated}
+use Rattle.legal_trace.specs.Ledger.{Ledger, asks, hears, begins, offers, ends, sources, noted, with_news, refused_in, bytes_came, is_over, dials, awaits_credentials, authorized_by, may_renew, renewed_by, unrenewed_by, is_renewal_open, lost_by, is_repeating, unrepeated_by}
+use Rattle.legal_trace.specs.Managers.{settings_in, is_last}
+use Rattle.legal_trace.specs.Book.{Book, blank_book, book, entered, entered_each, hearing_in, info_in, message_of, wanted_in}
 use Rattle.legal_trace.specs.Legal.{MayStand, AllStand}
+use Rattle.legal_trace.specs.Again.{repeats_in}
+use Rattle.legal_trace.proofs.Clocks.{timer_tells}
 use Rattle.legal_trace.proofs.Came.{holds_bytes}
 use Rattle.legal_trace.proofs.Ledgers.{mine_keeps}
 use Rattle.legal_laws.specs.Notices.{said_by}
@@ -68,6 +71,7 @@ news_well wanted l turn deserted vs down h = same_heard wanted l l vs refl refl 
 news_well wanted l turn (renewed c) vs down h = chosen (λ x. HeardWell wanted x (vs ++ [])) (may_renew l) (renewed_by l c) l (λ t. same_heard wanted l _ vs refl refl refl h) (λ e. same_heard wanted l l vs refl refl refl h)
 news_well wanted l turn unrenewed vs down h = chosen (λ x. HeardWell wanted x (vs ++ [])) l.up (unrenewed_by l) l (λ t. same_heard wanted l _ vs refl refl refl h) (λ e. same_heard wanted l l vs refl refl refl h)
 news_well wanted l turn (late k) vs down h = chosen (λ x. HeardWell wanted x (vs ++ [])) (l.up && is_renewal_open l k) (lost_by l) l (λ t. same_heard wanted l _ vs refl refl refl h) (λ e. same_heard wanted l l vs refl refl refl h)
+news_well wanted l turn unrepeated vs down h = chosen (λ x. HeardWell wanted x (vs ++ [])) (is_repeating l) (unrepeated_by l) l (λ t. same_heard wanted l _ vs refl refl refl h) (λ e. same_heard wanted l l vs refl refl refl h)
 news_well wanted l turn dropped vs down h = same_heard wanted l l vs refl refl refl h
 news_well wanted l turn shut vs down h = same_heard wanted l l vs refl refl refl h
 
@@ -76,7 +80,7 @@ hears_well : (wanted : Hearing) (l : Ledger) (turn : ℕ) (news : News) (vs : Li
 hears_well wanted l turn news vs down h = let m = news_well wanted l turn news vs down h in record { says = m.says; hears = m.hears; none = m.none }
 
 -- with the connect of a link that was not asked for
-asks_well : (b : Book) (l : Ledger) (vs : List Data) → l.asked ≡ false → HeardWell (hearing_in b.config) l vs → HeardWell (hearing_in b.config) (noted l (asks (info_in b.config) (wanted_in b.config) (hearing_in b.config))) (vs ++ [])
+asks_well : (b : Book) (l : Ledger) (vs : List Data) → l.asked ≡ false → HeardWell (hearing_in b.config) l vs → HeardWell (hearing_in b.config) (noted l (asks (info_in b.config) (wanted_in b.config) (hearing_in b.config) (is_last (settings_in b.config) b.attempt) (repeats_in (settings_in b.config) b.tracked))) (vs ++ [])
 asks_well b l vs unasked h =
     let nothing : vs ≡ [] = h.none unasked in
     record {
@@ -100,14 +104,16 @@ step_well b l vs (action.Turn k (cause.Opening config word)) may s h =
       none = λ e. append-nil vs ∙ h.none e;
     }
 step_well b l vs (action.Turn k (cause.Event e)) may s h = hears_well (hearing_in b.config) (b.link l) k (news_of b.timers b.sources l e.kind) vs (unasked_is_down b l s.links) h
-step_well b l vs (action.Connect m host port) may s h = mine_keeps (λ x. HeardWell (hearing_in b.config) x (vs ++ [])) (m == l) (b.link l) (asks (info_in b.config) (wanted_in b.config) (hearing_in b.config))
+step_well b l vs (action.Connect m host port) may s h = mine_keeps (λ x. HeardWell (hearing_in b.config) x (vs ++ [])) (m == l) (b.link l) (asks (info_in b.config) (wanted_in b.config) (hearing_in b.config) (is_last (settings_in b.config) b.attempt) (repeats_in (settings_in b.config) b.tracked))
     (λ t. let same : m ≡ l = eq_from m l t in let next : m ≡ b.links = may.next in asks_well b (b.link l) vs (s.links.unasked l (omega (arith, same, next))).0 h) (same_heard (hearing_in b.config) (b.link l) (b.link l) vs refl refl refl h)
-step_well b l vs (action.Timer t ms what) may s h = mine_keeps (λ x. HeardWell (hearing_in b.config) x (vs ++ [])) (is_renewal_of l what) (b.link l) times (λ e. same_heard (hearing_in b.config) (b.link l) _ vs refl refl refl h) (same_heard (hearing_in b.config) (b.link l) (b.link l) vs refl refl refl h)
+step_well b l vs (action.Timer t ms what) may s h = timer_tells (λ x. HeardWell (hearing_in b.config) x (vs ++ [])) (b.link l) l what (λ on k is e. same_heard (hearing_in b.config) (b.link l) _ vs refl refl refl h) (λ on is e. same_heard (hearing_in b.config) (b.link l) _ vs refl refl refl h) (same_heard (hearing_in b.config) (b.link l) (b.link l) vs refl refl refl h)
 step_well b l vs (action.Took who m count) may s h = same_heard (hearing_in b.config) (b.link l) (b.link l) vs refl refl refl h
 step_well b l vs (action.Push m info) may s h = push_keeps (λ x. HeardWell (hearing_in b.config) x (vs ++ [])) (m == l) info.kind (b.link l) (same_heard (hearing_in b.config) (b.link l) _ vs refl refl refl h) (same_heard (hearing_in b.config) (b.link l) _ vs refl refl refl h) (same_heard (hearing_in b.config) (b.link l) (b.link l) vs refl refl refl h)
-step_well b l vs (action.Message msg) may s h = tell_keeps (λ x. HeardWell (hearing_in b.config) x (vs ++ [])) (current b == l) (b.link l) (same_heard (hearing_in b.config) (b.link l) _ vs refl refl refl h) (same_heard (hearing_in b.config) (b.link l) (b.link l) vs refl refl refl h)
-step_well b l vs (action.Monitor v) may s h = tell_keeps (λ x. HeardWell (hearing_in b.config) x (vs ++ [])) (current b == l) (b.link l) (same_heard (hearing_in b.config) (b.link l) _ vs refl refl refl h) (same_heard (hearing_in b.config) (b.link l) (b.link l) vs refl refl refl h)
+step_well b l vs (action.Message msg) may s h = tell_keeps (λ x. HeardWell (hearing_in b.config) x (vs ++ [])) (b.current == l) (b.link l) (same_heard (hearing_in b.config) (b.link l) _ vs refl refl refl h) (same_heard (hearing_in b.config) (b.link l) (b.link l) vs refl refl refl h)
+step_well b l vs (action.Monitor v) may s h = tell_keeps (λ x. HeardWell (hearing_in b.config) x (vs ++ [])) (b.current == l) (b.link l) (same_heard (hearing_in b.config) (b.link l) _ vs refl refl refl h) (same_heard (hearing_in b.config) (b.link l) (b.link l) vs refl refl refl h)
 step_well b l vs (action.NeedCreds c m) may s h = mine_keeps (λ x. HeardWell (hearing_in b.config) x (vs ++ [])) (m == l) (b.link l) sources (λ t. same_heard (hearing_in b.config) (b.link l) _ vs refl refl refl h) (same_heard (hearing_in b.config) (b.link l) (b.link l) vs refl refl refl h)
+step_well b l vs (action.Generation g) may s h = same_heard (hearing_in b.config) (b.link l) (b.link l) vs refl refl refl h
+step_well b l vs (action.Round who m) may s h = same_heard (hearing_in b.config) (b.link l) (b.link l) vs refl refl refl h
 step_well b l vs (action.Close m) may s h = mine_keeps (λ x. HeardWell (hearing_in b.config) x (vs ++ [])) (m == l) (b.link l) (ends (b.turns - 1)) (λ t. same_heard (hearing_in b.config) (b.link l) _ vs refl refl refl h) (same_heard (hearing_in b.config) (b.link l) (b.link l) vs refl refl refl h)
 step_well b l vs (action.Write m bytes) may s h = mine_keeps (λ x. HeardWell (hearing_in b.config) x (vs ++ [])) (m == l) (b.link l) (offers bytes) (λ t. same_heard (hearing_in b.config) (b.link l) _ vs refl refl refl h) (same_heard (hearing_in b.config) (b.link l) (b.link l) vs refl refl refl h)
 step_well b l vs (action.Wait who kind) may s h = same_heard (hearing_in b.config) (b.link l) (b.link l) vs refl refl refl h

@@ -13,4 +13,8 @@ pub mod Values
 pub mod Reports
 pub mod Drops
 pub mod Pushes
+pub mod Generations
+pub mod Rounds
+pub mod Resubscription
+pub mod Late
 pub mod Laws

@@ -13,20 +13,20 @@ use Rattle.driver_model.specs.Hearing.{hears_pushes, hears_messages, is_watching
 use Rattle.driver_model.specs.Push.{is_disconnection}
 use Rattle.legal_trace.specs.Ledger.{Heard, is_full, is_full_by, next_notice}
 use Rattle.legal_trace.specs.Story.{last_of}
-use Rattle.legal_trace.specs.Book.{Book, blank_book, book, current, entered}
+use Rattle.legal_trace.specs.Book.{Book, blank_book, book, entered}
 
 -- an action tells something that came on link l: a push names its link, and all else is of the link that submissions go to
 abbrev pub Tells : Book → ℕ → Action → Type 0
 Tells b l (action.Push m info) = (m ≡ l) × (is_disconnection info.kind ≡ false)
-Tells b l (action.Message m) = current b ≡ l
-Tells b l (action.Monitor v) = current b ≡ l
+Tells b l (action.Message m) = b.current ≡ l
+Tells b l (action.Monitor v) = b.current ≡ l
 Tells b l _ = ⊥
 
 -- what it tells of it
 abbrev pub told_by : Book → ℕ → Action → List Notice
 told_by b l (action.Push m info) = if (m == l) && not (is_disconnection info.kind) then notice.Push info ∷ [] else []
-told_by b l (action.Message m) = if current b == l then notice.Message m ∷ [] else []
-told_by b l (action.Monitor v) = if current b == l then notice.Monitor v ∷ [] else []
+told_by b l (action.Message m) = if b.current == l then notice.Message m ∷ [] else []
+told_by b l (action.Monitor v) = if b.current == l then notice.Monitor v ∷ [] else []
 told_by b l _ = []
 
 -- what actions tell of it, in order, behind what is in a book

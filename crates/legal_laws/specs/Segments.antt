@@ -13,9 +13,10 @@ abbrev pub answers_in : (b : Book) (n : ℕ) (o : Outcome) → MayAnswer b n o �
 answers_in b n o (inl owed) = 1
 answers_in b n o (inr told) = 2
 
--- the timer of the opening belongs to its effect, and one of a submission, or of new credentials, to the passes
+-- the timer of a connect, or of the wait behind an attempt, belongs to the effect, and one of a submission, or of new credentials, to
+-- the passes
 abbrev pub timer_in : (b : Book) (t ms : ℕ) (what : Purpose) → MayTimer b t ms what → ℕ
-timer_in b t ms what (inl opening) = 1
+timer_in b t ms what (inl effect) = 1
 timer_in b t ms what (inr response) = 2
 
 -- the segment of its turn that an action belongs to: the announcement, the effect of the event, the passes, the writes,
@@ -29,6 +30,8 @@ segment b (action.Push l info) may = 1
 segment b (action.Message m) may = 1
 segment b (action.Monitor v) may = 1
 segment b (action.NeedCreds c l) may = 1
+segment b (action.Generation g) may = 1
+segment b (action.Round who l) may = 2
 segment b (action.Close l) may = 1
 segment b (action.Created e) may = 1
 segment b (action.Outcome n o) may = answers_in b n o may

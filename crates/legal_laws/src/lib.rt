@@ -20,6 +20,10 @@ ghost use Rattle.legal_laws.specs.Laws.{EachTellsNotices, EachTellsEnds, EachSta
 ghost use Rattle.legal_laws.specs.Laws.{EachTellsMessages, EachTellsReports, EachEndsDropped};
 ghost use Rattle.legal_laws.specs.Values.{ConfirmationsAreNone};
 ghost use Rattle.legal_laws.specs.Laws.{EachTimesRenewals};
+ghost use Rattle.legal_laws.specs.Generations.{ComesBack};
+ghost use Rattle.legal_laws.specs.Rounds.{KeepsRounds};
+ghost use Rattle.legal_laws.specs.Resubscription.{SubscribesAsItWas};
+ghost use Rattle.legal_laws.specs.Late.{LateIsNothing};
 
 /// Does nothing. Its contract: what a legal trace tells of each link is legal by itself. What the
 /// book of any trace has of a link is what these lines come to.
@@ -76,10 +80,11 @@ pub fn a_turn_has_five_segments()
     ensures { TurnsAreInOrder }
 {}
 
-/// Does nothing. Its contract: a legal trace shows the creation at most once. Where the opening of
-/// a link failed, and only there, it shows that error. With this error alone, and behind the
-/// creation, each submission of that link is answered that has bytes and no message, came before any
-/// shutdown and doesn't need RESP3 where that isn't spoken; and none of these is left open.
+/// Does nothing. Its contract: a legal trace shows the creation at most once. It shows an error only
+/// where the opening of the last link failed with it, and where the session doesn't come back it shows
+/// that of each link whose opening failed. With this error alone, and there behind the creation, each
+/// submission of that link is answered that has bytes and no message, came before any shutdown and
+/// doesn't need RESP3 where that isn't spoken; and none of these is left open.
 pub fn a_failed_opening_is_told()
     ensures { OfEachLegal TellsOfOpening }
 {}
@@ -186,4 +191,39 @@ pub fn a_monitor_tells_all_behind_its_answer()
 /// end gives. Where somebody hears pushes it tells that of each such link.
 pub fn an_end_is_told_once()
     ensures { EachTellsEnds }
+{}
+
+/// Does nothing. Its contract: in a legal trace a generation begins only where the session comes back,
+/// nothing was shut down and the creation didn't fail, with the next number; and where there was one
+/// before, only once there is a cause in this turn, its link has ended and all its submissions are
+/// answered. Its first link is asked for next. Behind each whole turn none is to begin. One link is
+/// current at a time: each other one has ended, and open submissions go to it and are of its
+/// generation. A generation tries once, and as many times more as the configuration says; between, it
+/// waits as long as that and the word of the turn say.
+pub fn a_generation_begins_by_its_causes()
+    ensures { OfEachLegal ComesBack }
+{}
+
+/// Does nothing. Its contract: in a legal trace a round begins only where the session comes back, for
+/// a submission that is open and had none since it goes to its link. It begins on that link, which is
+/// the current one and takes requests, and the generation that was current where the submission was
+/// handed in, or the first, is current then. Where the session comes back, the message of an open
+/// submission starts behind its round.
+pub fn a_round_begins_on_the_link_of_its_generation()
+    ensures { OfEachLegal KeepsRounds }
+{}
+
+/// Does nothing. Its contract: in a legal trace what is subscribed is subscribed again only where the
+/// session comes back so, on the current link, once that is ready. The message subscribes exactly what
+/// is subscribed then, after all calls that were confirmed before, and its link carries those commands.
+/// Where it is to be answered within a time, its timer was asked for. It starts once on a link at most;
+/// and until it is answered, or given up, no message of a submission starts there.
+pub fn what_is_subscribed_is_subscribed_again()
+    ensures { OfEachLegal SubscribesAsItWas }
+{}
+
+/// Does nothing. Its contract: in a legal trace the turn of an event that came of a link which has
+/// ended is announced, and that is all.
+pub fn a_link_that_has_ended_shows_nothing()
+    ensures { OfEachLegal LateIsNothing }
 {}

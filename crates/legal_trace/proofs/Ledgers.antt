@@ -4,11 +4,11 @@ use Rattle.containers.proofs.Choices.{chosen, if_false, ne_from, not_both}
 use Rattle.std.proofs.lemmas.List.{append-nil, length-take, take-append-le}
 use Rattle.resp_value.specs.Data.{Data}
 use Rattle.redis_error.specs.declared.redis_error.RedisError.TheVariants as error
-use Rattle.driver_model.specs.News.{News, silence, connected, refused, overdue, took, came, failed, authorized, denied, deserted, renewed, unrenewed, late, dropped, shut}
+use Rattle.driver_model.specs.News.{News, silence, connected, refused, overdue, took, came, failed, authorized, denied, deserted, renewed, unrenewed, late, unrepeated, dropped, shut}
 use Rattle.driver_model.specs.declared.outcome.Shape.{Shape}
 use Rattle.driver_model.specs.declared.outcome.Shape.TheVariants.{Single, Pipeline, Confirmation}
 use Rattle.driver_model.specs.Shape.{need_of}
-use Rattle.legal_trace.specs.Ledger.{Ledger, Line, Start, asks, hears, begins, offers, tells, sources, times, ends, parts, noted, noted_each, with_news, refused_in, bytes_came, value_came, items_came, awaits_credentials, authorized_by, may_renew, renewed_by, unrenewed_by, is_renewal_open, lost_by, is_over, dials, reach, joined, reached, AllNoted}
+use Rattle.legal_trace.specs.Ledger.{Ledger, Line, Start, asks, hears, begins, offers, tells, sources, times, repeats_timed, ends, parts, noted, noted_each, with_news, refused_in, bytes_came, value_came, items_came, awaits_credentials, authorized_by, may_renew, renewed_by, unrenewed_by, is_renewal_open, lost_by, is_repeating, unrepeated_by, is_over, dials, reach, joined, reached, AllNoted}
 use Rattle.legal_trace.specs.Book.{if_mine}
 use Rattle.legal_trace.proofs.Plain.{none_from}
 use Rattle.legal_trace.proofs.Came.{holds_bytes, value_keeps, bytes_keep}
@@ -67,18 +67,20 @@ up_hears l turn deserted h = h
 up_hears l turn (renewed c) h = chosen UpIsNotOver (may_renew l) (renewed_by l c) l (λ t. h) (λ e. h)
 up_hears l turn unrenewed h = chosen UpIsNotOver l.up (unrenewed_by l) l (λ t. h) (λ e. h)
 up_hears l turn (late k) h = chosen UpIsNotOver (l.up && is_renewal_open l k) (lost_by l) l (λ t. h) (λ e. h)
+up_hears l turn unrepeated h = chosen UpIsNotOver (is_repeating l) (unrepeated_by l) l (λ t. h) (λ e. h)
 up_hears l turn dropped h = h
 up_hears l turn shut h = h
 
 -- nor does any line
 pub up_keeps : (l : Ledger) (x : Line) → UpIsNotOver l → UpIsNotOver (noted l x)
-up_keeps l (asks info wanted hearing) h = h
+up_keeps l (asks info wanted hearing last again) h = h
 up_keeps l (hears turn news) h = up_hears l turn news h
 up_keeps l (begins s) h = h
 up_keeps l (offers bytes) h = h
 up_keeps l tells h = h
 up_keeps l sources h = h
 up_keeps l times h = h
+up_keeps l repeats_timed h = h
 up_keeps l (ends turn) h = λ u. cc
 up_keeps l parts h = h
 
@@ -112,18 +114,20 @@ hears_past l turn deserted = same_past l
 hears_past l turn (renewed c) = chosen (SamePast l) (may_renew l) (renewed_by l c) l (λ t. record { asked = refl; hearing = refl; end = λ n. n; starts = refl }) (λ e. same_past l)
 hears_past l turn unrenewed = chosen (SamePast l) l.up (unrenewed_by l) l (λ t. record { asked = refl; hearing = refl; end = λ n. n; starts = refl }) (λ e. same_past l)
 hears_past l turn (late k) = chosen (SamePast l) (l.up && is_renewal_open l k) (lost_by l) l (λ t. record { asked = refl; hearing = refl; end = λ n. n; starts = refl }) (λ e. same_past l)
+hears_past l turn unrepeated = chosen (SamePast l) (is_repeating l) (unrepeated_by l) l (λ t. record { asked = refl; hearing = refl; end = λ n. n; starts = refl }) (λ e. same_past l)
 hears_past l turn dropped = same_past l
 hears_past l turn shut = same_past l
 
 -- each line leaves it so
 pub asked_keeps : (l : Ledger) (x : Line) → IsAsked l → IsAsked (noted l x)
-asked_keeps l (asks info wanted hearing) h = refl
+asked_keeps l (asks info wanted hearing last again) h = refl
 asked_keeps l (hears turn news) h = subst (λ (b : Bool). b ≡ true) (sym (hears_past l turn news).asked) h
 asked_keeps l (begins s) h = h
 asked_keeps l (offers bytes) h = h
 asked_keeps l tells h = h
 asked_keeps l sources h = h
 asked_keeps l times h = h
+asked_keeps l repeats_timed h = h
 asked_keeps l (ends turn) h = h
 asked_keeps l parts h = h
 
@@ -133,13 +137,14 @@ HasStarted k l = k < length l.starts
 
 -- each line leaves these
 pub started_keeps : (k : ℕ) (l : Ledger) (x : Line) → HasStarted k l → HasStarted k (noted l x)
-started_keeps k l (asks info wanted hearing) h = h
+started_keeps k l (asks info wanted hearing last again) h = h
 started_keeps k l (hears turn news) h = subst (λ (ss : List Start). k < length ss) (sym (hears_past l turn news).starts) h
 started_keeps k l (begins s) h = let e : length (l.starts ++ s ∷ []) ≡ length l.starts + 1 = length-append l.starts (s ∷ []) in omega arith
 started_keeps k l (offers bytes) h = h
 started_keeps k l tells h = h
 started_keeps k l sources h = h
 started_keeps k l times h = h
+started_keeps k l repeats_timed h = h
 started_keeps k l (ends turn) h = h
 started_keeps k l parts h = h
 
@@ -166,6 +171,7 @@ unasked_hears l turn deserted not_up h = h
 unasked_hears l turn (renewed c) not_up h = chosen IsUnasked (may_renew l) (renewed_by l c) l (λ t. h) (λ e. h)
 unasked_hears l turn unrenewed not_up h = chosen IsUnasked l.up (unrenewed_by l) l (λ t. h) (λ e. h)
 unasked_hears l turn (late k) not_up h = chosen IsUnasked (l.up && is_renewal_open l k) (lost_by l) l (λ t. h) (λ e. h)
+unasked_hears l turn unrepeated not_up h = chosen IsUnasked (is_repeating l) (unrepeated_by l) l (λ t. h) (λ e. h)
 unasked_hears l turn dropped not_up h = h
 unasked_hears l turn shut not_up h = h
 
@@ -231,17 +237,19 @@ few_hears l turn deserted h = h
 few_hears l turn (renewed c) h = chosen FewAreDealt (may_renew l) (renewed_by l c) l (λ t. h) (λ e. h)
 few_hears l turn unrenewed h = chosen FewAreDealt l.up (unrenewed_by l) l (λ t. h) (λ e. h)
 few_hears l turn (late k) h = chosen FewAreDealt (l.up && is_renewal_open l k) (lost_by l) l (λ t. h) (λ e. h)
+few_hears l turn unrepeated h = chosen FewAreDealt (is_repeating l) (unrepeated_by l) l (λ t. h) (λ e. h)
 few_hears l turn dropped h = h
 few_hears l turn shut h = h
 
 -- and with any line
 pub few_keeps : (l : Ledger) (x : Line) → FewAreDealt l → FewAreDealt (noted l x)
-few_keeps l (asks info wanted hearing) h = h
+few_keeps l (asks info wanted hearing last again) h = h
 few_keeps l (hears turn news) h = few_hears l turn news h
 few_keeps l (begins s) h = let e : reach (l.starts ++ s ∷ []) l.dealt ≡ reach l.starts l.dealt + need_of s.shape = reach_more l.starts s l.dealt in omega arith
 few_keeps l (offers bytes) h = h
 few_keeps l tells h = h
 few_keeps l sources h = h
 few_keeps l times h = h
+few_keeps l repeats_timed h = h
 few_keeps l (ends turn) h = h
 few_keeps l parts h = h

@@ -1,10 +1,16 @@
 pub mod Plain
 pub mod Came
 pub mod Ledgers
+pub mod Managers
+pub mod Clocks
+pub mod Endings
+pub mod Causes
+pub mod Spoken
 pub mod Books
 pub mod Moves
 pub mod Monitors
 pub mod Setups
 pub mod Watching
 pub mod Sources
+pub mod Again
 pub mod Renewals

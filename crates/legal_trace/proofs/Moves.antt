@@ -9,12 +9,13 @@ use Rattle.driver_model.specs.declared.config.Config.{Config}
 use Rattle.driver_model.specs.Config.{buffer_size, boundary}
 use Rattle.driver_model.specs.Shape.{permits_for}
 use Rattle.driver_model.specs.declared.outcome.Outcome.{Outcome}
-use Rattle.legal_trace.specs.Ledger.{Ledger, dials, is_ready, is_set_up, lacks_credentials}
+use Rattle.legal_trace.specs.Ledger.{Ledger, dials, is_ready, is_served, is_set_up, lacks_credentials}
 use Rattle.legal_trace.specs.Story.{Story, has_place, is_room, is_open, is_told, is_awaited, is_unstarted, shape}
 use Rattle.legal_trace.specs.Story.{waits as shown}
-use Rattle.legal_trace.specs.Book.{Book}
-use Rattle.legal_trace.specs.Steps.{Step, waits, takes, asks, tells, starts, nothing, is_due, configured, is_held, is_held_back, renewals_in_line, permits_in, permits_on, permits_held, free_permits, is_let_in, is_in_line, line_before, is_outside, unready_wait, queue_size, starts_or_waits, step_placed, step_timed, step_taking, step_holding, step_open, step_ready, next_step}
-use Rattle.legal_trace.specs.Legal.{MayTell, MayStart, MayTime, MayTake, CanMove, link_of}
+use Rattle.legal_trace.specs.Managers.{settings_in}
+use Rattle.legal_trace.specs.Book.{Book, has_generations}
+use Rattle.legal_trace.specs.Steps.{Step, waits, rounds, takes, asks, tells, starts, is_due, configured, is_held, is_held_back, renewals_in_line, permits_in, permits_on, permits_held, free_permits, is_let_in, is_in_line, line_before, is_outside, unready_wait, queue_size, starts_or_waits, step_placed, step_timed, step_taking, step_holding, step_rounding, step_open, step_served, step_ready, step_down, next_step}
+use Rattle.legal_trace.specs.Legal.{MayTell, MayStart, MayTime, MayRound, MayTake, CanMove, link_of}
 
 -- one of two holds
 pub one_holds : (p q : Bool) → (p || q) ≡ true → (p ≡ true) ⊎ (q ≡ true)
@@ -38,10 +39,11 @@ is_outside_of config s line l = not (has_place s) && nat_le (configured buffer_s
 abbrev pub step_of : Option Config → Story → ℕ → ℕ → Ledger → Step
 step_of config s line held l =
     if dials l then waits wait.Connect
-    else if l.up then (if is_set_up l then step_open (is_told s) (is_held (configured boundary config) l)
+    else if l.up then (if is_set_up l then step_served (is_served l) (step_open (is_told s) (is_held (configured boundary config) l)
+    (step_rounding (is_some (settings_in config)) s.rounded
     (step_holding (permits_in config) s.permits (λ limit. step_taking (limit - held) (permits_for (shape s) limit))
-    (step_timed s.timeout s.clock (step_placed (is_outside_of config s line l) (is_awaited s) (is_held (configured boundary config) l)))) else waits (unready_wait l))
-    else nothing
+    (step_timed s.timeout s.clock (step_placed (is_outside_of config s line l) (is_awaited s) (is_held (configured boundary config) l)))))) else waits (unready_wait l))
+    else step_down l.asked
 
 -- where the same stand in line, as many do
 pub line_alike : (limit : Option ℕ) (story other : ℕ → Story) → ((l k : ℕ) → is_in_line limit l (story k) ≡ is_in_line limit l (other k)) → (l n : ℕ) → line_before limit story l n ≡ line_before limit other l n
@@ -59,15 +61,16 @@ abbrev pub up_step : Book → ℕ → Step
 up_step b n = step_ready b n (b.story n)
 
 -- a step that is due is made on a link that is up, and set up
-due_ready : (dialing up set : Bool) (unready : WaitKind) (step : Step) → is_due (if dialing then waits wait.Connect else if up then (if set then step else waits unready) else nothing) ≡ true → (up && set) ≡ true
-due_ready true up set unready step e = cc
-due_ready false true true unready step e = refl
-due_ready false true false unready step e = cc
-due_ready false false set unready step e = cc
+due_ready : (dialing up set asked : Bool) (unready : WaitKind) (step : Step) → is_due (if dialing then waits wait.Connect else if up then (if set then step else waits unready) else step_down asked) ≡ true → (up && set) ≡ true
+due_ready true up set asked unready step e = cc
+due_ready false true true asked unready step e = refl
+due_ready false true false asked unready step e = cc
+due_ready false false set true unready step e = cc
+due_ready false false set false unready step e = cc
 
 -- so the link of who makes a step is ready
 pub mover_is_ready : (b : Book) (n : ℕ) → CanMove b n → is_ready (link_of b n) ≡ true
-mover_is_ready b n moves = due_ready (dials (link_of b n)) (link_of b n).up (is_set_up (link_of b n)) (unready_wait (link_of b n)) (up_step b n) moves.due
+mover_is_ready b n moves = due_ready (dials (link_of b n)) (link_of b n).up (is_set_up (link_of b n)) (link_of b n).asked (unready_wait (link_of b n)) (up_step b n) moves.due
 
 -- a link that is ready is up
 pub ready_is_up : (l : Ledger) → is_ready l ≡ true → l.up ≡ true
@@ -97,30 +100,45 @@ starter_moves b l k n count len may = record { unstarted = may.unstarted; due = 
 pub taker_moves : (b : Book) (n l count : ℕ) → MayTake b n l count → CanMove b n
 taker_moves b n l count may = record { unstarted = may.unstarted; due = ap is_due may.takes }
 
+-- whose round begins
+pub rounder_moves : (b : Book) (n l : ℕ) → MayRound b n l → CanMove b n
+rounder_moves b n l may = record { unstarted = may.unstarted; due = ap is_due may.rounds }
+
 -- and whose timer is asked for
 pub asker_moves : (b : Book) (t ms : ℕ) (what : Purpose) (may : MayTime b t ms what) → CanMove b may.n
 asker_moves b t ms what may = record { unstarted = may.unstarted; due = ap is_due may.asks }
 
--- who waits, waits for the connect, or on a link that is up
-waits_up : (dialing up set : Bool) (unready : WaitKind) (step : Step) (kind : WaitKind) → (if dialing then waits wait.Connect else if up then (if set then step else waits unready) else nothing) ≡ waits kind → (dialing ≡ true) ⊎ (up ≡ true)
-waits_up true up set unready step kind e = inl refl
-waits_up false true set unready step kind e = inr refl
-waits_up false false set unready step kind e = cc
+-- who waits, waits for the connect, or on a link that is up, or until it is asked for
+waits_up : (dialing up set asked : Bool) (unready : WaitKind) (step : Step) (kind : WaitKind) → (if dialing then waits wait.Connect else if up then (if set then step else waits unready) else step_down asked) ≡ waits kind → (dialing ≡ true) ⊎ ((up ≡ true) ⊎ (asked ≡ false))
+waits_up true up set asked unready step kind e = inl refl
+waits_up false true set asked unready step kind e = inr (inl refl)
+waits_up false false set true unready step kind e = absurd (cc e)
+waits_up false false set false unready step kind e = inr (inr refl)
 
--- so the link of who waits isn't answered, or is up
-pub waits_on_a_link : (b : Book) (n : ℕ) (kind : WaitKind) → next_step b n ≡ waits kind → (dials (link_of b n) ≡ true) ⊎ ((link_of b n).up ≡ true)
-waits_on_a_link b n kind e = waits_up (dials (link_of b n)) (link_of b n).up (is_set_up (link_of b n)) (unready_wait (link_of b n)) (up_step b n) kind e
+-- so the link of who waits isn't answered, or is up, or isn't asked for
+pub waits_on_a_link : (b : Book) (n : ℕ) (kind : WaitKind) → next_step b n ≡ waits kind → (dials (link_of b n) ≡ true) ⊎ (((link_of b n).up ≡ true) ⊎ ((link_of b n).asked ≡ false))
+waits_on_a_link b n kind e = waits_up (dials (link_of b n)) (link_of b n).up (is_set_up (link_of b n)) (link_of b n).asked (unready_wait (link_of b n)) (up_step b n) kind e
 
 -- one kind of wait is true at a time
 pub same_kind : (s : Step) (kind other : WaitKind) → s ≡ waits kind → s ≡ waits other → kind ≡ other
 same_kind s kind other e f = cc
 
 -- a step that is no wait is made on a link that is ready
-ready_of : (dialing up set : Bool) (unready : WaitKind) (step s : Step) → is_due s ≡ true → (if dialing then waits wait.Connect else if up then (if set then step else waits unready) else nothing) ≡ s → (dialing ≡ false) × ((up && set) ≡ true) × (step ≡ s)
-ready_of true up set unready step s due e = absurd (let x : false ≡ true = ap is_due e ∙ due in cc x)
-ready_of false true true unready step s due e = (refl, refl, e)
-ready_of false true false unready step s due e = absurd (let x : false ≡ true = ap is_due e ∙ due in cc x)
-ready_of false false set unready step s due e = absurd (let x : false ≡ true = ap is_due e ∙ due in cc x)
+ready_of : (dialing up set asked : Bool) (unready : WaitKind) (step s : Step) → is_due s ≡ true → (if dialing then waits wait.Connect else if up then (if set then step else waits unready) else step_down asked) ≡ s → (dialing ≡ false) × ((up && set) ≡ true) × (step ≡ s)
+ready_of true up set asked unready step s due e = absurd (let x : false ≡ true = ap is_due e ∙ due in cc x)
+ready_of false true true asked unready step s due e = (refl, refl, e)
+ready_of false true false asked unready step s due e = absurd (let x : false ≡ true = ap is_due e ∙ due in cc x)
+ready_of false false set true unready step s due e = absurd (let x : false ≡ true = ap is_due e ∙ due in cc x)
+ready_of false false set false unready step s due e = absurd (let x : false ≡ true = ap is_due e ∙ due in cc x)
+
+-- whoever doesn't wait for what is subscribed again does so on a link where that is answered
+served_next : (served : Bool) (next s : Step) → (waits wait.Resubscribe ≡ s → ⊥) → step_served served next ≡ s → (served ≡ true) × (next ≡ s)
+served_next true next s none e = (refl, e)
+served_next false next s none e = absurd (none e)
+
+-- a step that is due is no wait
+due_waits_not : (kind : WaitKind) (s : Step) → is_due s ≡ true → waits kind ≡ s → ⊥
+due_waits_not kind s due e = let x : false ≡ true = ap is_due e ∙ due in cc x
 
 -- what is less is tested so
 pub lt_test : (a b : ℕ) → a < b → nat_lt a b ≡ true
@@ -138,6 +156,16 @@ is_timed timeout clock = is_none timeout || is_some clock
 open_next : (told held : Bool) (next s : Step) → step_open told held next ≡ s → ((told ≡ true) × (starts_or_waits held ≡ s)) ⊎ ((told ≡ false) × (next ≡ s))
 open_next true held next s e = inl (refl, e)
 open_next false held next s e = inr (refl, e)
+
+-- its round has begun, where rounds are shown
+abbrev pub has_rounded : Bool → Bool → Bool
+has_rounded shown rounded = not shown || rounded
+
+-- whose round doesn't begin has had it, where rounds are shown, and goes on
+rounding_next : (shown rounded : Bool) (next s : Step) → (rounds ≡ s → ⊥) → step_rounding shown rounded next ≡ s → (has_rounded shown rounded ≡ true) × (next ≡ s)
+rounding_next true false next s none e = absurd (none e)
+rounding_next true true next s none e = (refl, e)
+rounding_next false rounded next s none e = (refl, e)
 
 -- whoever takes no permits holds some, and goes on
 holding_next : (limit : Option ℕ) (permits : ℕ) (taking : ℕ → Step) (next s : Step) → ((most : ℕ) → taking most ≡ s → ⊥) → step_holding limit permits taking next ≡ s → (holds_some limit permits ≡ true) × (next ≡ s)
@@ -211,20 +239,42 @@ past_timer b n s is e =
     let t = timed_next (b.story n).timeout (b.story n).clock (step_placed (is_outside b n) (is_awaited (b.story n)) (is_held_back b (link_of b n))) s (λ ms. asking_is ms s is) h.1 in
     (both_hold (holds_some (permits_in b.config) (b.story n).permits) (is_timed (b.story n).timeout (b.story n).clock) h.0 t.0, t.1)
 
--- what it does next on a link that is ready, past whether it was told
+-- what it does next on a link that takes requests, past its round
+abbrev pub rounded_step : Book → ℕ → Step
+rounded_step b n = step_holding (permits_in b.config) (b.story n).permits (λ limit. step_taking (free_permits b (b.story n).link limit) (permits_for (shape (b.story n)) limit)) (step_timed (b.story n).timeout (b.story n).clock (step_placed (is_outside b n) (is_awaited (b.story n)) (is_held_back b (link_of b n))))
+
+-- past whether it was told
 abbrev pub untold_step : Book → ℕ → Step
-untold_step b n = step_holding (permits_in b.config) (b.story n).permits (λ limit. step_taking (free_permits b (b.story n).link limit) (permits_for (shape (b.story n)) limit)) (step_timed (b.story n).timeout (b.story n).clock (step_placed (is_outside b n) (is_awaited (b.story n)) (is_held_back b (link_of b n))))
+untold_step b n = step_rounding (has_generations b) (b.story n).rounded (rounded_step b n)
+
+-- and at all
+abbrev pub served_step : Book → ℕ → Step
+served_step b n = step_open (is_told (b.story n)) (is_held_back b (link_of b n)) (untold_step b n)
+
+-- a step that is no round is made by one that has had its round, where rounds are shown
+past_round : (b : Book) (n : ℕ) (s : Step) → (rounds ≡ s → ⊥) → untold_step b n ≡ s → (has_rounded (has_generations b) (b.story n).rounded ≡ true) × (rounded_step b n ≡ s)
+past_round b n s none e = rounding_next (has_generations b) (b.story n).rounded (rounded_step b n) s none e
+
+-- a step that is due is made on a link that takes requests
+due_on : (b : Book) (n : ℕ) (s : Step) → is_due s ≡ true → next_step b n ≡ s → (dials (link_of b n) ≡ false) × (is_ready (link_of b n) ≡ true) × (is_served (link_of b n) ≡ true) × (served_step b n ≡ s)
+due_on b n s due e =
+    let r = ready_of (dials (link_of b n)) (link_of b n).up (is_set_up (link_of b n)) (link_of b n).asked (unready_wait (link_of b n)) (up_step b n) s due e in
+    let served = served_next (is_served (link_of b n)) (served_step b n) s (due_waits_not wait.Resubscribe s due) r.2 in (r.0, r.1, served.0, served.1)
+
+-- so what is subscribed again there was answered
+pub mover_is_served : (b : Book) (n : ℕ) → CanMove b n → is_served (link_of b n) ≡ true
+mover_is_served b n moves = let r = due_on b n (next_step b n) moves.due refl in r.2
 
 -- where the next step is a start, the link is up and isn't held back, and the submission was told, or was let in and has a place
 pub starts_mean : (b : Book) (n : ℕ) → next_step b n ≡ starts
     → (dials (link_of b n) ≡ false) × (is_ready (link_of b n) ≡ true) × (is_held_back b (link_of b n) ≡ false)
     × ((is_told (b.story n) ≡ true) ⊎ ((is_let_in (permits_in b.config) (b.story n) ≡ true) × (is_outside b n ≡ false)))
 starts_mean b n e =
-    let r = ready_of (dials (link_of b n)) (link_of b n).up (is_set_up (link_of b n)) (unready_wait (link_of b n)) (up_step b n) starts refl e in
-    elim (open_next (is_told (b.story n)) (is_held_back b (link_of b n)) (untold_step b n) starts r.2) [
+    let r = due_on b n starts refl e in
+    elim (open_next (is_told (b.story n)) (is_held_back b (link_of b n)) (untold_step b n) starts r.3) [
       | inl told ↦ (r.0, r.1, told_starts (is_held_back b (link_of b n)) told.1, inl told.0)
       | inr not_told ↦
-          let p = past_timer b n starts (inl refl) not_told.1 in
+          let p = past_timer b n starts (inl refl) (past_round b n starts (λ x. cc x) not_told.1).1 in
           let q = placed_starts (is_outside b n) (is_awaited (b.story n)) (is_held_back b (link_of b n)) p.1 in
           (r.0, r.1, q.1, inr (p.0, q.0))
     ]
@@ -233,11 +283,11 @@ starts_mean b n e =
 pub tells_mean : (b : Book) (n : ℕ) → next_step b n ≡ tells
     → (dials (link_of b n) ≡ false) × (is_ready (link_of b n) ≡ true) × (is_let_in (permits_in b.config) (b.story n) ≡ true) × (is_outside b n ≡ false) × (is_awaited (b.story n) ≡ false)
 tells_mean b n e =
-    let r = ready_of (dials (link_of b n)) (link_of b n).up (is_set_up (link_of b n)) (unready_wait (link_of b n)) (up_step b n) tells refl e in
-    elim (open_next (is_told (b.story n)) (is_held_back b (link_of b n)) (untold_step b n) tells r.2) [
+    let r = due_on b n tells refl e in
+    elim (open_next (is_told (b.story n)) (is_held_back b (link_of b n)) (untold_step b n) tells r.3) [
       | inl told ↦ absurd (told_tells (is_held_back b (link_of b n)) told.1)
       | inr not_told ↦
-          let p = past_timer b n tells (inr refl) not_told.1 in
+          let p = past_timer b n tells (inr refl) (past_round b n tells (λ x. cc x) not_told.1).1 in
           let q = placed_tells (is_outside b n) (is_awaited (b.story n)) (is_held_back b (link_of b n)) p.1 in
           (r.0, r.1, p.0, q.0, q.1)
     ]
@@ -280,10 +330,10 @@ pub takes_mean : (b : Book) (n count : ℕ) → next_step b n ≡ takes count
     → (dials (link_of b n) ≡ false) × (is_ready (link_of b n) ≡ true)
     × ((limit : ℕ) × (permits_in b.config ≡ Some limit) × ((b.story n).permits ≡ 0) × (count ≤ free_permits b (b.story n).link limit) × (0 < free_permits b (b.story n).link limit))
 takes_mean b n count e =
-    let r = ready_of (dials (link_of b n)) (link_of b n).up (is_set_up (link_of b n)) (unready_wait (link_of b n)) (up_step b n) (takes count) refl e in
-    elim (open_next (is_told (b.story n)) (is_held_back b (link_of b n)) (untold_step b n) (takes count) r.2) [
+    let r = due_on b n (takes count) refl e in
+    elim (open_next (is_told (b.story n)) (is_held_back b (link_of b n)) (untold_step b n) (takes count) r.3) [
       | inl told ↦ absurd (told_takes (is_held_back b (link_of b n)) count told.1)
-      | inr not_told ↦ (r.0, r.1, holding_takes (permits_in b.config) (b.story n).permits (free_permits b (b.story n).link) (permits_for (shape (b.story n))) (b.story n).timeout (b.story n).clock (is_outside b n) (is_awaited (b.story n)) (is_held_back b (link_of b n)) count not_told.1)
+      | inr not_told ↦ (r.0, r.1, holding_takes (permits_in b.config) (b.story n).permits (free_permits b (b.story n).link) (permits_for (shape (b.story n))) (b.story n).timeout (b.story n).clock (is_outside b n) (is_awaited (b.story n)) (is_held_back b (link_of b n)) count (past_round b n (takes count) (λ x. cc x) not_told.1).1)
     ]
 
 -- whoever takes permits, or waits for one, has no timer asked for
@@ -301,12 +351,12 @@ timed_asks (Some time) (Some t) outside awaited held ms e = absurd (placed_asks 
 pub asks_mean : (b : Book) (n ms : ℕ) → next_step b n ≡ asks ms
     → (holds_some (permits_in b.config) (b.story n).permits ≡ true) × ((b.story n).timeout ≡ Some ms) × ((b.story n).clock ≡ None)
 asks_mean b n ms e =
-    let r = ready_of (dials (link_of b n)) (link_of b n).up (is_set_up (link_of b n)) (unready_wait (link_of b n)) (up_step b n) (asks ms) refl e in
-    elim (open_next (is_told (b.story n)) (is_held_back b (link_of b n)) (untold_step b n) (asks ms) r.2) [
+    let r = due_on b n (asks ms) refl e in
+    elim (open_next (is_told (b.story n)) (is_held_back b (link_of b n)) (untold_step b n) (asks ms) r.3) [
       | inl told ↦ absurd (told_asks (is_held_back b (link_of b n)) ms told.1)
       | inr not_told ↦
           let h = holding_next (permits_in b.config) (b.story n).permits (λ limit. step_taking (free_permits b (b.story n).link limit) (permits_for (shape (b.story n)) limit)) (step_timed (b.story n).timeout (b.story n).clock (step_placed (is_outside b n) (is_awaited (b.story n)) (is_held_back b (link_of b n)))) (asks ms)
-          (λ most. taking_asks (free_permits b (b.story n).link most) (permits_for (shape (b.story n)) most) ms) not_told.1 in
+          (λ most. taking_asks (free_permits b (b.story n).link most) (permits_for (shape (b.story n)) most) ms) (past_round b n (asks ms) (λ x. cc x) not_told.1).1 in
           let t = timed_asks (b.story n).timeout (b.story n).clock (is_outside b n) (is_awaited (b.story n)) (is_held_back b (link_of b n)) ms h.1 in (h.0, t.0, t.1)
     ]
 
@@ -330,11 +380,22 @@ holding_due (Some limit) zero taking next h = absurd (cc h)
 holding_due (Some limit) (suc held) taking next h = refl
 
 -- so is what is done on a link that is ready
-ready_due : (dialing up set : Bool) (unready : WaitKind) (step : Step) → dialing ≡ false → (up && set) ≡ true → is_due (if dialing then waits wait.Connect else if up then (if set then step else waits unready) else nothing) ≡ is_due step
-ready_due true up set unready step d u = absurd (cc d)
-ready_due false true true unready step d u = refl
-ready_due false true false unready step d u = absurd (cc u)
-ready_due false false set unready step d u = absurd (cc u)
+ready_due : (dialing up set asked : Bool) (unready : WaitKind) (step : Step) → dialing ≡ false → (up && set) ≡ true → is_due (if dialing then waits wait.Connect else if up then (if set then step else waits unready) else step_down asked) ≡ is_due step
+ready_due true up set asked unready step d u = absurd (cc d)
+ready_due false true true asked unready step d u = refl
+ready_due false true false asked unready step d u = absurd (cc u)
+ready_due false false set asked unready step d u = absurd (cc u)
+
+-- and where what is subscribed again there is answered
+served_due : (served : Bool) (next : Step) → served ≡ true → is_due (step_served served next) ≡ is_due next
+served_due true next s = refl
+served_due false next s = absurd (cc s)
+
+-- so it is in a book
+pub taken_due : (b : Book) (n : ℕ) → dials (link_of b n) ≡ false → is_ready (link_of b n) ≡ true → is_served (link_of b n) ≡ true → is_due (next_step b n) ≡ is_due (served_step b n)
+taken_due b n d u s =
+    ready_due (dials (link_of b n)) (link_of b n).up (is_set_up (link_of b n)) (link_of b n).asked (unready_wait (link_of b n)) (up_step b n) d u
+    ∙ served_due (is_served (link_of b n)) (served_step b n) s
 
 -- whoever was told does so where the link isn't held back
 told_due : (told held : Bool) (next : Step) → told ≡ true → held ≡ false → is_due (step_open told held next) ≡ true
@@ -347,18 +408,35 @@ untold_due : (told held : Bool) (next : Step) → told ≡ false → is_due (ste
 untold_due true held next t = absurd (cc t)
 untold_due false held next t = refl
 
--- whoever was told makes a step on a link that is ready and isn't held back
-pub told_is_due : (b : Book) (n : ℕ) → dials (link_of b n) ≡ false → is_ready (link_of b n) ≡ true → is_held_back b (link_of b n) ≡ false → is_told (b.story n) ≡ true → is_due (next_step b n) ≡ true
-told_is_due b n d u h t = ready_due (dials (link_of b n)) (link_of b n).up (is_set_up (link_of b n)) (unready_wait (link_of b n)) (up_step b n) d u ∙ told_due (is_told (b.story n)) (is_held_back b (link_of b n)) (untold_step b n) t h
+-- whoever was told makes a step on a link that takes requests and isn't held back
+pub told_is_due : (b : Book) (n : ℕ) → dials (link_of b n) ≡ false → is_ready (link_of b n) ≡ true → is_served (link_of b n) ≡ true → is_held_back b (link_of b n) ≡ false → is_told (b.story n) ≡ true → is_due (next_step b n) ≡ true
+told_is_due b n d u s h t = taken_due b n d u s ∙ told_due (is_told (b.story n)) (is_held_back b (link_of b n)) (untold_step b n) t h
+
+-- a round is due, or what else is
+rounding_due : (shown rounded : Bool) (next : Step) → is_due next ≡ true → is_due (step_rounding shown rounded next) ≡ true
+rounding_due true false next e = refl
+rounding_due true true next e = e
+rounding_due false rounded next e = e
 
 -- what is due of who wasn't told
-untold_is_due : (b : Book) (n : ℕ) → dials (link_of b n) ≡ false → is_ready (link_of b n) ≡ true → is_told (b.story n) ≡ false → is_due (untold_step b n) ≡ true → is_due (next_step b n) ≡ true
-untold_is_due b n d u t due = ready_due (dials (link_of b n)) (link_of b n).up (is_set_up (link_of b n)) (unready_wait (link_of b n)) (up_step b n) d u ∙ (untold_due (is_told (b.story n)) (is_held_back b (link_of b n)) (untold_step b n) t ∙ due)
+untold_is_due : (b : Book) (n : ℕ) → dials (link_of b n) ≡ false → is_ready (link_of b n) ≡ true → is_served (link_of b n) ≡ true → is_told (b.story n) ≡ false → is_due (rounded_step b n) ≡ true → is_due (next_step b n) ≡ true
+untold_is_due b n d u s t due =
+    taken_due b n d u s ∙ (untold_due (is_told (b.story n)) (is_held_back b (link_of b n)) (untold_step b n) t ∙ rounding_due (has_generations b) (b.story n).rounded (rounded_step b n) due)
+
+-- so is a round
+pub round_is_due : (b : Book) (n : ℕ) → dials (link_of b n) ≡ false → is_ready (link_of b n) ≡ true → is_served (link_of b n) ≡ true → is_told (b.story n) ≡ false → has_rounded (has_generations b) (b.story n).rounded ≡ false → is_due (next_step b n) ≡ true
+round_is_due b n d u s t none =
+    taken_due b n d u s ∙ (untold_due (is_told (b.story n)) (is_held_back b (link_of b n)) (untold_step b n) t ∙ unrounded_due (has_generations b) (b.story n).rounded none)
+  where
+    unrounded_due : (shown rounded : Bool) → has_rounded shown rounded ≡ false → is_due (step_rounding shown rounded (rounded_step b n)) ≡ true
+    unrounded_due true false e = refl
+    unrounded_due true true e = absurd (cc e)
+    unrounded_due false rounded e = absurd (cc e)
 
 -- and so does who holds its permits and has a place
-pub free_is_due : (b : Book) (n : ℕ) → dials (link_of b n) ≡ false → is_ready (link_of b n) ≡ true → is_held_back b (link_of b n) ≡ false → is_told (b.story n) ≡ false
+pub free_is_due : (b : Book) (n : ℕ) → dials (link_of b n) ≡ false → is_ready (link_of b n) ≡ true → is_served (link_of b n) ≡ true → is_held_back b (link_of b n) ≡ false → is_told (b.story n) ≡ false
     → holds_some (permits_in b.config) (b.story n).permits ≡ true → is_outside b n ≡ false → is_due (next_step b n) ≡ true
-free_is_due b n d u h t p o = untold_is_due b n d u t
+free_is_due b n d u s h t p o = untold_is_due b n d u s t
     (holding_due (permits_in b.config) (b.story n).permits (λ limit. step_taking (free_permits b (b.story n).link limit) (permits_for (shape (b.story n)) limit)) (step_timed (b.story n).timeout (b.story n).clock (step_placed (is_outside b n) (is_awaited (b.story n)) (is_held_back b (link_of b n)))) p
     ∙ timed_due (b.story n).timeout (b.story n).clock (step_placed (is_outside b n) (is_awaited (b.story n)) (is_held_back b (link_of b n))) (placed_due (is_outside b n) (is_awaited (b.story n)) (is_held_back b (link_of b n)) h o))
 
@@ -369,10 +447,10 @@ timed_from (Some ms) None next none = absurd (none refl)
 timed_from (Some ms) (Some t) next none = refl
 
 -- so it is in a book
-pub holder_is_timed : (b : Book) (n : ℕ) → dials (link_of b n) ≡ false → is_ready (link_of b n) ≡ true → is_told (b.story n) ≡ false → holds_some (permits_in b.config) (b.story n).permits ≡ true
+pub holder_is_timed : (b : Book) (n : ℕ) → dials (link_of b n) ≡ false → is_ready (link_of b n) ≡ true → is_served (link_of b n) ≡ true → is_told (b.story n) ≡ false → holds_some (permits_in b.config) (b.story n).permits ≡ true
     → (is_due (next_step b n) ≡ true → ⊥) → is_timed (b.story n).timeout (b.story n).clock ≡ true
-holder_is_timed b n d u t p none = timed_from (b.story n).timeout (b.story n).clock (step_placed (is_outside b n) (is_awaited (b.story n)) (is_held_back b (link_of b n)))
-    (λ due. none (untold_is_due b n d u t (holding_due (permits_in b.config) (b.story n).permits (λ limit. step_taking (free_permits b (b.story n).link limit) (permits_for (shape (b.story n)) limit)) (step_timed (b.story n).timeout (b.story n).clock (step_placed (is_outside b n) (is_awaited (b.story n)) (is_held_back b (link_of b n)))) p ∙ due)))
+holder_is_timed b n d u s t p none = timed_from (b.story n).timeout (b.story n).clock (step_placed (is_outside b n) (is_awaited (b.story n)) (is_held_back b (link_of b n)))
+    (λ due. none (untold_is_due b n d u s t (holding_due (permits_in b.config) (b.story n).permits (λ limit. step_taking (free_permits b (b.story n).link limit) (permits_for (shape (b.story n)) limit)) (step_timed (b.story n).timeout (b.story n).clock (step_placed (is_outside b n) (is_awaited (b.story n)) (is_held_back b (link_of b n)))) p ∙ due)))
 
 -- whoever takes permits makes a step
 takes_due : (free most : ℕ) → 0 < free → is_due (step_taking free most) ≡ true
@@ -385,12 +463,12 @@ holds_from limit zero taking next due none = absurd (none due)
 holds_from limit (suc held) taking next due none = omega arith
 
 -- so it is in a book, too
-pub rester_holds : (b : Book) (n limit : ℕ) → dials (link_of b n) ≡ false → is_ready (link_of b n) ≡ true → is_told (b.story n) ≡ false → permits_in b.config ≡ Some limit → 0 < free_permits b (b.story n).link limit
+pub rester_holds : (b : Book) (n limit : ℕ) → dials (link_of b n) ≡ false → is_ready (link_of b n) ≡ true → is_served (link_of b n) ≡ true → is_told (b.story n) ≡ false → permits_in b.config ≡ Some limit → 0 < free_permits b (b.story n).link limit
     → (is_due (next_step b n) ≡ true → ⊥) → 0 < (b.story n).permits
-rester_holds b n limit d u t p free none =
+rester_holds b n limit d u s t p free none =
     holds_from limit (b.story n).permits (λ k. step_taking (free_permits b (b.story n).link k) (permits_for (shape (b.story n)) k)) (step_timed (b.story n).timeout (b.story n).clock (step_placed (is_outside b n) (is_awaited (b.story n)) (is_held_back b (link_of b n))))
     (takes_due (free_permits b (b.story n).link limit) (permits_for (shape (b.story n)) limit) free)
-    (λ due. none (untold_is_due b n d u t
+    (λ due. none (untold_is_due b n d u s t
     (subst (λ o. is_due (step_holding o (b.story n).permits (λ k. step_taking (free_permits b (b.story n).link k) (permits_for (shape (b.story n)) k)) (step_timed (b.story n).timeout (b.story n).clock (step_placed (is_outside b n) (is_awaited (b.story n)) (is_held_back b (link_of b n))))) ≡ true) (sym p) due)))
 
 -- whoever starts at its place without being told is awaited
@@ -402,10 +480,10 @@ awaited_at_its_place false false held e = absurd (cc e)
 -- so it is in a book, too
 pub placed_is_awaited : (b : Book) (n : ℕ) → is_told (b.story n) ≡ false → next_step b n ≡ starts → is_awaited (b.story n) ≡ true
 placed_is_awaited b n untold e =
-    let r = ready_of (dials (link_of b n)) (link_of b n).up (is_set_up (link_of b n)) (unready_wait (link_of b n)) (up_step b n) starts refl e in
-    elim (open_next (is_told (b.story n)) (is_held_back b (link_of b n)) (untold_step b n) starts r.2) [
+    let r = due_on b n starts refl e in
+    elim (open_next (is_told (b.story n)) (is_held_back b (link_of b n)) (untold_step b n) starts r.3) [
       | inl told ↦ absurd (not_both (is_told (b.story n)) untold told.0)
-      | inr not_told ↦ awaited_at_its_place (is_outside b n) (is_awaited (b.story n)) (is_held_back b (link_of b n)) (past_timer b n starts (inl refl) not_told.1).1
+      | inr not_told ↦ awaited_at_its_place (is_outside b n) (is_awaited (b.story n)) (is_held_back b (link_of b n)) (past_timer b n starts (inl refl) (past_round b n starts (λ x. cc x) not_told.1).1).1
     ]
 
 -- whoever waits for room on a link that isn't set up does so for no such thing
@@ -413,12 +491,13 @@ unready_not_room : (l : Ledger) → unready_wait l ≡ wait.Room → ⊥
 unready_not_room l e = chosen (λ kind. kind ≡ wait.Room → ⊥) (lacks_credentials l) wait.Creds wait.Setup (λ t x. cc x) (λ f x. cc x) e
 
 -- who waits for room does so on a link that is ready
-room_of : (dialing up set : Bool) (unready : WaitKind) (step : Step) → (unready ≡ wait.Room → ⊥)
-    → (if dialing then waits wait.Connect else if up then (if set then step else waits unready) else nothing) ≡ waits wait.Room → (dialing ≡ false) × ((up && set) ≡ true) × (step ≡ waits wait.Room)
-room_of true up set unready step other e = absurd (cc e)
-room_of false true true unready step other e = (refl, refl, e)
-room_of false true false unready step other e = absurd (other (same_kind (waits unready) unready wait.Room refl e))
-room_of false false set unready step other e = absurd (cc e)
+room_of : (dialing up set asked : Bool) (unready : WaitKind) (step : Step) → (unready ≡ wait.Room → ⊥)
+    → (if dialing then waits wait.Connect else if up then (if set then step else waits unready) else step_down asked) ≡ waits wait.Room → (dialing ≡ false) × ((up && set) ≡ true) × (step ≡ waits wait.Room)
+room_of true up set asked unready step other e = absurd (cc e)
+room_of false true true asked unready step other e = (refl, refl, e)
+room_of false true false asked unready step other e = absurd (other (same_kind (waits unready) unready wait.Room refl e))
+room_of false false set true unready step other e = absurd (cc e)
+room_of false false set false unready step other e = absurd (cc e)
 
 -- whoever takes permits, or waits for one, doesn't wait for room
 taking_no_room : (free most : ℕ) → step_taking free most ≡ waits wait.Room → ⊥
@@ -438,12 +517,13 @@ rooms_mean b n e =
     let held : Bool = is_held_back b (link_of b n) in
     let placed : Step = step_placed (is_outside b n) (is_awaited (b.story n)) held in
     let taking : ℕ → Step = λ limit. step_taking (free_permits b (b.story n).link limit) (permits_for (shape (b.story n)) limit) in
-    let r = room_of (dials (link_of b n)) (link_of b n).up (is_set_up (link_of b n)) (unready_wait (link_of b n)) (up_step b n) (unready_not_room (link_of b n)) e in
-    elim (open_next (is_told (b.story n)) held (untold_step b n) (waits wait.Room) r.2) [
+    let r = room_of (dials (link_of b n)) (link_of b n).up (is_set_up (link_of b n)) (link_of b n).asked (unready_wait (link_of b n)) (up_step b n) (unready_not_room (link_of b n)) e in
+    let served = served_next (is_served (link_of b n)) (served_step b n) (waits wait.Room) (λ x. cc x) r.2 in
+    elim (open_next (is_told (b.story n)) held (untold_step b n) (waits wait.Room) served.1) [
       | inl told ↦ (r.0, r.1, inl told.0)
       | inr not_told ↦
           let h = holding_next (permits_in b.config) (b.story n).permits taking (step_timed (b.story n).timeout (b.story n).clock placed) (waits wait.Room)
-          (λ most. taking_no_room (free_permits b (b.story n).link most) (permits_for (shape (b.story n)) most)) not_told.1 in
+          (λ most. taking_no_room (free_permits b (b.story n).link most) (permits_for (shape (b.story n)) most)) (past_round b n (waits wait.Room) (λ x. cc x) not_told.1).1 in
           let t = timed_next (b.story n).timeout (b.story n).clock placed (waits wait.Room) (λ ms x. cc x) h.1 in
           (r.0, r.1, inr (both_hold (holds_some (permits_in b.config) (b.story n).permits) (is_timed (b.story n).timeout (b.story n).clock) h.0 t.0, placed_room (is_outside b n) (is_awaited (b.story n)) held t.1))
     ]
@@ -490,18 +570,29 @@ holding_alike None permits taking next other s alike e = alike e
 holding_alike (Some limit) zero taking next other s alike e = e
 holding_alike (Some limit) (suc held) taking next other s alike e = alike e
 
+-- behind its round
+rounding_alike : (shown rounded : Bool) (next other s : Step) → (next ≡ s → other ≡ s) → step_rounding shown rounded next ≡ s → step_rounding shown rounded other ≡ s
+rounding_alike true false next other s alike e = e
+rounding_alike true true next other s alike e = alike e
+rounding_alike false rounded next other s alike e = alike e
+
 -- where it wasn't told
 open_alike : (told held : Bool) (next other s : Step) → (next ≡ s → other ≡ s) → step_open told held next ≡ s → step_open told held other ≡ s
 open_alike true held next other s alike e = e
 open_alike false held next other s alike e = alike e
 
+-- where what is subscribed again is answered
+served_alike : (served : Bool) (next other s : Step) → (next ≡ s → other ≡ s) → step_served served next ≡ s → step_served served other ≡ s
+served_alike true next other s alike e = alike e
+served_alike false next other s alike e = e
+
 -- and on any link
-ready_alike : (dialing up set : Bool) (unready : WaitKind) (next other s : Step) → (next ≡ s → other ≡ s)
-    → (if dialing then waits wait.Connect else if up then (if set then next else waits unready) else nothing) ≡ s → (if dialing then waits wait.Connect else if up then (if set then other else waits unready) else nothing) ≡ s
-ready_alike true up set unready next other s alike e = e
-ready_alike false true true unready next other s alike e = alike e
-ready_alike false true false unready next other s alike e = e
-ready_alike false false set unready next other s alike e = e
+ready_alike : (dialing up set asked : Bool) (unready : WaitKind) (next other s : Step) → (next ≡ s → other ≡ s)
+    → (if dialing then waits wait.Connect else if up then (if set then next else waits unready) else step_down asked) ≡ s → (if dialing then waits wait.Connect else if up then (if set then other else waits unready) else step_down asked) ≡ s
+ready_alike true up set asked unready next other s alike e = e
+ready_alike false true true asked unready next other s alike e = alike e
+ready_alike false true false asked unready next other s alike e = e
+ready_alike false false set asked unready next other s alike e = e
 
 -- a place that is kept, or found full, stays so where the wait for it is shown
 shown_fits : (old told full : Bool) (kind : WaitKind) → Fits (not (old || told) && full) (not (is_room (Some kind) || told) && full) kind
@@ -517,10 +608,13 @@ shown_alike config s line held l kind e =
     let taking : ℕ → Step = λ limit. step_taking (limit - held) (permits_for (shape s) limit) in
     let placed : Step = step_placed (is_outside_of config s line l) (is_awaited s) back in
     let after : Step = step_placed (is_outside_of config (shown s kind) line l) (is_awaited s) back in
-    ready_alike (dials l) l.up (is_set_up l) (unready_wait l)
-    (step_open (is_told s) back (step_holding (permits_in config) s.permits taking (step_timed s.timeout s.clock placed)))
-    (step_open (is_told s) back (step_holding (permits_in config) s.permits taking (step_timed s.timeout s.clock after))) (waits kind)
-    (open_alike (is_told s) back (step_holding (permits_in config) s.permits taking (step_timed s.timeout s.clock placed)) (step_holding (permits_in config) s.permits taking (step_timed s.timeout s.clock after)) (waits kind)
+    let holding : Step → Step = λ next. step_holding (permits_in config) s.permits taking (step_timed s.timeout s.clock next) in
+    let rounding : Step → Step = λ next. step_rounding (is_some (settings_in config)) s.rounded (holding next) in
+    let opening : Step → Step = λ next. step_open (is_told s) back (rounding next) in
+    ready_alike (dials l) l.up (is_set_up l) l.asked (unready_wait l) (step_served (is_served l) (opening placed)) (step_served (is_served l) (opening after)) (waits kind)
+    (served_alike (is_served l) (opening placed) (opening after) (waits kind)
+    (open_alike (is_told s) back (rounding placed) (rounding after) (waits kind)
+    (rounding_alike (is_some (settings_in config)) s.rounded (holding placed) (holding after) (waits kind)
     (holding_alike (permits_in config) s.permits taking (step_timed s.timeout s.clock placed) (step_timed s.timeout s.clock after) (waits kind)
     (timed_alike s.timeout s.clock placed after (waits kind)
-    (placed_alike (is_outside_of config s line l) (is_outside_of config (shown s kind) line l) (is_awaited s) back kind (shown_fits (is_room s.waiting) (is_told s) (nat_le (configured buffer_size config) (renewals_in_line l + line)) kind))))) e
+    (placed_alike (is_outside_of config s line l) (is_outside_of config (shown s kind) line l) (is_awaited s) back kind (shown_fits (is_room s.waiting) (is_told s) (nat_le (configured buffer_size config) (renewals_in_line l + line)) kind))))))) e

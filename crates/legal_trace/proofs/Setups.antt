@@ -17,7 +17,7 @@ use Rattle.driver_model.specs.Config.{bare_info}
 use Rattle.driver_model.specs.Hearing.{is_watching}
 use Rattle.driver_model.specs.declared.news.LinkFault.TheVariants as fault
 use Rattle.driver_model.specs.Setup.{says_nothing, setup_bytes, setup_shape}
-use Rattle.driver_model.specs.News.{News, silence, connected, refused, overdue, took, came, failed, authorized, denied, deserted, renewed, unrenewed, late, dropped, shut}
+use Rattle.driver_model.specs.News.{News, silence, connected, refused, overdue, took, came, failed, authorized, denied, deserted, renewed, unrenewed, late, unrepeated, dropped, shut}
 use Rattle.driver_model.specs.Shape.{need_of}
 use Rattle.legal_trace.specs.Ledger.{Ledger, Start, Ending, by_opening, is_over, reach, reached, cut, bytes_came, is_full, is_of_setup, setup_count, setup_steps, result_of, last_result, lacks_credentials, setup_result, is_well, is_greeted, is_set_up, error_in, repeats, setup_after, setup_due, setup_message, ending, ending_up, ending_by, ending_unready, ending_alive, ending_asked, is_unreadable, opening_error}
 use Rattle.legal_trace.proofs.Came.{Came, holds_came, bytes_are}
@@ -381,6 +381,7 @@ unready_none l s deserted e = e
 unready_none l s (renewed c) e = refl
 unready_none l s unrenewed e = refl
 unready_none l s (late k) e = refl
+unready_none l s unrepeated e = refl
 unready_none l s dropped e = e
 unready_none l s shut e = e
 

@@ -90,6 +90,7 @@ monitor_no_setup : (who : Owner) → is_of_monitor who ≡ true → is_of_setup 
 monitor_no_setup owner.Monitor e = refl
 monitor_no_setup owner.Setup e = cc
 monitor_no_setup owner.Auth e = cc
+monitor_no_setup owner.Resub e = cc
 monitor_no_setup (owner.Try n round) e = cc
 
 -- so it ends no link

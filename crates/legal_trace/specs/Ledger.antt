@@ -28,7 +28,7 @@ use Rattle.driver_model.specs.declared.outcome.Shape.{Shape}
 use Rattle.driver_model.specs.declared.outcome.Shape.TheVariants.{Single, Confirmation}
 use Rattle.driver_model.specs.declared.outcome.Verdict.{Verdict}
 use Rattle.driver_model.specs.declared.outcome.Verdict.TheVariants as verdict
-use Rattle.driver_model.specs.News.{News, silence, connected, refused, overdue, took, came, failed, authorized, denied, deserted, renewed, unrenewed, late, dropped, shut}
+use Rattle.driver_model.specs.News.{News, silence, connected, refused, overdue, took, came, failed, authorized, denied, deserted, renewed, unrenewed, late, unrepeated, dropped, shut}
 use Rattle.driver_model.specs.Shape.{need_of, verdict_of}
 
 -- a message that started: who owns it, how many items it takes and what they become, and its bytes
@@ -37,30 +37,43 @@ pub record Start : Type 0 where
   pub shape : Shape
   pub bytes : List ℕ
 
--- why a link ends: everything is shut down, or a fault, or its opening failed with this error
+-- why a link ends: everything is shut down, or a fault, or its opening failed with this error, or so did an attempt that another
+-- one follows
 pub data Ending : Type 0 where
   by_shutdown : Ending
   by_fault : LinkFault → Ending
   by_opening : RedisError → Ending
+  by_attempt : RedisError → Ending
+
+-- where another attempt follows, a failed opening is a failed attempt
+abbrev pub lasting : Bool → Ending → Ending
+lasting true why = why
+lasting false by_shutdown = by_shutdown
+lasting false (by_fault f) = by_fault f
+lasting false (by_opening e) = by_attempt e
+lasting false (by_attempt e) = by_attempt e
 
 -- the error that it is, where the opening failed
 abbrev pub failure_of : Ending → Option RedisError
 failure_of by_shutdown = None
 failure_of (by_fault f) = None
 failure_of (by_opening e) = Some e
+failure_of (by_attempt e) = None
 
 -- whether it is a fault of the link, once it was set up
 abbrev pub is_fault : Ending → Bool
 is_fault by_shutdown = false
 is_fault (by_fault f) = true
 is_fault (by_opening e) = false
+is_fault (by_attempt e) = false
 
 -- how a link ended: in which turn, why, and how many of its messages, from the first on, were full then, which is the number
--- of the oldest that was not
+-- of the oldest that was not; and whether it took requests until then
 pub record End : Type 0 where
   pub turn : ℕ
   pub why : Ending
   pub oldest : ℕ
+  pub served : Bool
 
 -- what came on a link that was set up and is to be told: how many items had been dealt before it, and what is told
 pub record Heard : Type 0 where
@@ -83,16 +96,29 @@ pub record Sourced : Type 0 where
 abbrev pub unsourced : Bool → Sourced
 unsourced wanted = record { wanted = wanted; asked = false; given = false; renews = false; renewals = []; over = false; timed = 0; lost = false }
 
+-- what is subscribed again on a link, once that is set up: whether anything is, whether a timer was asked for it, and whether that
+-- fired before it was answered
+pub record Again : Type 0 where
+  pub wanted : Bool
+  pub timed : Bool
+  pub over : Bool
+
+abbrev pub unasked_again : Bool → Again
+unasked_again wanted = record { wanted = wanted; timed = false; over = false }
+
 -- whether its connect was asked for, what is to be said to its server then, what is heard on it beside replies, and its
--- credentials that come of sources; whether the connect succeeded and it has not ended; how it ended; its starts in order; the
--- bytes that were taken from it; the bytes of its unanswered offer; what came behind the last whole value, and whether that value
--- ends it; the items dealt; what came once it was set up and is to be told, how much of it was, and whether its end was told as a
--- push; and what it was told by the turn that runs
+-- credentials that come of sources; what is subscribed again on it; whether no other attempt follows where its opening fails;
+-- whether the connect succeeded and it has not ended; how it ended; its starts in order; the bytes that were taken from it; the
+-- bytes of its unanswered offer; what came behind the last whole value, and whether that value ends it; the items dealt; what came
+-- once it was set up and is to be told, how much of it was, and whether its end was told as a push; and what it was told by the
+-- turn that runs
 pub record Ledger : Type 0 where
   pub asked : Bool
   pub info : RedisConnectionInfo
   pub hearing : Hearing
   pub creds : Sourced
+  pub again : Again
+  pub last : Bool
   pub up : Bool
   pub end : Option End
   pub starts : List Start
@@ -107,7 +133,7 @@ pub record Ledger : Type 0 where
   pub heard : News
 
 abbrev pub blank_ledger : Ledger
-blank_ledger = record { asked = false; info = bare_info; hearing = hearing.Nothing; creds = unsourced false; up = false; end = None; starts = []; taken = []; offer = []; rest = []; strange = false; dealt = []; notices = []; told = 0; parted = false; heard = silence }
+blank_ledger = record { asked = false; info = bare_info; hearing = hearing.Nothing; creds = unsourced false; again = unasked_again false; last = true; up = false; end = None; starts = []; taken = []; offer = []; rest = []; strange = false; dealt = []; notices = []; told = 0; parted = false; heard = silence }
 
 abbrev pub is_over : Ledger → Bool
 is_over l = is_some l.end
@@ -139,6 +165,7 @@ abbrev pub is_of_setup : Owner → Bool
 is_of_setup owner.Setup = true
 is_of_setup (owner.Try n round) = false
 is_of_setup owner.Auth = false
+is_of_setup owner.Resub = false
 is_of_setup owner.Monitor = false
 
 -- how many of these starts are of the setup: they are the first ones
@@ -181,6 +208,7 @@ is_of_monitor owner.Monitor = true
 is_of_monitor owner.Setup = false
 is_of_monitor (owner.Try n round) = false
 is_of_monitor owner.Auth = false
+is_of_monitor owner.Resub = false
 
 -- the number of the first of these starts that does, where the first of them has the number k
 abbrev pub monitor_among : List Start → ℕ → Option ℕ
@@ -203,6 +231,38 @@ is_set_up l = is_greeted l && (not (is_watching l.hearing) || is_answered l (mon
 -- it is up, and set up
 abbrev pub is_ready : Ledger → Bool
 is_ready l = l.up && is_set_up l
+
+-- a start that subscribes again what is subscribed
+abbrev pub is_of_again : Owner → Bool
+is_of_again owner.Resub = true
+is_of_again owner.Setup = false
+is_of_again (owner.Try n round) = false
+is_of_again owner.Auth = false
+is_of_again owner.Monitor = false
+
+-- the number of the first of these starts that does, where the first of them has the number k
+abbrev pub again_among : List Start → ℕ → Option ℕ
+again_among [] k = None
+again_among (s ∷ ss) k = if is_of_again s.owner then Some k else again_among ss (suc k)
+
+abbrev pub again_of : Ledger → Option ℕ
+again_of l = again_among l.starts 0
+
+-- what is subscribed again is answered, whatever that is, or its time is over, or there is nothing
+abbrev pub is_served : Ledger → Bool
+is_served l = not l.again.wanted || (l.again.over || is_answered l (again_of l))
+
+-- it takes requests: it is ready, and what is subscribed again is answered
+abbrev pub is_serving : Ledger → Bool
+is_serving l = is_ready l && is_served l
+
+-- it is ready, and what is subscribed again isn't answered
+abbrev pub is_repeating : Ledger → Bool
+is_repeating l = is_ready l && not (is_served l)
+
+-- that is to start
+abbrev pub again_due : Ledger → Bool
+again_due l = is_repeating l && is_none (again_of l)
 
 -- it was full when so many items had been dealt
 abbrev pub is_full_by : Ledger → ℕ → ℕ → Bool
@@ -250,9 +310,9 @@ bytes_came l piece = values_came (record l { rest = left_over (l.rest ++ piece) 
 abbrev pub dials : Ledger → Bool
 dials l = l.asked && not l.up && not (is_over l)
 
--- a link whose connect failed in this turn: it ends by that alone
+-- a link whose connect failed in this turn: it ends by that alone, and took no requests
 abbrev pub refused_in : Ledger → ℕ → RedisError → Ledger
-refused_in l turn e = record l { end = Some (record { turn = turn; why = by_opening e; oldest = 0 }) }
+refused_in l turn e = record l { end = Some (record { turn = turn; why = lasting l.last (by_opening e); oldest = 0; served = false }) }
 
 -- the first credentials come, for which its setup waits: they are said to its server
 abbrev pub authorized_by : Ledger → Credentials → Ledger
@@ -274,6 +334,10 @@ renewed_by l c = record l { creds = record l.creds { renewals = l.creds.renewals
 abbrev pub unrenewed_by : Ledger → Ledger
 unrenewed_by l = record l { creds = record l.creds { over = true } }
 
+-- what is subscribed again was not answered in time
+abbrev pub unrepeated_by : Ledger → Ledger
+unrepeated_by l = record l { again = record l.again { over = true } }
+
 -- some were not answered in time
 abbrev pub lost_by : Ledger → Ledger
 lost_by l = record l { creds = record l.creds { lost = true } }
@@ -283,6 +347,7 @@ abbrev pub is_of_renewal : Owner → Bool
 is_of_renewal owner.Auth = true
 is_of_renewal owner.Setup = false
 is_of_renewal (owner.Try n round) = false
+is_of_renewal owner.Resub = false
 is_of_renewal owner.Monitor = false
 
 -- how many of these starts do
@@ -346,6 +411,7 @@ with_news l turn deserted = l
 with_news l turn (renewed c) = if may_renew l then renewed_by l c else l
 with_news l turn unrenewed = if l.up then unrenewed_by l else l
 with_news l turn (late k) = if l.up && is_renewal_open l k then lost_by l else l
+with_news l turn unrepeated = if is_repeating l then unrepeated_by l else l
 with_news l turn silence = l
 with_news l turn overdue = l
 with_news l turn (failed f) = l
@@ -422,6 +488,7 @@ ending_up l deserted = None
 ending_up l (renewed c) = None
 ending_up l unrenewed = None
 ending_up l (late k) = None
+ending_up l unrepeated = None
 
 -- what ends a link that is up and not set up: the setup failed, or there are no credentials for it, the time for it is over,
 -- the stream of messages is dropped, everything is shut down, or the link fails
@@ -441,6 +508,7 @@ ending_unready l (authorized c) = None
 ending_unready l (renewed c) = None
 ending_unready l unrenewed = None
 ending_unready l (late k) = None
+ending_unready l unrepeated = None
 
 abbrev pub ending_by : Option RedisError → Option Ending → Option Ending
 ending_by None other = other
@@ -468,6 +536,7 @@ ending_asked l deserted = None
 ending_asked l (renewed c) = None
 ending_asked l unrenewed = None
 ending_asked l (late k) = None
+ending_asked l unrepeated = None
 
 -- what must end the link in the turn that runs, if anything does
 abbrev pub ending : Ledger → Option Ending
@@ -484,32 +553,35 @@ full_count (s ∷ ss) dealt = if nat_le (need_in s.shape dealt) (length dealt) t
 
 -- the link ends
 abbrev pub ended : Ledger → ℕ → Ledger
-ended l turn = record l { up = false; end = Some (record { turn = turn; why = ending_or_shutdown (ending l); oldest = full_count l.starts l.dealt }) }
+ended l turn = record l { up = false; end = Some (record { turn = turn; why = lasting l.last (ending_or_shutdown (ending l)); oldest = full_count l.starts l.dealt; served = is_serving l }) }
 
 -- a line of what is told of a link: its connect is asked for, this is to be said to its server then, whether credentials are to
--- come of sources, and what is heard on it; the turn of that number, with this news for it; a message begins; its unwritten
--- bytes are offered; the next notice is told; a source of credentials is asked for; a timer for new credentials is; it is closed, in that turn; its
--- end is told as a push
+-- come of sources, what is heard on it, whether no other attempt follows where its opening fails, and whether something is
+-- subscribed again on it; the turn of that number, with this news for it; a message begins; its unwritten bytes are offered; the
+-- next notice is told; a source of credentials is asked for; a timer for new credentials is, or one for what is subscribed again;
+-- it is closed, in that turn; its end is told as a push
 pub data Line : Type 0 where
-  asks : RedisConnectionInfo → Bool → Hearing → Line
+  asks : RedisConnectionInfo → Bool → Hearing → Bool → Bool → Line
   hears : ℕ → News → Line
   begins : Start → Line
   offers : List ℕ → Line
   tells : Line
   sources : Line
   times : Line
+  repeats_timed : Line
   ends : ℕ → Line
   parts : Line
 
 -- what one more line makes of it
 abbrev pub noted : Ledger → Line → Ledger
-noted l (asks info wanted hears_what) = record l { asked = true; info = info; hearing = hears_what; creds = unsourced wanted }
+noted l (asks info wanted hears_what last again) = record l { asked = true; info = info; hearing = hears_what; creds = unsourced wanted; again = unasked_again again; last = last }
 noted l (hears turn news) = record (with_news l turn news) { heard = news }
 noted l (begins s) = record l { starts = l.starts ++ s ∷ [] }
 noted l (offers bytes) = record l { offer = bytes }
 noted l tells = record l { told = l.told + 1 }
 noted l sources = record l { creds = record l.creds { asked = true; renews = l.creds.asked } }
 noted l times = record l { creds = record l.creds { timed = l.creds.timed + 1 } }
+noted l repeats_timed = record l { again = record l.again { timed = true } }
 noted l (ends turn) = ended l turn
 noted l parts = record l { parted = true }
 
@@ -558,16 +630,18 @@ is_cut (Some end) = is_fault end.why
 
 -- where a line may stand: a link is asked for once; its messages have bytes, and start while it is up; it is offered all
 -- its unwritten bytes at once, where no offer is unanswered; something is told that came; a source of credentials is asked for
--- that is to be, and a timer for credentials that were to be told; it ends where something must end it; and that a fault ended
+-- that is to be, and a timer for credentials that were to be told, or for what is to be subscribed again, once; it ends where
+-- something must end it; and that a fault ended
 -- it is told once
 abbrev pub MayNote : Ledger → Line → Type 0
-MayNote l (asks info wanted hears_what) = l.asked ≡ false
+MayNote l (asks info wanted hears_what last again) = l.asked ≡ false
 MayNote l (hears turn news) = IsWithin l news
 MayNote l (begins s) = (l.up ≡ true) × (s.bytes ≢ [])
 MayNote l (offers bytes) = (l.up ≡ true) × (l.offer ≡ []) × (bytes ≡ unwritten l) × (bytes ≢ [])
 MayNote l tells = is_some (next_notice l) ≡ true
 MayNote l sources = source_due l ≡ true
 MayNote l times = l.creds.timed < renewals_asked l
+MayNote l repeats_timed = (again_due l ≡ true) × (l.again.timed ≡ false)
 MayNote l (ends turn) = (why : Ending) × (ending l ≡ Some why)
 MayNote l parts = (is_cut l.end ≡ true) × (l.parted ≡ false)
 

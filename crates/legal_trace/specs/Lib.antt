@@ -1,5 +1,7 @@
 pub mod Ledger
 pub mod Story
+pub mod Managers
+pub mod Again
 pub mod Book
 pub mod Steps
 pub mod Owed

@@ -1,5 +1,5 @@
 -- What an open submission is owed: its outcome, with its cause.
-use Rattle.std.specs.Prelude.{ℕ, ◌==◌, length, Option, Some, None, if◌then◌else◌}
+use Rattle.std.specs.Prelude.{ℕ, ◌==◌, Bool, ◌&&◌, not, length, Option, Some, None, if◌then◌else◌}
 use Rattle.redis_error.specs.declared.fault_kind.FaultKind.TheVariants as kind
 use Rattle.redis_error.specs.declared.redis_error.RedisError.{RedisError}
 use Rattle.redis_error.specs.declared.redis_error.RedisError.TheVariants as error
@@ -8,7 +8,7 @@ use Rattle.driver_model.specs.declared.outcome.Outcome.TheVariants as outcome
 use Rattle.driver_model.specs.declared.outcome.Shape.{Shape}
 use Rattle.driver_model.specs.declared.outcome.Shape.TheVariants.{Single, Pipeline, Confirmation}
 use Rattle.driver_model.specs.Shape.{verdict_of, outcome_of}
-use Rattle.legal_trace.specs.Ledger.{Ledger, End, Ending, by_shutdown, by_fault, by_opening, cut, fault_error, is_full}
+use Rattle.legal_trace.specs.Ledger.{Ledger, End, Ending, by_shutdown, by_fault, by_opening, by_attempt, cut, fault_error, is_full}
 use Rattle.legal_trace.specs.Story.{Story, Try, bytes_of, shape, last_of}
 use Rattle.legal_trace.specs.Book.{Book}
 
@@ -20,6 +20,7 @@ oldest_error (by_fault f) (Pipeline offset count transaction) = error.Closed
 oldest_error (by_fault f) Confirmation = fault_error f
 oldest_error by_shutdown of_shape = error.Closed
 oldest_error (by_opening e) of_shape = error.Closed
+oldest_error (by_attempt e) of_shape = error.Closed
 
 -- the error of a message that was not full when its link ended: every other one gets the closed connection
 abbrev pub cut_off : End → ℕ → Shape → RedisError
@@ -33,20 +34,26 @@ cut_off_if (Some end) k of_shape = Some (outcome.Fault (cut_off end k of_shape))
 abbrev pub owed_to_message : Ledger → ℕ → Shape → Option Outcome
 owed_to_message l k of_shape = if is_full l k then Some (outcome_of (verdict_of of_shape (cut l k of_shape))) else cut_off_if l.end k of_shape
 
--- the error of a submission without a message: that of the opening where this failed, and else the closed connection
-abbrev pub unstarted_error : Ending → RedisError
-unstarted_error by_shutdown = error.Closed
-unstarted_error (by_fault f) = error.Closed
-unstarted_error (by_opening e) = e
+-- what a submission without a message comes to: the error of the opening where this failed, nothing where another attempt follows,
+-- and else the closed connection
+abbrev pub owed_by : Ending → Option Outcome
+owed_by by_shutdown = Some (outcome.Fault error.Closed)
+owed_by (by_fault f) = Some (outcome.Fault error.Closed)
+owed_by (by_opening e) = Some (outcome.Fault e)
+owed_by (by_attempt e) = None
 
--- what a submission without a message comes to, where its link has ended
+-- so it is where its link has ended
 abbrev pub owed_unstarted : Option End → Option Outcome
 owed_unstarted None = None
-owed_unstarted (Some end) = Some (outcome.Fault (unstarted_error end.why))
+owed_unstarted (Some end) = owed_by end.why
+
+-- and where everything is shut down while its link isn't asked for, it is the closed connection
+abbrev pub owed_waiting : Bool → Ledger → Option Outcome
+owed_waiting shut l = if shut && not l.asked then Some (outcome.Fault error.Closed) else owed_unstarted l.end
 
 -- what a submission comes to by its last try
 abbrev pub owed_to_try : Book → Story → Option Try → Option Outcome
-owed_to_try b s None = owed_unstarted (b.link s.link).end
+owed_to_try b s None = owed_waiting b.shut (b.link s.link)
 owed_to_try b s (Some t) = owed_to_message (b.link t.link) t.message (shape s)
 
 -- what an open submission is owed, if it is: where it came after the shutdown, the closed connection; where it needs RESP3

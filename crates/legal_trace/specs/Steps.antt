@@ -5,14 +5,15 @@ use Rattle.driver_model.specs.declared.action.WaitKind.TheVariants as wait
 use Rattle.driver_model.specs.declared.config.Config.{Config}
 use Rattle.driver_model.specs.Config.{permits, buffer_size, boundary}
 use Rattle.driver_model.specs.Shape.{permits_for}
-use Rattle.legal_trace.specs.Ledger.{Ledger, dials, is_set_up, lacks_credentials, renewal_due, unwritten}
+use Rattle.legal_trace.specs.Ledger.{Ledger, dials, is_served, is_set_up, lacks_credentials, renewal_due, unwritten}
 use Rattle.legal_trace.specs.Story.{Story, has_place, is_awaited, is_told, is_unstarted, shape}
-use Rattle.legal_trace.specs.Book.{Book}
+use Rattle.legal_trace.specs.Book.{Book, has_generations}
 
--- it waits; it takes so many permits; a timer of so many milliseconds is asked for it; it is answered with Nil at its place;
+-- it waits; its round begins; it takes so many permits; a timer of so many milliseconds is asked for it; it is answered with Nil at its place;
 -- its message starts; nothing, since its link has ended
 pub data Step : Type 0 where
   waits : WaitKind → Step
+  rounds : Step
   takes : ℕ → Step
   asks : ℕ → Step
   tells : Step
@@ -22,6 +23,7 @@ pub data Step : Type 0 where
 -- whether a step is to be made
 abbrev pub is_due : Step → Bool
 is_due (waits kind) = false
+is_due rounds = true
 is_due (takes count) = true
 is_due (asks ms) = true
 is_due tells = true
@@ -115,10 +117,21 @@ step_holding None held taking next = next
 step_holding (Some limit) zero taking next = taking limit
 step_holding (Some limit) (suc held) taking next = next
 
+-- where rounds are shown, and whether that of this one was: it begins before all else
+abbrev pub step_rounding : Bool → Bool → Step → Step
+step_rounding true false next = rounds
+step_rounding true true next = next
+step_rounding false rounded next = next
+
 -- whether it was told, and what else it does
 abbrev pub step_open : Bool → Bool → Step → Step
 step_open true held next = starts_or_waits held
 step_open false held next = next
+
+-- on a link that is set up what is subscribed again there is to be answered first
+abbrev pub step_served : Bool → Step → Step
+step_served true next = next
+step_served false next = waits wait.Resubscribe
 
 -- what is waited for on a link that is up and not set up
 abbrev pub unready_wait : Ledger → WaitKind
@@ -128,9 +141,15 @@ unready_wait l = if lacks_credentials l then wait.Creds else wait.Setup
 abbrev pub step_ready : Book → ℕ → Story → Step
 step_ready b n s =
     let held = is_held_back b (b.link s.link) in
-    step_open (is_told s) held
+    step_served (is_served (b.link s.link)) (step_open (is_told s) held
+    (step_rounding (has_generations b) s.rounded
     (step_holding (permits_in b.config) s.permits (λ limit. step_taking (free_permits b s.link limit) (permits_for (shape s) limit))
-    (step_timed s.timeout s.clock (step_placed (is_outside b n) (is_awaited s) held)))
+    (step_timed s.timeout s.clock (step_placed (is_outside b n) (is_awaited s) held)))))
+
+-- and on one that isn't up: nothing where it has ended, and until it is asked for the submission waits for that
+abbrev pub step_down : Bool → Step
+step_down true = nothing
+step_down false = waits wait.Backoff
 
 -- the next step of submission n
 abbrev pub next_step : Book → ℕ → Step
@@ -139,4 +158,4 @@ next_step b n =
     let l = b.link s.link in
     if dials l then waits wait.Connect
     else if l.up then (if is_set_up l then step_ready b n s else waits (unready_wait l))
-    else nothing
+    else step_down l.asked

@@ -15,25 +15,27 @@ pub record Try : Type 0 where
   pub message : ℕ
 
 -- the submission itself, whether it came after everything was shut down, and whether it needs RESP3 and its link's server is
--- told another protocol; the link that it goes to; within how many milliseconds it is to be answered, if within any; the
--- permits that it holds; the timer that was asked for it, and whether that fired while it was open; its messages that
--- started, in order; the wait that was shown and stands; its outcomes; and whether its caller has gone
+-- told another protocol; the generation that it belongs to, and the link that it goes to; within how many milliseconds it is to be answered, if within any; the
+-- permits that it holds; the timer that was asked for it, and whether that fired while it was open; whether its round has begun; its
+-- messages that started, in order; the wait that was shown and stands; its outcomes; and whether its caller has gone
 pub record Story : Type 0 where
   pub submission : Option Submission
   pub late : Bool
   pub unspoken : Bool
+  pub generation : ℕ
   pub link : ℕ
   pub timeout : Option ℕ
   pub permits : ℕ
   pub clock : Option ℕ
   pub overdue : Bool
+  pub rounded : Bool
   pub tries : List Try
   pub waiting : Option WaitKind
   pub outcomes : List Outcome
   pub cancelled : Bool
 
 abbrev pub blank_story : Story
-blank_story = record { submission = None; late = false; unspoken = false; link = 0; timeout = None; permits = 0; clock = None; overdue = false; tries = []; waiting = None; outcomes = []; cancelled = false }
+blank_story = record { submission = None; late = false; unspoken = false; generation = 0; link = 0; timeout = None; permits = 0; clock = None; overdue = false; rounded = false; tries = []; waiting = None; outcomes = []; cancelled = false }
 
 -- handed in, and neither answered nor cancelled
 abbrev pub is_open : Story → Bool
@@ -88,8 +90,12 @@ abbrev pub is_unstarted : Story → Bool
 is_unstarted s = (length s.tries == 0) && (is_open s || is_told s)
 
 -- it is handed in
-abbrev pub handed_in : Story → Submission → Bool → Bool → ℕ → Option ℕ → Story
-handed_in s what late unspoken link timeout = record s { submission = Some what; late = late; unspoken = unspoken; link = link; timeout = timeout }
+abbrev pub handed_in : Story → Submission → Bool → Bool → ℕ → ℕ → Option ℕ → Story
+handed_in s what late unspoken generation link timeout = record s { submission = Some what; late = late; unspoken = unspoken; generation = generation; link = link; timeout = timeout }
+
+-- it goes to the next link, where it begins anew: its round has not begun, it holds no permits, and its wait is to be shown
+abbrev pub carried : Story → ℕ → Story
+carried s link = record s { link = link; permits = 0; rounded = false; waiting = None }
 
 -- its caller goes: while it is open, this ends it, and its permits are free
 abbrev pub left : Story → Story
@@ -102,6 +108,10 @@ holds s count = record s { permits = count }
 -- that timer was asked for it
 abbrev pub clocked : Story → ℕ → Story
 clocked s t = record s { clock = Some t }
+
+-- its round begins
+abbrev pub rounds : Story → Story
+rounds s = record s { rounded = true; waiting = None }
 
 -- its timer fires
 abbrev pub fires : Story → Story

@@ -28,14 +28,14 @@ use Rattle.link_laws.proofs.TiedLink.{IsPacked, TiedLink, asked_tied, begun_tied
 
 -- the ledger of a link on which a greeting has started
 abbrev greeted_ledger : Hearing → RedisConnectionInfo → Start → Ledger
-greeted_ledger h info s = noted (noted (noted blank_ledger (asks info false h)) (hears 1 connected)) (begins s)
+greeted_ledger h info s = noted (noted (noted blank_ledger (asks info false h true false)) (hears 1 connected)) (begins s)
 
 -- it is tied to the link
 greeting_tied : (name : ℕ → Owner) (h : Hearing) (info : RedisConnectionInfo) (size boundary id : ℕ) (s : Start) → name id ≡ s.owner → IsPacked (greeting_of id s) → TiedLink name (greeted_ledger h info s) (greeting_link size boundary id s)
 greeting_tied name h info size boundary id s owns some =
-    let l = noted (noted blank_ledger (asks info false h)) (hears 1 connected) in
+    let l = noted (noted blank_ledger (asks info false h true false)) (hears 1 connected) in
     let x = fresh size boundary in
-    let k : TiedLink name l x = connected_tied name (noted blank_ledger (asks info false h)) x 1 (asked_tied name blank_ledger info false h x (fresh_tied name size boundary)) in
+    let k : TiedLink name l x = connected_tied name (noted blank_ledger (asks info false h true false)) x 1 (asked_tied name blank_ledger info false h true false x (fresh_tied name size boundary)) in
     subst (λ (who : Owner). TiedLink name (noted l (begins (record s { owner = who }))) (greeting_link size boundary id s)) owns (begun_tied name l x (greeting_of id s) some k)
 
 -- where it is the one that sets the link up, both hear the same

@@ -8,6 +8,7 @@ use Rattle.resp_read.specs.Grammar.{max_depth}
 use Rattle.resp_read.specs.Values.{values, left_over, is_spoiled}
 use Rattle.resp_read.proofs.ValueLaws.{values-empty}
 use Rattle.redis_error.specs.declared.redis_error.RedisError.TheVariants as error
+use Rattle.driver_model.specs.declared.outcome.Outcome.TheVariants as outcome
 use Rattle.driver_model.specs.declared.action.Owner.{Owner}
 use Rattle.driver_model.specs.declared.news.LinkFault.{LinkFault}
 use Rattle.driver_model.specs.declared.news.LinkFault.TheVariants as fault
@@ -26,8 +27,9 @@ use Rattle.link_core.specs.Dealing.{Dealing}
 use Rattle.link_core.specs.Link.{Reading, fresh, is_full, enqueued, started_all, offered_of, wrote_of, cancelled, emptied, piece_read, read_on, read_with, closed_all}
 use Rattle.link_core.specs.Outbox.{can_offer}
 use Rattle.link_core.specs.Waiting.{is_wanted, without}
-use Rattle.legal_trace.specs.Ledger.{Ledger, reach, Ending, by_shutdown, by_fault, Line, asks, hears, begins, offers, ends, blank_ledger, bytes_came, ending, ending_up, ended, is_set_up, is_unreadable, monitor_message, IsWithin, values_came, noted, noted_each, ledger, AllNoted, LinkLegal}
-use Rattle.legal_trace.specs.Owed.{unstarted_error}
+use Rattle.legal_trace.specs.Ledger.{Ledger, reach, Ending, lasting, by_shutdown, by_fault, Line, asks, hears, begins, offers, ends, blank_ledger, bytes_came, ending, ending_up, ended, is_set_up, is_unreadable, monitor_message, IsWithin, values_came, noted, noted_each, ledger, AllNoted, LinkLegal}
+use Rattle.legal_trace.specs.Owed.{owed_by}
+use Rattle.legal_trace.proofs.Endings.{lasting_fault, lasting_shutdown}
 use Rattle.legal_trace.proofs.Ledgers.{noted_append, may_append}
 use Rattle.legal_trace.proofs.Came.{Came, bytes_are, grown, holds_bytes, holds_came}
 use Rattle.legal_trace.proofs.Monitors.{is_watched, unwatched, watched_begins, watched_grows}
@@ -117,12 +119,12 @@ Sound name r = GoesOn name r ⊎ ((r.over ≡ true) × ((l : Ledger) × IsOver n
 --
 -- where its server isn't put into monitor mode
 plain_live : (name : ℕ → Owner) (h : Hearing) (size boundary : ℕ) → is_watching h ≡ false
-    → IsLive name (noted (noted blank_ledger (asks bare_info false h)) (hears 1 connected)) (record { link = fresh size boundary; hearing = h; over = false; turn = 1; lines = opening h; settled = []; unstarted = [] })
+    → IsLive name (noted (noted blank_ledger (asks bare_info false h true false)) (hears 1 connected)) (record { link = fresh size boundary; hearing = h; over = false; turn = 1; lines = opening h; settled = []; unstarted = [] })
 plain_live name h size boundary plain = record {
   told = record { told = refl; stands = (refl, (tt, tt)) };
-  lives = record { bare = refl; unasked = refl; watched = unwatched (noted (noted blank_ledger (asks bare_info false h)) (hears 1 connected)) plain; up = refl; lives = refl; unspoiled = values-empty.2; tame = refl };
+  lives = record { bare = refl; unasked = refl; watched = unwatched (noted (noted blank_ledger (asks bare_info false h true false)) (hears 1 connected)) plain; up = refl; lives = refl; unspoiled = values-empty.2; tame = refl };
   heard_is = refl;
-  tied = connected_tied name (noted blank_ledger (asks bare_info false h)) (fresh size boundary) 1 (asked_tied name blank_ledger bare_info false h (fresh size boundary) (fresh_tied name size boundary));
+  tied = connected_tied name (noted blank_ledger (asks bare_info false h true false)) (fresh size boundary) 1 (asked_tied name blank_ledger bare_info false h true false (fresh size boundary) (fresh_tied name size boundary));
   packed = tt;
   cuts = tt;
   none = refl;
@@ -349,7 +351,7 @@ record IsEnding (name : ℕ → Owner) (l : Ledger) (r : Run) : Type 0 where
   pub cuts : AreCuts name l.starts l.dealt r.settled
 
 -- the link ends, and what it settles of its row is owed
-over_sound : (name : ℕ → Owner) (l : Ledger) (r : Run) (rows : List Settled) (why : Ending) → ending l ≡ Some why → unstarted_error why ≡ error.Closed → AllByRecursion (IsOwed name (ended l r.turn)) rows → IsEnding name l r
+over_sound : (name : ℕ → Owner) (l : Ledger) (r : Run) (rows : List Settled) (why : Ending) → ending l ≡ Some why → owed_by (lasting l.last why) ≡ Some (outcome.Fault error.Closed) → AllByRecursion (IsOwed name (ended l r.turn)) rows → IsEnding name l r
     → Sound name (over_with r (emptied (settling r) (rows ++ queue_closed r.link.queue)))
 over_sound name l r rows why ends_so closes owed h = inr (
   refl,
@@ -372,11 +374,11 @@ faulted_sound : (name : ℕ → Owner) (l : Ledger) (r : Run) (f : LinkFault) �
 faulted_sound name l r f ends_so h =
     let felt_so = felt r.hearing f in
     let ends_felt : ending l ≡ Some (by_fault felt_so) = ends_so ∙ ap (λ (x : Hearing). Some (by_fault (felt x f))) h.heard_is in
-    over_sound name l r (row_hit felt_so r.link.row) (by_fault felt_so) ends_felt refl (row_hit_owed name l r.link r.turn felt_so ends_felt h.lives h.tied) h
+    over_sound name l r (row_hit felt_so r.link.row) (by_fault felt_so) ends_felt (ap owed_by (lasting_fault l.last felt_so)) (row_hit_owed name l r.link r.turn felt_so ends_felt h.lives h.tied) h
 
 -- the link is shut down
 closed_sound : (name : ℕ → Owner) (l : Ledger) (r : Run) → ending l ≡ Some by_shutdown → IsEnding name l r → Sound name (over_with r (closed_all (settling r)))
-closed_sound name l r ends_so h = over_sound name l r (row_closed r.link.row) by_shutdown ends_so refl (row_closed_owed name l r.link r.turn ends_so h.lives h.tied) h
+closed_sound name l r ends_so h = over_sound name l r (row_closed r.link.row) by_shutdown ends_so (ap owed_by (lasting_shutdown l.last)) (row_closed_owed name l r.link r.turn ends_so h.lives h.tied) h
 
 -- news that ends a link that is up and set up
 ends_up : (l : Ledger) (news : News) (why : Ending) → Lives l → ending_up l news ≡ Some why → ending (record l { heard = news }) ≡ Some why

@@ -21,8 +21,9 @@ use Rattle.link_core.specs.declared.message.Settled.{Settled}
 use Rattle.link_core.specs.Ends.{failed_by, error_of, hit_by, row_closed, row_hit, queue_closed}
 use Rattle.link_core.specs.Link.{LinkState, Reading, piece_read}
 use Rattle.link_core.specs.Row.{lack_of, lack_of_row}
-use Rattle.legal_trace.specs.Ledger.{Start, fault_error, hears, noted, End, Ending, by_shutdown, by_fault, Ledger, reach, ending, ending_or_shutdown, full_count, ended, cut, is_full}
-use Rattle.legal_trace.specs.Owed.{oldest_error, unstarted_error, cut_off, owed_to_message, owed_unstarted}
+use Rattle.legal_trace.specs.Ledger.{Start, fault_error, hears, noted, End, Ending, by_shutdown, by_fault, Ledger, reach, ending, ending_or_shutdown, lasting, is_ready, full_count, ended, cut, is_full}
+use Rattle.legal_trace.proofs.Endings.{lasting_oldest}
+use Rattle.legal_trace.specs.Owed.{oldest_error, owed_by, cut_off, owed_to_message, owed_unstarted}
 use Rattle.link_laws.specs.Settles.{StandsAs, IsOwed, IsOwedUnstarted}
 use Rattle.link_laws.proofs.Rows.{Open, untouched_each, open_rows, open_list, StandFrom, rows_stand, unfilled}
 use Rattle.link_laws.proofs.Dealt.{IsCutOf, AreCuts, all_append}
@@ -73,7 +74,7 @@ is_not_full l k far = not_le_test _ _ (subst (λ (n : ℕ). length l.dealt < rea
 
 -- how a link ends
 abbrev pub end_of : Ledger → ℕ → End
-end_of l turn = record { turn = turn; why = ending_or_shutdown (ending l); oldest = full_count l.starts l.dealt }
+end_of l turn = record { turn = turn; why = lasting l.last (ending_or_shutdown (ending l)); oldest = full_count l.starts l.dealt; served = is_ready l }
 
 -- a message that wasn't full when its link ended is cut off
 cut_off_owed : (l : Ledger) (turn k : ℕ) (s : Start) (of_shape : Shape) (e : RedisError) → slice_get l.starts k ≡ Some s → full_count l.starts l.dealt ≤ k → cut_off (end_of l turn) k of_shape ≡ e
@@ -102,7 +103,7 @@ first_owed : (name : ℕ → Owner) (l : Ledger) (turn : ℕ) (why : Ending) (e 
     → AllByRecursion (IsOwed name (ended l turn)) (failed_by e.awaited e.id x)
 first_owed name l turn why e x ends is place =
     let k = full_count l.starts l.dealt in
-    let off : cut_off (end_of l turn) k e.shape ≡ x = taken_if (k == k) _ _ (eq_test k k refl) ∙ ap (λ w. oldest_error (ending_or_shutdown w) e.shape) ends ∙ is in
+    let off : cut_off (end_of l turn) k e.shape ≡ x = taken_if (k == k) _ _ (eq_test k k refl) ∙ ap (λ w. oldest_error (lasting l.last (ending_or_shutdown w)) e.shape) ends ∙ lasting_oldest l.last why e.shape ∙ is in
     failed_owed name (ended l turn) e.awaited e.id k e.shape x place (cut_off_owed l turn k place.start e.shape x place.stands (omega arith) off)
 
 -- a fault is the same error to a link and in a trace
@@ -147,12 +148,12 @@ row_hit_owed name l s turn f ends lives h = hit_owed name l turn f s.row ends (r
 pub row_closed_owed : (name : ℕ → Owner) (l : Ledger) (s : LinkState) (turn : ℕ) → ending l ≡ Some by_shutdown → l.end ≡ None → TiedLink name l s → AllByRecursion (IsOwed name (ended l turn)) (row_closed s.row)
 row_closed_owed name l s turn ends lives h = closed_owed name l turn s.row ends (rows_from name l s.row (h.row lives))
 
--- a message that waits is owed the error of the opening, where this failed, and else the closed connection
-waiting_owed : (l : Ledger) (turn : ℕ) (why : Ending) (e : RedisError) → ending l ≡ Some why → unstarted_error why ≡ e → owed_unstarted (ended l turn).end ≡ Some (outcome.Fault e)
-waiting_owed l turn why e ends is = ap (λ w. Some (outcome.Fault (unstarted_error (ending_or_shutdown w)))) ends ∙ ap (λ x. Some (outcome.Fault x)) is
+-- a message that waits is owed what the end of its link owes it
+waiting_owed : (l : Ledger) (turn : ℕ) (why : Ending) (e : RedisError) → ending l ≡ Some why → owed_by (lasting l.last why) ≡ Some (outcome.Fault e) → owed_unstarted (ended l turn).end ≡ Some (outcome.Fault e)
+waiting_owed l turn why e ends is = ap (λ w. owed_by (lasting l.last (ending_or_shutdown w))) ends ∙ is
 
 -- those that wait for a link that was up get the closed connection
-pub queue_owed : (l : Ledger) (turn : ℕ) (why : Ending) (queue : List Queued) → ending l ≡ Some why → unstarted_error why ≡ error.Closed → AllByRecursion (IsOwedUnstarted (ended l turn)) (queue_closed queue)
+pub queue_owed : (l : Ledger) (turn : ℕ) (why : Ending) (queue : List Queued) → ending l ≡ Some why → owed_by (lasting l.last why) ≡ Some (outcome.Fault error.Closed) → AllByRecursion (IsOwedUnstarted (ended l turn)) (queue_closed queue)
 queue_owed l turn why [] ends is = tt
 queue_owed l turn why (q ∷ qs) ends is =
     all_append (IsOwedUnstarted (ended l turn)) (failed_by q.awaited q.id error.Closed) (queue_closed qs)

@@ -12,7 +12,7 @@ use Rattle.driver_model.specs.declared.action.Owner.{Owner}
 use Rattle.driver_model.specs.declared.hearing.Hearing.{Hearing}
 use Rattle.redis_error.specs.declared.fault_kind.FaultKind.{FaultKind}
 use Rattle.redis_error.specs.declared.redis_error.RedisError.TheVariants as error
-use Rattle.driver_model.specs.News.{News, silence, connected, refused, overdue, took, came, failed, authorized, denied, deserted, renewed, unrenewed, late, dropped, shut}
+use Rattle.driver_model.specs.News.{News, silence, connected, refused, overdue, took, came, failed, authorized, denied, deserted, renewed, unrenewed, late, unrepeated, dropped, shut}
 use Rattle.link_core.specs.declared.message.Entry.{Entry}
 use Rattle.link_core.specs.declared.message.Queued.{Queued}
 use Rattle.link_core.specs.declared.message.Settled.{Settled}
@@ -22,7 +22,7 @@ use Rattle.link_core.specs.Link.{LinkState, Starting, fresh, entry_of, enqueued,
 use Rattle.link_core.specs.Outbox.{can_offer}
 use Rattle.link_core.specs.Row.{silent, silenced}
 use Rattle.link_core.specs.Waiting.{without}
-use Rattle.legal_trace.specs.Ledger.{Start, End, Ledger, Sourced, unsourced, ended, asks, hears, begins, offers, sources, times, ends, authorized_by, awaits_credentials, may_renew, renewed_by, unrenewed_by, lost_by, is_renewal_open, blank_ledger, is_over, dials, refused_in, reach, bytes_came, values_came, noted, noted_each, joined, unwritten, IsOffered, MayNote, AllNoted}
+use Rattle.legal_trace.specs.Ledger.{Start, End, Ledger, Sourced, unsourced, ended, asks, hears, begins, offers, sources, times, repeats_timed, ends, is_repeating, unrepeated_by, authorized_by, awaits_credentials, may_renew, renewed_by, unrenewed_by, lost_by, is_renewal_open, blank_ledger, is_over, dials, refused_in, reach, bytes_came, values_came, noted, noted_each, joined, unwritten, IsOffered, MayNote, AllNoted}
 use Rattle.legal_trace.proofs.Came.{bytes_are, holds_came, value_keeps, values_keep}
 use Rattle.legal_trace.proofs.Ledgers.{joined_more}
 use Rattle.link_laws.specs.Starts.{start_from, begun, starting, begins_each}
@@ -109,6 +109,18 @@ sourced_tied name l s h = said_tied name l s l.info (record l.creds { asked = tr
 pub timed_tied : (name : ℕ → Owner) (l : Ledger) (s : LinkState) → TiedLink name l s → TiedLink name (noted l times) s
 timed_tied name l s h = said_tied name l s l.info (record l.creds { timed = l.creds.timed + 1 }) l.heard h
 
+-- and one for what is subscribed again
+pub repeats_timed_tied : (name : ℕ → Owner) (l : Ledger) (s : LinkState) → TiedLink name l s → TiedLink name (noted l repeats_timed) s
+repeats_timed_tied name l s h = record { sent = h.sent; offer = h.offer; bound = h.bound; rest = h.rest; broken = h.broken; started = h.started; within = h.within; bytes = h.bytes; row = h.row }
+
+-- the time for that is over
+pub unrepeated_tied : (name : ℕ → Owner) (l : Ledger) (s : LinkState) (turn : ℕ) → TiedLink name l s → TiedLink name (noted l (hears turn unrepeated)) s
+unrepeated_tied name l s turn h =
+    let k = told_tied name l s l.asked l.up unrepeated h in
+    chosen (λ (x : Ledger). TiedLink name (record x { heard = unrepeated }) s) (is_repeating l) (unrepeated_by l) l
+    (λ t. record { sent = k.sent; offer = k.offer; bound = k.bound; rest = k.rest; broken = k.broken; started = k.started; within = k.within; bytes = k.bytes; row = k.row })
+    (λ f. k)
+
 -- credentials come
 pub authorized_tied : (name : ℕ → Owner) (l : Ledger) (s : LinkState) (turn : ℕ) (c : Credentials) → TiedLink name l s → TiedLink name (noted l (hears turn (authorized c))) s
 authorized_tied name l s turn c h =
@@ -137,9 +149,8 @@ pub late_tied : (name : ℕ → Owner) (l : Ledger) (s : LinkState) (turn k : �
 late_tied name l s turn k h = creds_tied name l s (l.up && is_renewal_open l k) (lost_by l).creds (late k) h
 
 -- its connect is asked for
-pub asked_tied : (name : ℕ → Owner) (l : Ledger) (info : RedisConnectionInfo) (wanted : Bool) (what : Hearing) (s : LinkState) → TiedLink name l s → TiedLink name (noted l (asks info wanted what)) s
-asked_tied name l info wanted what s h =
-    let m : Ledger = record l { info = info; creds = unsourced wanted } in
+pub asked_tied : (name : ℕ → Owner) (l : Ledger) (info : RedisConnectionInfo) (wanted : Bool) (what : Hearing) (last again : Bool) (s : LinkState) → TiedLink name l s → TiedLink name (noted l (asks info wanted what last again)) s
+asked_tied name l info wanted what last again s h =
     let k = said_tied name l s info (unsourced wanted) l.heard h in
     record { sent = k.sent; offer = k.offer; bound = k.bound; rest = k.rest; broken = k.broken; started = k.started; within = k.within; bytes = k.bytes; row = k.row }
 
@@ -177,6 +188,7 @@ unheard_tied name l s turn deserted f h = told_tied name l s l.asked l.up desert
 unheard_tied name l s turn (renewed c) f h = renewed_tied name l s turn c h
 unheard_tied name l s turn unrenewed f h = unrenewed_tied name l s turn h
 unheard_tied name l s turn (late k) f h = late_tied name l s turn k h
+unheard_tied name l s turn unrepeated f h = unrepeated_tied name l s turn h
 unheard_tied name l s turn dropped f h = told_tied name l s l.asked l.up dropped h
 unheard_tied name l s turn shut f h = told_tied name l s l.asked l.up shut h
 

@@ -27,7 +27,7 @@ greeting_link size boundary id s = begun (fresh size boundary) (greeting_of id s
 
 -- its ledger when bytes have come
 abbrev pub greeting_ledger : Hearing → RedisConnectionInfo → Start → List ℕ → Ledger
-greeting_ledger h info s piece = ledger (asks info false h ∷ hears 1 connected ∷ begins s ∷ hears 2 (came piece) ∷ [])
+greeting_ledger h info s piece = ledger (asks info false h true false ∷ hears 1 connected ∷ begins s ∷ hears 2 (came piece) ∷ [])
 
 -- a notice stands behind some settled message
 abbrev pub IsBehind : NoticeAt → Type 0

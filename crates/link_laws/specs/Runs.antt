@@ -50,7 +50,7 @@ okay_bytes = codes "+OK\r\n"
 
 -- a link is asked for in turn 0, and its connect succeeds in turn 1
 abbrev pub opening : Hearing → List Line
-opening h = asks bare_info false h ∷ hears 1 connected ∷ []
+opening h = asks bare_info false h true false ∷ hears 1 connected ∷ []
 
 -- MONITOR starts, is taken, and is answered
 abbrev pub watching : List Line

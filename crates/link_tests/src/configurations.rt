@@ -1,5 +1,5 @@
 use containers::Bytes;
-use driver_model::Config;
+use driver_model::{AddressWords, Config, ConnectionWords};
 use std::alloc::{AllocError, Global};
 
 /// A configuration with that address alone.
@@ -25,18 +25,18 @@ fn settings(config: &Config) -> Settings {
     (
         config.connect_timeout(),
         config.response_timeout(),
-        config.limit,
+        config.permits(),
         config.buffer_size(),
         config.boundary(),
         config.hears_pushes(),
         config.wants_credentials(),
-        config.lib,
+        config.address().lib,
     )
 }
 
 /// Whether a configuration has that address and these settings.
 fn has(config: &Config, url: &[u8], wanted: Settings) -> bool {
-    config.url.as_slice() == url && settings(config) == wanted
+    config.address().url.as_slice() == url && settings(config) == wanted
 }
 
 const NOTHING_GIVEN: Settings = (Some(1000), Some(500), None, 50, 8192, false, false, None);
@@ -51,16 +51,22 @@ const ALL_GIVEN: Settings = (Some(5), None, Some(3), 7, 0, true, true, Some(fals
 
 /// A configuration of which all is given.
 fn full(alloc: Global) -> Result<Config, AllocError> {
-    let mut config = plain(alloc, b"redis://h")?;
-    config.connect = Some(Some(5));
-    config.response = Some(None);
-    config.limit = Some(3);
-    config.buffer = Some(7);
-    config.boundary = Some(0);
-    config.push = Some(true);
-    config.creds = Some(true);
-    config.lib = Some(false);
-    Ok(config)
+    let url = Bytes::from_slice(alloc, b"redis://h")?;
+    Ok(Config::Single {
+        address: AddressWords {
+            url,
+            lib: Some(false),
+        },
+        connection: ConnectionWords {
+            connect: Some(Some(5)),
+            response: Some(None),
+            limit: Some(3),
+            buffer: Some(7),
+            boundary: Some(0),
+            push: Some(true),
+            creds: Some(true),
+        },
+    })
 }
 
 /// Whether a copy of a configuration has that address and these settings.

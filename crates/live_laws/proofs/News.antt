@@ -9,8 +9,8 @@ use Rattle.driver_model.specs.declared.action.SourceUse.{SourceUse}
 use Rattle.driver_model.specs.declared.event.EventKind.{EventKind}
 use Rattle.driver_model.specs.declared.event.EventKind.TheVariants as event
 use Rattle.driver_model.specs.declared.news.LinkFault.TheVariants as fault
-use Rattle.driver_model.specs.News.{News, silence, connected, refused, overdue, took, came, failed, authorized, denied, deserted, renewed, unrenewed, late, dropped, shut, for_link, of_timer, of_source, is_source_of, renews, news_of}
-use Rattle.legal_trace.specs.Ledger.{Ledger, Line, hears, offers, noted, noted_each, is_over, dials, refused_in, bytes_came, awaits_credentials, authorized_by, may_renew, renewed_by, unrenewed_by, is_renewal_open, lost_by}
+use Rattle.driver_model.specs.News.{News, silence, connected, refused, overdue, took, came, failed, authorized, denied, deserted, renewed, unrenewed, late, unrepeated, dropped, shut, for_link, of_timer, of_source, is_source_of, renews, news_of}
+use Rattle.legal_trace.specs.Ledger.{Ledger, Line, hears, offers, noted, noted_each, is_over, dials, refused_in, bytes_came, awaits_credentials, authorized_by, may_renew, renewed_by, unrenewed_by, is_renewal_open, lost_by, is_repeating, unrepeated_by}
 use Rattle.legal_trace.specs.Book.{if_mine}
 use Rattle.legal_trace.proofs.Came.{holds_bytes}
 use Rattle.live_laws.specs.Taken.{IsNoWrote}
@@ -46,6 +46,7 @@ hears_stays g turn (renewed c) quiet = chosen (λ (m : Ledger). Stays g (record 
 hears_stays g turn unrenewed quiet = chosen (λ (m : Ledger). Stays g (record m { heard = unrenewed })) g.up (unrenewed_by g) g (λ t. (λ u. u, refl, refl)) (λ f. (λ u. u, refl, refl))
 hears_stays g turn (late k) quiet =
     chosen (λ (m : Ledger). Stays g (record m { heard = late k })) (g.up && is_renewal_open g k) (lost_by g) g (λ t. (λ u. u, refl, refl)) (λ f. (λ u. u, refl, refl))
+hears_stays g turn unrepeated quiet = chosen (λ (m : Ledger). Stays g (record m { heard = unrepeated })) (is_repeating g) (unrepeated_by g) g (λ t. (λ u. u, refl, refl)) (λ f. (λ u. u, refl, refl))
 hears_stays g turn dropped quiet = (λ u. u, refl, refl)
 hears_stays g turn shut quiet = (λ u. u, refl, refl)
 
@@ -57,6 +58,8 @@ timer_not_took n None = tt
 timer_not_took n (Some (purpose.Connect l)) = not_took (l == n) overdue tt
 timer_not_took n (Some (purpose.Response who)) = tt
 timer_not_took n (Some (purpose.Renewal l k)) = not_took (l == n) (late k) tt
+timer_not_took n (Some (purpose.Backoff g)) = tt
+timer_not_took n (Some (purpose.Resubscription l)) = not_took (l == n) unrepeated tt
 
 source_not_took : (n : ℕ) (what : Option SourceUse) (first later : News) → IsNoTook first → IsNoTook later → IsNoTook (of_source n what first later)
 source_not_took n what first later h k = chosen IsNoTook (is_source_of n what) first (for_link (renews n what) later) (λ t. h) (λ f. not_took (renews n what) later k)

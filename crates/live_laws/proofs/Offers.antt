@@ -5,9 +5,10 @@ use Rattle.driver_model.specs.declared.action.Action.{Action}
 use Rattle.driver_model.specs.declared.action.Action.TheVariants as action
 use Rattle.driver_model.specs.declared.event.EventKind.{EventKind}
 use Rattle.driver_model.specs.declared.event.EventKind.TheVariants as event
-use Rattle.legal_trace.specs.Book.{Book, current, if_mine, push_line, is_renewal_of, entered}
-use Rattle.legal_trace.specs.Ledger.{ends, noted_each, offers, tells, times}
+use Rattle.legal_trace.specs.Book.{Book, if_mine, push_line, entered}
+use Rattle.legal_trace.specs.Ledger.{ends, noted_each, offers, tells}
 use Rattle.legal_trace.specs.Legal.{MayStand}
+use Rattle.legal_trace.proofs.Clocks.{timer_tells}
 use Rattle.legal_trace.proofs.Ledgers.{mine_keeps}
 use Rattle.live_run.specs.Agenda.{noted, offer_of, offered, removed, stands, undialled, without}
 use Rattle.live_run.specs.Passes.{Each}
@@ -57,8 +58,8 @@ pub dialled_ties : (b : Book) (l : ℕ) (links : List Link) → Ties b links →
 dialled_ties b l links h = record { each = each_last (IsTied b) links (fresh l) h.each (inl refl); single = single_last links (fresh l) refl h.single }
 
 -- what is told of the link that the session has leaves all as they were
-told_stays : (b : Book) (n : ℕ) → Stays (b.link n) (noted_each (b.link n) (if_mine (current b == n) tells))
-told_stays b n = mine_keeps (Stays (b.link n)) (current b == n) (b.link n) tells (λ t. (λ u. u, refl, refl)) (stays_same (b.link n))
+told_stays : (b : Book) (n : ℕ) → Stays (b.link n) (noted_each (b.link n) (if_mine (b.current == n) tells))
+told_stays b n = mine_keeps (Stays (b.link n)) (b.current == n) (b.link n) tells (λ t. (λ u. u, refl, refl)) (stays_same (b.link n))
 
 -- what an action asks is tied
 pub noted_ties : (a : Agenda) (b : Book) (x : Action) → IsNoTurn x → MayStand b x → Ties b a.links → Ties (entered b x) (noted a x).links
@@ -67,7 +68,7 @@ noted_ties a b (action.Connect l host port) quiet may h =
     all_stay b (entered b (action.Connect l host port)) a.links (λ n. mine_keeps (Stays (b.link n)) (l == n) (b.link n) _ (λ t. (λ u. u, refl, refl)) (stays_same (b.link n))) h
 noted_ties a b (action.Timer t ms what) quiet may h =
     all_stay b (entered b (action.Timer t ms what)) a.links
-    (λ n. mine_keeps (Stays (b.link n)) (is_renewal_of n what) (b.link n) times (λ own. (λ u. u, refl, refl)) (stays_same (b.link n))) h
+    (λ n. timer_tells (Stays (b.link n)) (b.link n) n what (λ l k is own. (λ u. u, refl, refl)) (λ l is own. (λ u. u, refl, refl)) (stays_same (b.link n))) h
 noted_ties a b (action.Close l) quiet may h =
     let c = entered b (action.Close l) in
     let d : Agenda = record a { links = without l a.links; dials = undialled l a.dials } in
@@ -89,6 +90,8 @@ noted_ties a b (action.Monitor v) quiet may h = all_stay b (entered b (action.Mo
 noted_ties a b (action.Took who l count) quiet may h = all_stay b (entered b (action.Took who l count)) a.links (λ n. stays_same (b.link n)) h
 noted_ties a b (action.NeedCreds c l) quiet may h =
     all_stay b (entered b (action.NeedCreds c l)) a.links (λ n. mine_keeps (Stays (b.link n)) (l == n) (b.link n) _ (λ t. (λ u. u, refl, refl)) (stays_same (b.link n))) h
+noted_ties a b (action.Generation g) quiet may h = all_stay b (entered b (action.Generation g)) a.links (λ n. stays_same (b.link n)) h
+noted_ties a b (action.Round who l) quiet may h = all_stay b (entered b (action.Round who l)) a.links (λ n. stays_same (b.link n)) h
 noted_ties a b (action.Wait who kind) quiet may h = all_stay b (entered b (action.Wait who kind)) a.links (λ n. stays_same (b.link n)) h
 noted_ties a b (action.Created e) quiet may h = all_stay b (entered b (action.Created e)) a.links (λ n. stays_same (b.link n)) h
 noted_ties a b (action.Outcome n o) quiet may h = all_stay b (entered b (action.Outcome n o)) a.links (λ n. stays_same (b.link n)) h

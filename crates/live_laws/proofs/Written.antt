@@ -1,9 +1,10 @@
 -- What a link takes, deed by deed.
-use Rattle.std.proofs.Common.{◌≡◌, ◌⊎◌, inl, inr, ℕ, ◌+◌, false, List, [], ◌∷◌, ◌++◌, length, None, refl, sym, ap, ◌∙◌, subst}
+use Rattle.std.proofs.Common.{◌≡◌, ◌⊎◌, inl, inr, ℕ, false, List, [], ◌∷◌, ◌++◌, None, refl, sym, ap, ◌∙◌, subst}
 use Rattle.std.proofs.lemmas.List.{append-nil}
 use Rattle.containers.proofs.Choices.{chosen, not_both}
 use Rattle.driver_model.specs.declared.action.Action.{Action}
 use Rattle.driver_model.specs.declared.action.Action.TheVariants as action
+use Rattle.driver_model.specs.declared.event.Event.{Event}
 use Rattle.driver_model.specs.declared.event.EventKind.{EventKind}
 use Rattle.driver_model.specs.declared.event.EventKind.TheVariants as event
 use Rattle.outside.specs.declared.world.Call.{Call}
@@ -11,9 +12,9 @@ use Rattle.outside.specs.declared.world.Call.TheVariants as call
 use Rattle.outside.specs.declared.world.Dialed.TheVariants as dialed
 use Rattle.outside.specs.declared.world.LinkGot.TheVariants as got
 use Rattle.outside.specs.declared.world.LinkPut.TheVariants as put
-use Rattle.mux_conn.specs.declared.act.LinkAct.{LinkAct}
 use Rattle.shared_session.specs.declared.core_state.Core.{Core}
-use Rattle.shared_session.specs.Turn.{next_turn, shown, shown_each, timer_of, source_of}
+use Rattle.shared_session.specs.Turn.{effects_of}
+use Rattle.shared_session.proofs.Effects.{EachIs}
 use Rattle.shared_session.specs.Replay.{turns_on}
 use Rattle.legal_trace.specs.Book.{Book, entered, entered_each}
 use Rattle.legal_trace.specs.Legal.{AllStand}
@@ -22,8 +23,8 @@ use Rattle.live_run.specs.Agenda.{agenda_of, answered, begun, behind, dialled, n
 use Rattle.live_run.specs.Deeds.{Deed, did, fired, answer_of, asked, made, calls_of, events_of, actions_of, after, May, MayCall}
 use Rattle.live_laws.specs.Taken.{IsNoWrote, taken, taken_by}
 use Rattle.live_laws.proofs.Agendas.{Agenda}
-use Rattle.live_run.proofs.Heard.{no_turn}
-use Rattle.live_run.proofs.Hearing.{turn_of}
+use Rattle.live_run.proofs.Heard.{none_begins}
+use Rattle.live_run.proofs.Hearing.{turn_of, IsNoTurn}
 use Rattle.live_laws.proofs.Taking.{action_taken, taken_of, turn_stays}
 use Rattle.live_laws.proofs.Offers.{Ties, dialled_ties, gone_ties, noted_ties, turn_ties, wrote_taken, wrote_ties}
 
@@ -41,6 +42,8 @@ early_noted a (action.Push l info) = refl
 early_noted a (action.Message m) = refl
 early_noted a (action.Monitor v) = refl
 early_noted a (action.NeedCreds c l) = refl
+early_noted a (action.Generation g) = refl
+early_noted a (action.Round who l) = refl
 early_noted a (action.Start l message who count len) = refl
 early_noted a (action.Wait who kind) = refl
 early_noted a (action.Created e) = refl
@@ -65,6 +68,8 @@ links_none a (action.Push l info) none = none
 links_none a (action.Message m) none = none
 links_none a (action.Monitor v) none = none
 links_none a (action.NeedCreds c l) none = none
+links_none a (action.Generation g) none = none
+links_none a (action.Round who l) none = none
 links_none a (action.Start l message who count len) none = none
 links_none a (action.Wait who kind) none = none
 links_none a (action.Created e) none = none
@@ -80,13 +85,11 @@ pub record Took (b : Book) (a : Agenda) (n : ℕ) (bytes : List ℕ) : Type 0 wh
   pub ties : Ties b a.links
   pub took : taken_of b n ≡ bytes
 
-acts_took : (l t c : ℕ) (acts : List LinkAct) (b : Book) (a : Agenda) (n : ℕ) (bytes : List ℕ) → AllStand b (shown_each l t c acts) → Took b a n bytes → Took (entered_each b (shown_each l t c acts)) (noted_each a (shown_each l t c acts)) n bytes
-acts_took l t c [] b a n bytes stand h = h
-acts_took l t c (x ∷ acts) b a n bytes stand h =
-    let y = shown l t c x in
-    let quiet = no_turn l t c x in
-    acts_took l (t + length (timer_of l x)) (c + length (source_of l c x)) acts (entered b y) (noted a y) n bytes stand.1
-    (record { early = early_noted a y ∙ h.early; ties = noted_ties a b y quiet stand.0 h.ties; took = action_taken b y n quiet ∙ h.took })
+acts_took : (xs : List Action) (b : Book) (a : Agenda) (n : ℕ) (bytes : List ℕ) → EachIs IsNoTurn xs → AllStand b xs → Took b a n bytes → Took (entered_each b xs) (noted_each a xs) n bytes
+acts_took [] b a n bytes none stand h = h
+acts_took (y ∷ xs) b a n bytes none stand h =
+    acts_took xs (entered b y) (noted a y) n bytes none.1 stand.1
+    (record { early = early_noted a y ∙ h.early; ties = noted_ties a b y none.0 stand.0 h.ties; took = action_taken b y n none.0 ∙ h.took })
 
 -- once the turn of an answer began, if it has one
 abbrev Hears : Book → Agenda → ℕ → ℕ → List EventKind → ℕ → List ℕ → Type 0
@@ -101,9 +104,9 @@ Told b a actions n bytes = AllStand b actions → Took (entered_each b actions) 
 heard_told : (b : Book) (a : Agenda) (core : Core) (word : ℕ) (kinds : List EventKind) (n : ℕ) (bytes : List ℕ) → Hears b a core.turns word kinds n bytes → Told b a (turns_on core (made word kinds)) n bytes
 heard_told b a core word [] n bytes h = λ stand. h
 heard_told b a core word (kind ∷ []) n bytes h =
-    let acts = shown_each core.single.link (length core.timers) (length core.sources) (next_turn core kind).acts in
-    λ stand. subst (λ (xs : List Action). Told (entered b (turn_of core.turns word kind)) a xs n bytes) (sym (append-nil acts))
-    (λ stands. acts_took core.single.link (length core.timers) (length core.sources) (next_turn core kind).acts (entered b (turn_of core.turns word kind)) a n bytes stands h) stand.1
+    let e : Event = record { word = word; kind = kind } in
+    λ stand. subst (λ (xs : List Action). Told (entered b (turn_of core.turns word kind)) a xs n bytes) (sym (append-nil (effects_of core e)))
+    (λ stands. acts_took (effects_of core e) (entered b (turn_of core.turns word kind)) a n bytes (none_begins core e) stands h) stand.1
 heard_told b a core word (kind ∷ next ∷ more) n bytes h = absurd h
 
 module _ (a : Agenda) (b : Book) (number word n : ℕ) (bytes : List ℕ) (h : Took b a n bytes) where

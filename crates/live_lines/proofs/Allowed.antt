@@ -1,5 +1,6 @@
 -- The submissions that lines are have forms in their session.
 use Rattle.std.proofs.Common.{◌≡◌, ℕ, ◌+◌, ◌-◌, Bool, true, false, cond, List, [], ◌∷◌, All, length, Option, Some, None, IfSome, IfOk, Result, Ok, Err}
+use Rattle.driver_model.specs.Config.{kind_of}
 use Rattle.driver_model.specs.declared.kind.SessionKind.{SessionKind}
 use Rattle.driver_model.specs.declared.event.EventKind.{EventKind}
 use Rattle.driver_model.specs.declared.event.EventKind.TheVariants as event
@@ -76,7 +77,7 @@ module _ (session : SessionKind) where
   all_allowed text bytes = lines_allowed 1 max_text (parts 10 text) (parts_bytes 10 text bytes)
 
 -- a source without lines for a plan is why there is no live run of it
-pub refused_lines : (refusal : Refusal) (words : List (List ℕ)) (plan : Plan) (source source' : Side) → plan_of words ≡ Some plan → HasNoLines plan.config.kind refusal source source' → IsRefused refusal words source source'
+pub refused_lines : (refusal : Refusal) (words : List (List ℕ)) (plan : Plan) (source source' : Side) → plan_of words ≡ Some plan → HasNoLines (kind_of plan.config) refusal source source' → IsRefused refusal words source source'
 refused_lines refusal.ReadFault words plan source source' plans why = (record { plan = plan; plans = plans }, why)
 refused_lines (refusal.Line n) words plan source source' plans why =
     (record { plan = plan; plans = plans }, λ bytes told. record { plan = plan; plans = plans; fault = why bytes told })

@@ -22,6 +22,7 @@ use Rattle.live_lines.specs.declared.flying.Flight.{Flight}
 use Rattle.live_lines.specs.declared.planning.Plan.{Plan}
 use Rattle.live_lines.specs.declared.reading.Refusal.{Refusal}
 use Rattle.live_lines.specs.declared.reading.Refusal.TheVariants as refusal
+use Rattle.driver_model.specs.Config.{kind_of}
 
 -- two statuses of other numbers
 apart : (a b : Status) → (number a == number b) ≡ false → a ≡ b → ⊥
@@ -174,7 +175,7 @@ module _ (usage : List ℕ) (words : List (List ℕ)) (s : Status) (source sourc
   well_refused (refusal.Line n) bytes h told asked sound reads =
       let r = h.1 bytes told in
       let same : asked.plan ≡ r.plan = same_plan asked.plan r.plan (sym asked.plans ∙ r.plans) in
-      absurd (ok_not_err (lines_of r.plan.config.kind bytes) asked.lines n (ap (λ (plan : Plan). lines_of plan.config.kind bytes) (sym same) ∙ asked.reads) r.fault)
+      absurd (ok_not_err (lines_of (kind_of r.plan.config) bytes) asked.lines n (ap (λ (plan : Plan). lines_of (kind_of plan.config) bytes) (sym same) ∙ asked.reads) r.fault)
     where
       ok_not_err : (r : Result (List Line) ℕ) (lines : List Line) (n : ℕ) → r ≡ Ok lines → r ≡ Err n → ⊥
       ok_not_err r lines n is not = cc

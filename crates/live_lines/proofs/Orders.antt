@@ -6,6 +6,7 @@ use Rattle.std.specs.List.Sorted.{IsNonDecreasingBy, IsPermutation}
 use Rattle.std.proofs.lemmas.List.Elements.{All-nil, All-cons, All-head, All-tail}
 use Rattle.std.proofs.lemmas.List.Recursion.{is_sum_by}
 use Rattle.std.proofs.lemmas.List.Sorted.{All-permutation, sum_by-IsPermutation}
+use Rattle.driver_model.specs.Config.{kind_of}
 use Rattle.driver_model.specs.declared.action.Action.{Action}
 use Rattle.driver_model.specs.declared.config.Config.{Config}
 use Rattle.driver_model.specs.declared.kind.SessionKind.{SessionKind}
@@ -23,9 +24,9 @@ use Rattle.live_lines.specs.Flights.{IsOfLine}
 
 -- a line that a script of such a session may have, and whose turn it is
 abbrev IsTurn : Config → ℕ → List Event → Turn → Type 0
-IsTurn config word log t = (line : Line) × IsAllowed config.kind line × IsTurnOf config word log line t
+IsTurn config word log t = (line : Line) × IsAllowed (kind_of config) line × IsTurnOf config word log line t
 
-each_turn : (config : Config) (word : ℕ) (log : List Event) (n : ℕ) (lines : List Line) (turns : List Turn) → Each (IsAllowed config.kind) lines → EachAt (λ i. IsTurnOf config word log) n lines turns → All (IsTurn config word log) turns
+each_turn : (config : Config) (word : ℕ) (log : List Event) (n : ℕ) (lines : List Line) (turns : List Turn) → Each (IsAllowed (kind_of config)) lines → EachAt (λ i. IsTurnOf config word log) n lines turns → All (IsTurn config word log) turns
 each_turn config word log n [] [] allowed each = All-nil (IsTurn config word log)
 each_turn config word log n [] (t ∷ turns) allowed each = absurd each
 each_turn config word log n (line ∷ lines) [] allowed each = absurd each
@@ -126,7 +127,7 @@ pub record IsWell (config : Config) (word : ℕ) (log : List Event) (actions : L
   pub good : AreGood config word log
   pub unspent : AreUnspent config word log
 
-pub told_well : (config : Config) (word : ℕ) (log : List Event) (lines : List Line) (turns : List Turn) (actions : List Action) → Each (IsAllowed config.kind) lines → EachAt (λ i. IsTurnOf config word log) 0 lines turns
+pub told_well : (config : Config) (word : ℕ) (log : List Event) (lines : List Line) (turns : List Turn) (actions : List Action) → Each (IsAllowed (kind_of config)) lines → EachAt (λ i. IsTurnOf config word log) 0 lines turns
     → ((p : ℕ) → times p (places_of turns) ≡ below p (length log)) → IsTold turns (opening_actions config word) actions → IsWell config word log actions
 unfolding trace_of AreGood AreUnspent
 told_well config word log lines turns actions allowed each once told =

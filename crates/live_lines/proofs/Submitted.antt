@@ -1,6 +1,7 @@
 -- What callers have submitted, said of the lines.
 use Rattle.std.proofs.Common.{◌≡◌, ℕ, ◌+◌, ◌<◌, List, [], ◌∷◌, ◌++◌, length, refl, sym, ap, ◌∙◌, subst, arith, zero-add}
 use mathlib.Core.List.{IsPrefix}
+use Rattle.driver_model.specs.Config.{kind_of}
 use Rattle.driver_model.specs.declared.action.Action.{Action}
 use Rattle.driver_model.specs.declared.config.Config.{Config}
 use Rattle.driver_model.specs.declared.event.Event.{Event}
@@ -81,12 +82,12 @@ module _ (config : Config) (word : ℕ) (vs ws : List Known) (lines : List Line)
       times_places p turns ∙ sym (total_shares f k 0 some turns) ∙ sym (total_by_place HasShare (λ (c : Known). times p c.view.mine) (λ (c : ℕ). total f (share_from k c 0 turns)) 0 vs ws own have_shares) ∙ counted
 
 -- what the session of a plan has forms for, each of its callers may submit
-pub allowed_to : (config : Config) (word : ℕ) (lines : List Line) (vs : List Known) → Each (IsAllowed config.kind) lines → Each (IsBare config word) vs → Each (AreAllowed lines) vs
+pub allowed_to : (config : Config) (word : ℕ) (lines : List Line) (vs : List Known) → Each (IsAllowed (kind_of config)) lines → Each (IsBare config word) vs → Each (AreAllowed lines) vs
 allowed_to config word lines [] allowed bare = tt
-allowed_to config word lines (v ∷ vs) allowed bare = (subst (λ (c : Config). Each (IsAllowed c.kind) lines) (sym bare.0.0) allowed, allowed_to config word lines vs allowed bare.1)
+allowed_to config word lines (v ∷ vs) allowed bare = (subst (λ (c : Config). Each (IsAllowed (kind_of c)) lines) (sym bare.0.0) allowed, allowed_to config word lines vs allowed bare.1)
 
 -- what was asked is the trace of the history, and all is well with its events
-pub asked_well : (plan : Plan) (word : ℕ) (vs ws : List Known) (lines : List Line) (given numbers : List ℕ) (s : History) (shown actions : List Action) → Each (IsAllowed plan.config.kind) lines → Each (IsBare plan.config word) vs
+pub asked_well : (plan : Plan) (word : ℕ) (vs ws : List Known) (lines : List Line) (given numbers : List ℕ) (s : History) (shown actions : List Action) → Each (IsAllowed (kind_of plan.config)) lines → Each (IsBare plan.config word) vs
     → length vs ≡ callers_of plan → HaveSubmitted vs ws lines given numbers shown actions → shown ≡ opening_actions plan.config word → Each (λ (c : Known). IsPrefix c.view.seen s.events) ws
     → ((p : ℕ) → total (λ (c : Known). times p c.view.mine) ws ≡ below p (length s.events)) → IsWell plan.config word s.events actions
 asked_well plan word vs ws lines given numbers s shown actions allowed bare count h opened seen once =
@@ -95,7 +96,7 @@ asked_well plan word vs ws lines given numbers s shown actions allowed bare coun
     (λ p. lines_once plan.config word vs ws lines h.turns bare h.run p (length s.events) some (once p)) (subst (λ (xs : List Action). IsTold h.turns xs actions) opened h.told)
 
 -- all of it
-pub are_submitted : (plan : Plan) (word : ℕ) (vs ws : List Known) (lines : List Line) (given numbers : List ℕ) (s : History) (shown actions : List Action) → Each (IsAllowed plan.config.kind) lines → Each (IsBare plan.config word) vs
+pub are_submitted : (plan : Plan) (word : ℕ) (vs ws : List Known) (lines : List Line) (given numbers : List ℕ) (s : History) (shown actions : List Action) → Each (IsAllowed (kind_of plan.config)) lines → Each (IsBare plan.config word) vs
     → length vs ≡ callers_of plan → HaveSubmitted vs ws lines given numbers shown actions → given ≡ [] → shown ≡ opening_actions plan.config word → Each (λ (c : Known). IsPrefix c.view.seen s.events) ws
     → ((p : ℕ) → total (λ (c : Known). times p c.view.mine) ws ≡ below p (length s.events)) → IsShared ws s.config s.word → MaySpend s.config s.word s.events s.failure → AreSubmitted plan word lines numbers s
 are_submitted plan word vs ws lines given numbers s shown actions allowed bare count h none opened seen once shared spent =

@@ -1,6 +1,7 @@
 -- What is written of a live run, and why there is none.
 use Rattle.std.specs.Prelude.{◌≡◌, ⊤, ◌⊎◌, ℕ, ◌+◌, List, [], Option, Some, None, Ok, Err, codes}
 use Rattle.caller_threads.specs.Submits.{Line}
+use Rattle.driver_model.specs.Config.{kind_of}
 use Rattle.driver_model.specs.declared.kind.SessionKind.{SessionKind}
 use Rattle.redis_error.specs.declared.config_name.ConfigName.{ConfigName}
 use Rattle.outside.specs.Ends.{Gained, GainedPart}
@@ -28,13 +29,13 @@ pub record IsAsked (words : List (List ℕ)) (bytes : List ℕ) : Type 0 where
   pub plan : Plan
   pub plans : plan_of words ≡ Some plan
   pub lines : List Line
-  pub reads : lines_of plan.config.kind bytes ≡ Ok lines
+  pub reads : lines_of (kind_of plan.config) bytes ≡ Ok lines
 
 -- words are a plan, and a source's bytes no lines for it: this one is the first at fault
 pub record IsAtFault (words : List (List ℕ)) (bytes : List ℕ) (line : ℕ) : Type 0 where
   pub plan : Plan
   pub plans : plan_of words ≡ Some plan
-  pub fault : lines_of plan.config.kind bytes ≡ Err line
+  pub fault : lines_of (kind_of plan.config) bytes ≡ Err line
 
 -- these words and bytes were asked for, the bytes were read to their end, and this is the live run of them
 pub record IsLive (words : List (List ℕ)) (bytes : List ℕ) (left : Option (List ℕ)) (old new : Option (List Call)) (f : Flight) : Type 0 where

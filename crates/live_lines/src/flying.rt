@@ -1,11 +1,11 @@
 ghost use Rattle.std.specs.Prelude.{◌≡◌, ℕ, ◌≤◌, ◌++◌, [], false, length, max, IfOk, IfErr, IsErrOf};
 ghost use Rattle.caller_threads.specs.Submits.{IsAllowed};
-ghost use Rattle.driver_model.specs.Config.{wants_credentials};
+ghost use Rattle.driver_model.specs.Config.{kind_of, wants_credentials};
 ghost use Rattle.session_callers.specs.Rule.{Each};
 ghost use Rattle.shared_session.specs.Replay.{IsSound, trace_of};
 ghost use Rattle.live_lines.specs.Flights.{AreSubmitted, IsBare, IsFlight, IsNoFlight, RanOut};
 
-use crate::planning::Plan;
+use crate::planning::{Plan, kind_fault};
 use caller_threads::{OpenGate, submit_lines};
 use driver_model::{Action, Submission};
 use live_run::{Ending, drive};
@@ -94,7 +94,7 @@ fn submitted<R: Threads + Wait + Sync>(
     actions: &mut Vec<Action>,
 ) -> Result<(Session, Vec<u32>), FlightError>
     requires none { actions.old.items ≡ [] }
-    requires allowed { Each (IsAllowed plan.config.kind) lines.items }
+    requires allowed { Each (IsAllowed (kind_of plan.config)) lines.items }
     ensures sound { IfOk result (λ _. IsSound plan.config) }
     ensures bare { IfOk result (λ _. wants_credentials plan.config ≡ false) }
     ensures submitted { IfOk result (λ made.
@@ -107,6 +107,7 @@ fn submitted<R: Threads + Wait + Sync>(
 {
     let Plan { callers, config } = plan;
     let wanted = config.wants_credentials();
+    let unserved = kind_fault(config.kind());
     let (shared, first) = match SharedSession::new(alloc, config, word, actions) {
         Ok(made) => made,
         Err(MakeError::Config { name }) => return Err(FlightError::Config(name)),
@@ -114,6 +115,9 @@ fn submitted<R: Threads + Wait + Sync>(
     };
     if wanted {
         return Err(FlightError::Config(ConfigName::Creds));
+    }
+    if let Some(name) = unserved {
+        return Err(FlightError::Config(name));
     }
     let Ok(mut callers) = join_all(rt, alloc, &shared, first, callers) else {
         return Err(FlightError::NoMemory);
@@ -148,7 +152,7 @@ pub fn fly<R: Threads + Wait + Sync, W: World>(
     lines: Vec<(Submission, u64)>,
     world: &mut W,
 ) -> Result<Flight, FlightError>
-    requires { Each (IsAllowed plan.config.kind) lines.items }
+    requires { Each (IsAllowed (kind_of plan.config)) lines.items }
     ensures flight { IfOk result (
         IsFlight plan lines.items (W.told world.old) (W.told world.new)
         ) }

@@ -91,7 +91,7 @@ pub fn flight_of<R: Threads + Wait + Sync, S: Source, W: World>(
         Ok(None) => return Err(Refusal::Usage),
         Err(_) => return Err(Refusal::NoMemory),
     };
-    let lines = match source_lines(alloc, plan.config.kind, source) {
+    let lines = match source_lines(alloc, plan.config.kind(), source) {
         Ok(lines) => lines,
         Err(refusal) => return Err(refusal),
     };

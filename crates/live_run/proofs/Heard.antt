@@ -1,7 +1,8 @@
 -- What is asked of the world stays known, deed by deed.
-use Rattle.std.proofs.Common.{◌≡◌, ℕ, ◌+◌, ◌<◌, List, [], ◌∷◌, length, refl, sym, subst, arith}
+use Rattle.std.proofs.Common.{◌≡◌, ℕ, ◌<◌, List, [], ◌∷◌, refl, sym, subst, arith, length}
 use Rattle.std.proofs.lemmas.List.{append-nil}
 use Rattle.driver_model.specs.declared.action.Action.{Action}
+use Rattle.driver_model.specs.declared.event.Event.{Event}
 use Rattle.driver_model.specs.declared.event.EventKind.{EventKind}
 use Rattle.driver_model.specs.declared.event.EventKind.TheVariants as event
 use Rattle.outside.specs.declared.world.Call.{Call}
@@ -12,7 +13,8 @@ use Rattle.outside.specs.declared.world.LinkPut.TheVariants as put
 use Rattle.mux_conn.specs.declared.act.LinkAct.{LinkAct}
 use Rattle.mux_conn.specs.declared.act.LinkAct.TheVariants as act
 use Rattle.shared_session.specs.declared.core_state.Core.{Core}
-use Rattle.shared_session.specs.Turn.{next_turn, shown, shown_each, timer_of, source_of}
+use Rattle.shared_session.specs.Turn.{shown, effects_of}
+use Rattle.shared_session.proofs.Effects.{EachIs, IsTrueOfEffects, each_effect}
 use Rattle.shared_session.specs.Replay.{turns_on}
 use Rattle.legal_trace.specs.Book.{Book, entered, entered_each}
 use Rattle.legal_trace.specs.Legal.{AllStand}
@@ -29,6 +31,7 @@ use Rattle.live_run.proofs.Standing.{IsKnown, IsKnownLink, Knows, known_grown, n
 -- no act of a connection begins a turn
 pub no_turn : (l t c : ℕ) (x : LinkAct) → IsNoTurn (shown l t c x)
 no_turn l t c (act.Created e) = tt
+no_turn l t c (act.Round n) = tt
 no_turn l t c (act.Took n count) = tt
 no_turn l t c (act.Timer n ms) = tt
 no_turn l t c (act.RenewalTimer k ms) = tt
@@ -42,14 +45,20 @@ no_turn l t c act.Close = tt
 no_turn l t c (act.Write bytes) = tt
 no_turn l t c (act.Wait n kind) = tt
 no_turn l t c act.NeedCreds = tt
+no_turn l t c act.NeedRenewals = tt
 no_turn l t c (act.Start message n need len) = tt
 no_turn l t c (act.Outcome n o) = tt
 
-acts_known : (l t c : ℕ) (acts : List LinkAct) (b : Book) (a : Agenda) → AllStand b (shown_each l t c acts) → Knows b a → Knows (entered_each b (shown_each l t c acts)) (noted_each a (shown_each l t c acts))
-acts_known l t c [] b a stand h = h
-acts_known l t c (x ∷ acts) b a stand h =
-    let y = shown l t c x in
-    acts_known l (t + length (timer_of l x)) (c + length (source_of l c x)) acts (entered b y) (noted a y) stand.1 (noted_known a b y (no_turn l t c x) stand.0 h)
+-- nor does an effect of a turn
+pub effects_begin_none : IsTrueOfEffects IsNoTurn
+effects_begin_none = record { shows = no_turn; generation = λ g. tt; connect = λ l host port. tt; timer = λ t ms what. tt; lazy = tt }
+
+pub none_begins : (c : Core) (e : Event) → EachIs IsNoTurn (effects_of c e)
+none_begins c e = each_effect IsNoTurn effects_begin_none c e
+
+acts_known : (xs : List Action) (b : Book) (a : Agenda) → EachIs IsNoTurn xs → AllStand b xs → Knows b a → Knows (entered_each b xs) (noted_each a xs)
+acts_known [] b a none stand h = h
+acts_known (y ∷ xs) b a none stand h = acts_known xs (entered b y) (noted a y) none.1 stand.1 (noted_known a b y none.0 stand.0 h)
 
 -- what is known once the turn of an answer began, if it has one
 abbrev Hears : Book → Agenda → ℕ → ℕ → List EventKind → Type 0
@@ -64,9 +73,9 @@ Told b a actions = AllStand b actions → Knows (entered_each b actions) (noted_
 heard_told : (b : Book) (a : Agenda) (core : Core) (word : ℕ) (kinds : List EventKind) → Hears b a core.turns word kinds → Told b a (turns_on core (made word kinds))
 heard_told b a core word [] h = λ stand. h
 heard_told b a core word (kind ∷ []) h =
-    let acts = shown_each core.single.link (length core.timers) (length core.sources) (next_turn core kind).acts in
-    λ stand. subst (Told (entered b (turn_of core.turns word kind)) a) (sym (append-nil acts))
-    (λ stands. acts_known core.single.link (length core.timers) (length core.sources) (next_turn core kind).acts (entered b (turn_of core.turns word kind)) a stands h) stand.1
+    let e : Event = record { word = word; kind = kind } in
+    λ stand. subst (Told (entered b (turn_of core.turns word kind)) a) (sym (append-nil (effects_of core e)))
+    (λ stands. acts_known (effects_of core e) (entered b (turn_of core.turns word kind)) a (none_begins core e) stands h) stand.1
 heard_told b a core word (kind ∷ next ∷ more) h = absurd h
 
 module _ (a : Agenda) (b : Book) (number word : ℕ) (h : Knows b a) where

@@ -13,11 +13,12 @@ use Rattle.driver_model.specs.declared.event.EventKind.TheVariants as event
 use Rattle.driver_model.specs.declared.news.LinkFault.TheVariants as fault
 use Rattle.resp_value.specs.declared.push_kind.PushKind.{PushKind}
 use Rattle.driver_model.specs.Push.{is_disconnection}
-use Rattle.driver_model.specs.News.{News, silence, connected, refused, overdue, took, came, failed, authorized, denied, deserted, renewed, unrenewed, late, dropped, shut, for_link, of_timer, of_source, is_source_of, renews, news_of}
-use Rattle.legal_trace.specs.Ledger.{Ledger, Line, hears, offers, tells, times, parts, noted, is_over, dials, refused_in, bytes_came, awaits_credentials, authorized_by, may_renew, renewed_by, unrenewed_by, is_renewal_open, lost_by}
-use Rattle.legal_trace.specs.Book.{Book, current, push_line, is_renewal_of, entered}
+use Rattle.driver_model.specs.News.{News, silence, connected, refused, overdue, took, came, failed, authorized, denied, deserted, renewed, unrenewed, late, unrepeated, dropped, shut, for_link, of_timer, of_source, is_source_of, renews, news_of}
+use Rattle.legal_trace.specs.Ledger.{Ledger, Line, hears, offers, tells, times, parts, noted, is_over, dials, refused_in, bytes_came, awaits_credentials, authorized_by, may_renew, renewed_by, unrenewed_by, is_renewal_open, lost_by, is_repeating, unrepeated_by}
+use Rattle.legal_trace.specs.Book.{Book, push_line, entered}
 use Rattle.legal_trace.specs.Legal.{MayStand}
 use Rattle.legal_trace.proofs.Came.{holds_bytes}
+use Rattle.legal_trace.proofs.Clocks.{timer_tells}
 use Rattle.legal_trace.proofs.Ledgers.{mine_keeps}
 
 -- a link that has not ended had not before, and offers no less
@@ -47,6 +48,8 @@ hears_keeps l turn (renewed c) quiet = chosen (λ (m : Ledger). Keeps l (record 
 hears_keeps l turn unrenewed quiet = chosen (λ (m : Ledger). Keeps l (record m { heard = unrenewed })) l.up (unrenewed_by l) l (λ t going. (going, omega arith)) (λ f going. (going, omega arith))
 hears_keeps l turn (late k) quiet =
     chosen (λ (m : Ledger). Keeps l (record m { heard = late k })) (l.up && is_renewal_open l k) (lost_by l) l (λ t going. (going, omega arith)) (λ f going. (going, omega arith))
+hears_keeps l turn unrepeated quiet =
+    chosen (λ (m : Ledger). Keeps l (record m { heard = unrepeated })) (is_repeating l) (unrepeated_by l) l (λ t going. (going, omega arith)) (λ f going. (going, omega arith))
 hears_keeps l turn dropped quiet = λ going. (going, omega arith)
 hears_keeps l turn shut quiet = λ going. (going, omega arith)
 
@@ -67,6 +70,8 @@ timer_not_took n None = tt
 timer_not_took n (Some (purpose.Connect l)) = not_took (l == n) overdue tt
 timer_not_took n (Some (purpose.Response who)) = tt
 timer_not_took n (Some (purpose.Renewal l k)) = not_took (l == n) (late k) tt
+timer_not_took n (Some (purpose.Backoff g)) = tt
+timer_not_took n (Some (purpose.Resubscription l)) = not_took (l == n) unrepeated tt
 
 source_not_took : (n : ℕ) (what : Option SourceUse) (first later : News) → IsNoTook first → IsNoTook later → IsNoTook (of_source n what first later)
 source_not_took n what first later h k = chosen IsNoTook (is_source_of n what) first (for_link (renews n what) later) (λ t. h) (λ f. not_took (renews n what) later k)
@@ -127,7 +132,7 @@ action_grows b (action.Connect l host port) quiet may =
     stays b (entered b (action.Connect l host port)) (omega arith) (omega arith) (λ n. mine_keeps (Keeps (b.link n)) (l == n) (b.link n) _ (λ t going. (going, omega arith)) (same_keeps (b.link n)))
 action_grows b (action.Timer t ms what) quiet may =
     stays b (entered b (action.Timer t ms what)) (omega arith) (omega (arith, length-append b.timers (what ∷ [])))
-    (λ n. mine_keeps (Keeps (b.link n)) (is_renewal_of n what) (b.link n) times (λ t going. (going, omega arith)) (same_keeps (b.link n)))
+    (λ n. timer_tells (Keeps (b.link n)) (b.link n) n what (λ l k is mine going. (going, omega arith)) (λ l is mine going. (going, omega arith)) (same_keeps (b.link n)))
 action_grows b (action.Close l) quiet may =
     stays b (entered b (action.Close l)) (omega arith) (omega arith) (λ n. mine_keeps (Keeps (b.link n)) (l == n) (b.link n) _ (λ t going. absurd (not_both true going refl)) (same_keeps (b.link n)))
 action_grows b (action.Write l bytes) quiet may =
@@ -144,10 +149,12 @@ action_grows b (action.Push l info) quiet may =
     (λ t. push_noted (Keeps (b.link n)) (b.link n) info.kind (same_keeps (b.link n)) (same_keeps (b.link n))) (same_keeps (b.link n)))
 action_grows b (action.NeedCreds c l) quiet may =
     stays b (entered b (action.NeedCreds c l)) (omega arith) (omega arith) (λ n. mine_keeps (Keeps (b.link n)) (l == n) (b.link n) _ (λ t going. (going, omega arith)) (same_keeps (b.link n)))
+action_grows b (action.Generation g) quiet may = stays b (entered b (action.Generation g)) (omega arith) (omega arith) (λ n. same_keeps (b.link n))
+action_grows b (action.Round who l) quiet may = stays b (entered b (action.Round who l)) (omega arith) (omega arith) (λ n. same_keeps (b.link n))
 action_grows b (action.Message m) quiet may =
-    stays b (entered b (action.Message m)) (omega arith) (omega arith) (λ n. mine_keeps (Keeps (b.link n)) (current b == n) (b.link n) tells (λ t going. (going, omega arith)) (same_keeps (b.link n)))
+    stays b (entered b (action.Message m)) (omega arith) (omega arith) (λ n. mine_keeps (Keeps (b.link n)) (b.current == n) (b.link n) tells (λ t going. (going, omega arith)) (same_keeps (b.link n)))
 action_grows b (action.Monitor v) quiet may =
-    stays b (entered b (action.Monitor v)) (omega arith) (omega arith) (λ n. mine_keeps (Keeps (b.link n)) (current b == n) (b.link n) tells (λ t going. (going, omega arith)) (same_keeps (b.link n)))
+    stays b (entered b (action.Monitor v)) (omega arith) (omega arith) (λ n. mine_keeps (Keeps (b.link n)) (b.current == n) (b.link n) tells (λ t going. (going, omega arith)) (same_keeps (b.link n)))
 action_grows b (action.Wait who kind) quiet may = stays b (entered b (action.Wait who kind)) (omega arith) (omega arith) (λ n. same_keeps (b.link n))
 action_grows b (action.Created e) quiet may = stays b (entered b (action.Created e)) (omega arith) (omega arith) (λ n. same_keeps (b.link n))
 action_grows b (action.Outcome n o) quiet may = stays b (entered b (action.Outcome n o)) (omega arith) (omega arith) (λ m. same_keeps (b.link m))

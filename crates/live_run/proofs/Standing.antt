@@ -46,9 +46,11 @@ known_grown {targets} {ups} {pendings} {b} {c} g h = record {
 }
 
 timer_next : (b : Book) (t ms : ℕ) (what : Purpose) → MayTimer b t ms what → t ≡ length b.timers
-timer_next b t ms what (inl opens) = opens.next
+timer_next b t ms what (inl (inl connects)) = connects.next
+timer_next b t ms what (inl (inr rests)) = rests.next
 timer_next b t ms what (inr (inl asks)) = asks.next
-timer_next b t ms what (inr (inr renews)) = renews.next
+timer_next b t ms what (inr (inr (inl renews))) = renews.next
+timer_next b t ms what (inr (inr (inr repeats))) = repeats.next
 
 mine_offers : (mine : Bool) (g : Ledger) (bytes : List ℕ) → mine ≡ true → (noted_each g (if_mine mine (offers bytes))).offer ≡ bytes
 mine_offers true g bytes t = refl
@@ -91,6 +93,8 @@ noted_known a b (action.Push l info) quiet may h = known_grown (action_grows b (
 noted_known a b (action.Message m) quiet may h = known_grown (action_grows b (action.Message m) tt may) h
 noted_known a b (action.Monitor v) quiet may h = known_grown (action_grows b (action.Monitor v) tt may) h
 noted_known a b (action.NeedCreds c l) quiet may h = known_grown (action_grows b (action.NeedCreds c l) tt may) h
+noted_known a b (action.Generation g) quiet may h = known_grown (action_grows b (action.Generation g) tt may) h
+noted_known a b (action.Round who l) quiet may h = known_grown (action_grows b (action.Round who l) tt may) h
 noted_known a b (action.Start l message who count len) quiet may h = known_grown (action_grows b (action.Start l message who count len) tt may) h
 noted_known a b (action.Wait who kind) quiet may h = known_grown (action_grows b (action.Wait who kind) tt may) h
 noted_known a b (action.Created e) quiet may h = known_grown (action_grows b (action.Created e) tt may) h

@@ -194,7 +194,7 @@ fn each_world_gives_its_outcomes(rt: HostRuntime) -> Result<(), AllocError> {
 }
 
 /// Words and lines that are refused, the status, and the line of their refusal.
-const FAULTS: [(&[&str], &[u8], u8, &[u8]); 11] = [
+const FAULTS: [(&[&str], &[u8], u8, &[u8]); 13] = [
     (THREE, b"submit cmd GET a\n", 2, b"script line 2\n"),
     (
         THREE,
@@ -241,6 +241,8 @@ const FAULTS: [(&[&str], &[u8], u8, &[u8]); 11] = [
         1,
         USAGE,
     ),
+    (&["manager", URL, "lib=off"], LINES, 3, b"config kind\n"),
+    (&["lazy", URL, "creds=on"], LINES, 3, b"config creds\n"),
 ];
 
 #[test]

@@ -1,5 +1,5 @@
 use containers::{Bytes, Names, Queue};
-use driver_model::{Action, Config, Event, Outcome, Submission};
+use driver_model::{Action, AddressWords, Config, ConnectionWords, Event, Outcome, Submission};
 use live_run::{Ending, drive};
 use outside::{Dialed, LinkGot, LinkPut, MemWorld, WorldScript};
 use redis_error::FaultKind;
@@ -9,11 +9,18 @@ use std::alloc::{AllocError, Global};
 
 /// The configuration of a session whose requests are to be answered within so many milliseconds.
 fn config(alloc: Global, response: Option<u64>) -> Result<Config, AllocError> {
-    let mut config = Config::new(Bytes::from_slice(alloc, b"redis://h:6379")?);
-    config.connect = Some(None);
-    config.response = Some(response);
-    config.lib = Some(false);
-    Ok(config)
+    let url = Bytes::from_slice(alloc, b"redis://h:6379")?;
+    Ok(Config::Single {
+        address: AddressWords {
+            url,
+            lib: Some(false),
+        },
+        connection: ConnectionWords {
+            connect: Some(None),
+            response: Some(response),
+            ..ConnectionWords::new()
+        },
+    })
 }
 
 /// A session that has made its opening.

@@ -3,12 +3,9 @@ ghost use Rattle.redis_error.specs.declared.config_name.ConfigName.TheVariants.{
 ghost use Rattle.connection_info.specs.declared.protocol.ProtocolVersion.{ProtocolVersion};
 ghost use Rattle.connection_info.specs.declared.protocol.ProtocolVersion.TheVariants.{RESP2, RESP3};
 ghost use Rattle.manager_config.specs.declared.config.ConnectionManagerConfig.{ConnectionManagerConfig};
-ghost use Rattle.manager_config.specs.declared.settings.ManagerKind.TheVariants.{Manager, Lazy};
 ghost use Rattle.manager_config.specs.Config.{default_manager};
 ghost use Rattle.manager_config.specs.Refused.{first_fault, IsTaken};
 ghost use Rattle.manager_config.specs.Backoff.{delay_bound, backoff};
-ghost use Rattle.manager_config.specs.Settings.{settings_of, config_said};
-ghost use Rattle.manager_config.specs.Asked.{plain, nameless, bare, quick, changed, of_changed};
 
 /// Does nothing. Its contract: nothing of a configuration is refused exactly where nothing stands against it.
 pub fn a_config_is_taken_where_no_check_fails()
@@ -70,24 +67,4 @@ pub fn these_are_refused()
         ≡ Some Limit }
     ensures places { first_fault RESP2 (record default_manager { connection = record default_manager.connection { pipeline_buffer_size = 0 } })
         ≡ Some Buffer }
-{}
-
-/// Does nothing. Its contract: the words of sessions at one address, over managers of which no setting, two settings and every
-/// setting aren't the default.
-pub fn sessions_are_asked_with_these_words()
-    ensures default { settings_of Manager plain default_manager ≡ bare }
-    ensures lazy { settings_of Lazy plain default_manager ≡ record bare { kind = Lazy } }
-    ensures two { settings_of Manager plain quick ≡ record bare { min = Some 5; resub = Some true } }
-    ensures every { settings_of Lazy nameless changed ≡ of_changed }
-    ensures no_default { settings_of Manager plain default_manager ≢ record bare { min = Some 100 } }
-{}
-
-/// Does nothing. Its contract: how managers behave by these words, and that they don't behave so where one word is left out or
-/// two are exchanged.
-pub fn managers_behave_so_by_their_words()
-    ensures default { config_said bare ≡ default_manager }
-    ensures every { config_said of_changed ≡ changed }
-    ensures left_out { config_said (record of_changed { max = None }) ≢ changed }
-    ensures exchanged { config_said (record of_changed { connect = of_changed.response; response = of_changed.connect })
-        ≢ changed }
 {}

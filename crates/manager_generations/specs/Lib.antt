@@ -1,4 +1,3 @@
 pub mod Phases
-pub mod Waits
 pub mod Generations
 pub mod Moves

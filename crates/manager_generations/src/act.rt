@@ -19,62 +19,6 @@ pub enum ManagerTimer {
     Backoff { generation: u32, attempt: u32 },
 }
 
-/// What a request waits for.
-#[derive(Clone, Copy, PartialEq, Eq)]
-pub enum ManagerWait {
-    /// The connect of the link isn't answered yet.
-    Connect,
-    /// The credentials for the setup of the link haven't come.
-    Creds,
-    /// The setup of the link isn't answered yet.
-    Setup,
-    /// What was subscribed is subscribed again.
-    Resubscribe,
-    /// The next attempt to connect hasn't begun.
-    Backoff,
-    /// All permits of the connection are held.
-    Permit,
-    /// The queue of the link holds its size.
-    Place,
-    /// It has its place, and so many bytes of the link are unwritten that no message starts.
-    Room,
-}
-
-impl ManagerWait {
-    ghost use Rattle.std.specs.Prelude.{◌≡◌};
-    ghost use Rattle.manager_generations.specs.Waits.{wait_of, wait_code};
-
-    /// What a request of a connection waits for.
-    pub fn of_link(wait: WaitKind) -> ManagerWait
-        ensures { result ≡ wait_of wait }
-    {
-        match wait {
-            WaitKind::Connect => ManagerWait::Connect,
-            WaitKind::Creds => ManagerWait::Creds,
-            WaitKind::Setup => ManagerWait::Setup,
-            WaitKind::Permit => ManagerWait::Permit,
-            WaitKind::Place => ManagerWait::Place,
-            WaitKind::Room => ManagerWait::Room,
-        }
-    }
-
-    /// Its place in the list of waits.
-    pub fn code(self) -> u8
-        ensures { result ≡ wait_code self }
-    {
-        match self {
-            ManagerWait::Connect => 0,
-            ManagerWait::Creds => 1,
-            ManagerWait::Setup => 2,
-            ManagerWait::Resubscribe => 3,
-            ManagerWait::Backoff => 4,
-            ManagerWait::Permit => 5,
-            ManagerWait::Place => 6,
-            ManagerWait::Room => 7,
-        }
-    }
-}
-
 /// What a manager asks of the outside, or tells it. Links have the numbers in whose order they were asked for, from 0.
 #[derive(Drop)]
 pub enum ManagerAct {
@@ -126,7 +70,7 @@ pub enum ManagerAct {
     /// A request waits.
     Wait {
         request: Pending,
-        wait: ManagerWait,
+        wait: WaitKind,
     },
     /// A request's message starts: the messages of the link are numbered from 0; how many items it takes, and how many bytes
     /// it has.

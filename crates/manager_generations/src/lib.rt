@@ -8,7 +8,7 @@ mod laws;
 mod phase;
 mod settings;
 
-pub use act::{ManagerAct, ManagerTimer, ManagerWait};
+pub use act::{ManagerAct, ManagerTimer};
 pub use generations::Generations;
 pub use laws::{
     a_generation_is_replaced_by_its_causes_alone, each_wait_goes_by_its_attempt_and_its_word,

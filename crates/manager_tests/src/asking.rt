@@ -1,6 +1,8 @@
+use conn_manager::ManagerGetters;
 use connection_info::{Client, ConnectionInfo, OpenError, ProtocolVersion, RedisConnectionInfo};
 use containers::Bytes;
-use manager_config::{ConnectionManagerConfig, ManagerGetters, ManagerKind, ManagerSettings};
+use driver_model::{AddressWords, Config, ManagerWords};
+use manager_config::ConnectionManagerConfig;
 use redis_error::ConfigName;
 use std::alloc::{AllocError, Global};
 
@@ -16,36 +18,54 @@ fn quick() -> ConnectionManagerConfig {
         .set_automatic_resubscription()
 }
 
-/// Whether the words say this kind, the URL of the client, and these two settings.
-fn say(words: &ManagerSettings, kind: ManagerKind, min: Option<u64>, resub: Option<bool>) -> bool {
-    let url = words.url.as_slice() == b"redis://h:6379".as_slice();
-    url && words.kind == kind && words.min == min && words.resub == resub
+/// How a connection of these words comes back.
+fn said(min: Option<u64>, resub: Option<bool>) -> ManagerWords {
+    ManagerWords {
+        retries: None,
+        min,
+        max: None,
+        base: None,
+        resub,
+    }
 }
 
-/// Whether the words say nothing of the other settings.
-fn say_no_more(words: &ManagerSettings) -> bool {
-    words.max == None && words.base == None && words.retries == None && words.lib == None
+/// Whether these are the URL of the client and nothing else.
+fn is_plain(address: &AddressWords) -> bool {
+    address.lib == None && address.url.as_slice() == b"redis://h:6379".as_slice()
+}
+
+/// Whether the words are those of a manager that is lazy or not, at the client's URL, and comes back so.
+fn say(words: &Config, is_lazy: bool, comes_back: ManagerWords) -> bool {
+    match words {
+        Config::Manager {
+            lazy,
+            address,
+            connection: _,
+            manager,
+        } => *lazy == is_lazy && is_plain(address) && *manager == comes_back,
+        _ => false,
+    }
 }
 
 fn is_asked(alloc: Global, client: &Client) -> Result<bool, OpenError> {
     let words = client.get_connection_manager(alloc)?;
-    Ok(say(&words, ManagerKind::Manager, None, None) && say_no_more(&words))
+    Ok(say(&words, false, said(None, None)))
 }
 
 fn is_asked_quickly(alloc: Global, client: &Client) -> Result<bool, OpenError> {
     let words = client.get_connection_manager_with_config(alloc, &quick())?;
-    Ok(say(&words, ManagerKind::Manager, Some(5), Some(true)) && say_no_more(&words))
+    Ok(say(&words, false, said(Some(5), Some(true))))
 }
 
 fn is_asked_lazily(alloc: Global, client: &Client) -> Result<bool, OpenError> {
     let words = client.get_connection_manager_lazy(alloc, &quick())?;
-    Ok(say(&words, ManagerKind::Lazy, Some(5), Some(true)))
+    Ok(say(&words, true, said(Some(5), Some(true))))
 }
 
 fn is_copied(alloc: Global, client: &Client) -> Result<bool, OpenError> {
     let words = client.get_connection_manager_lazy(alloc, &quick())?;
     let copy = words.clone(alloc)?;
-    Ok(say(&copy, ManagerKind::Lazy, Some(5), Some(true)))
+    Ok(say(&copy, true, said(Some(5), Some(true))))
 }
 
 #[test]
@@ -76,7 +96,7 @@ fn nameless(alloc: Global, host: &[u8]) -> Result<ConnectionInfo, AllocError> {
 }
 
 /// What a session at this host is asked with.
-fn asked_of(alloc: Global, host: &[u8]) -> Result<ManagerSettings, OpenError> {
+fn asked_of(alloc: Global, host: &[u8]) -> Result<Config, OpenError> {
     let info = nameless(alloc, host)?;
     Client::open(alloc, info)?.get_connection_manager(alloc)
 }
@@ -84,7 +104,7 @@ fn asked_of(alloc: Global, host: &[u8]) -> Result<ManagerSettings, OpenError> {
 /// Whether a session at this host is asked so, or refused since no URL is its address.
 fn is_asked_of(alloc: Global, host: &[u8], has_url: bool) -> bool {
     match asked_of(alloc, host) {
-        Ok(words) => has_url && words.lib == Some(false),
+        Ok(words) => has_url && words.address().lib == Some(false),
         Err(error) => !has_url && error == OpenError::Config(ConfigName::Url),
     }
 }

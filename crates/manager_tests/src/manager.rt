@@ -3,12 +3,11 @@ ghost use Rattle.conn_manager.specs.Events.{happened};
 ghost use Rattle.conn_manager.specs.Fitting.{IsFitting};
 
 use conn_manager::{
-    ConnectionManager, ManagerAct, ManagerEvent, ManagerNews, ManagerTimer, ManagerWait, Pending,
-    SendError,
+    ConnectionManager, ManagerAct, ManagerEvent, ManagerNews, ManagerTimer, Pending, SendError,
 };
 use connection_info::{Client, ConnectionInfo, ProtocolVersion, RedisConnectionInfo};
 use containers::{Bytes, Names};
-use driver_model::{LinkFault, LinkNews, Outcome};
+use driver_model::{LinkFault, LinkNews, Outcome, WaitKind};
 use manager_config::ConnectionManagerConfig;
 use redis_error::{FaultKind, RedisError};
 use resp_write::{SubscriptionAction, cmd, pipe};
@@ -140,12 +139,12 @@ fn timer_name(timer: ManagerTimer, ms: u64) -> &'static str {
 }
 
 /// The name of a wait.
-fn wait_name(wait: ManagerWait) -> &'static str {
+fn wait_name(wait: WaitKind) -> &'static str {
     match wait {
-        ManagerWait::Connect => "wait connect",
-        ManagerWait::Setup => "wait setup",
-        ManagerWait::Resubscribe => "wait resubscribe",
-        ManagerWait::Backoff => "wait backoff",
+        WaitKind::Connect => "wait connect",
+        WaitKind::Setup => "wait setup",
+        WaitKind::Resubscribe => "wait resubscribe",
+        WaitKind::Backoff => "wait backoff",
         _ => "wait",
     }
 }

@@ -1,3 +1,4 @@
 pub mod Words
 mod Calls
 pub mod Threads
+pub mod Managed

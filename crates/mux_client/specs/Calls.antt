@@ -5,7 +5,7 @@ use Rattle.resp_write.specs.Subscription.{action_word}
 use Rattle.resp_write.specs.declared.subscription.SubscriptionAction.{SubscriptionAction}
 use Rattle.connection_info.specs.Protocol.{is_resp3}
 use Rattle.driver_model.specs.declared.outcome.Shape.{Shape}
-use Rattle.driver_model.specs.declared.outcome.Shape.TheVariants.{Single, Pipeline, Confirmation}
+use Rattle.driver_model.specs.declared.outcome.Shape.TheVariants.{Confirmation}
 use Rattle.driver_model.specs.News.{News}
 use Rattle.driver_model.specs.Hearing.{hears_messages}
 use Rattle.redis_error.specs.declared.redis_error.RedisError.TheVariants as fault
@@ -46,10 +46,6 @@ sent_inside c packed shape = record c {
   outcomes = c.outcomes ++ None ∷ [];
   early = c.early ++ own_timer (next_number c) c.timeout;
 }
-
--- how an internal list of commands takes its items: one as a single command, any other number as a pipeline that keeps all
-abbrev pub shape_inside : ℕ → Shape
-shape_inside n = if n == 1 then Single else Pipeline 0 n false
 
 -- why a message of these bytes wasn't sent by this connection: it is empty; the number 2^32 - 1 would be given to a request;
 -- a call failed before with this error; or memory was wanted

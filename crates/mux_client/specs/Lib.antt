@@ -3,3 +3,5 @@ pub mod Shown
 pub mod Errors
 pub mod Calls
 pub mod Makers
+pub mod Managers
+pub mod Asked

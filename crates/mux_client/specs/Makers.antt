@@ -8,10 +8,11 @@ use Rattle.connection_info.specs.declared.open_error.OpenError.TheVariants as er
 use Rattle.connection_info.specs.Config.{default_config}
 use Rattle.connection_info.specs.Written.{url_of, ReadsBack}
 use Rattle.driver_model.specs.declared.config.Config.{Config}
+use Rattle.driver_model.specs.declared.config.Config.TheVariants as config
+use Rattle.driver_model.specs.declared.config_words.AddressWords.{AddressWords}
+use Rattle.driver_model.specs.declared.config_words.ConnectionWords.{ConnectionWords}
 use Rattle.driver_model.specs.declared.kind.SessionKind.{SessionKind}
-use Rattle.driver_model.specs.declared.kind.SessionKind.TheVariants as kind
-use Rattle.driver_model.specs.Config.{connect_timeout, response_timeout, permits, buffer_size, boundary, hearing_of, wants_credentials, told_info}
-use Rattle.driver_model.specs.Config as words
+use Rattle.driver_model.specs.Config.{kind_of, connect_timeout, response_timeout, permits, buffer_size, boundary, hearing_of, wants_credentials, told_info}
 use Rattle.driver_model.specs.Hearing.{hears_pushes}
 
 -- two times, or none
@@ -41,11 +42,13 @@ creds_given provided = if provided then Some true else None
 abbrev pub library_given : Bool → Option Bool
 library_given skips = if skips then Some false else None
 
--- the words of the configuration: the address as it is written, and what isn't the default
-abbrev pub config_of : ConnectionInfo → AsyncConnectionConfig → Config
-config_of info c = record {
-  kind = kind.Single;
-  url = url_of info;
+-- the words of an address: as it is written
+abbrev pub address_given : ConnectionInfo → AddressWords
+address_given info = record { url = url_of info; lib = library_given info.redis.skip_set_lib_name }
+
+-- the words of a connection: what isn't the default
+abbrev pub connection_given : AsyncConnectionConfig → ConnectionWords
+connection_given c = record {
   connect = time_given default_config.connection_timeout c.connection_timeout;
   response = time_given default_config.response_timeout c.response_timeout;
   limit = c.concurrency_limit;
@@ -53,16 +56,23 @@ config_of info c = record {
   boundary = number_given default_config.write_backpressure_boundary c.write_backpressure_boundary;
   push = push_given c.push_sender;
   creds = creds_given c.credentials_provider;
-  lib = library_given info.redis.skip_set_lib_name;
 }
 
--- the words of a link of publish/subscribe or of monitor mode: the address as it is written
-abbrev pub link_config_of : SessionKind → ConnectionInfo → Config
-link_config_of what info = record (words.config_of what (url_of info)) { lib = library_given info.redis.skip_set_lib_name }
+-- the words of the configuration: the address as it is written, and what isn't the default
+abbrev pub config_of : ConnectionInfo → AsyncConnectionConfig → Config
+config_of info c = config.Single (address_given info) (connection_given c)
+
+-- the words of a link of publish/subscribe: the address as it is written
+abbrev pub pubsub_of : ConnectionInfo → Config
+pubsub_of info = config.PubSub (address_given info)
+
+-- and of one in monitor mode
+abbrev pub monitor_of : ConnectionInfo → Config
+monitor_of info = config.Monitor (address_given info)
 
 -- a session of these words is of this kind, connects to this address, and says what it says to the server
 pub record KeepsLink (what : SessionKind) (info : ConnectionInfo) (words : Config) : Type 0 where
-  pub is : words.kind ≡ what
+  pub is : kind_of words ≡ what
   pub said : told_info words ≡ info.redis
 
 -- a session of these words connects to this address, says what it says to the server, and behaves by this configuration

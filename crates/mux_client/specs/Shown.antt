@@ -13,10 +13,12 @@ pending p = record { number = p }
 
 abbrev pub shown : LinkAct → ConnectionAct
 shown (link_act.Created e) = act.Created e
+shown (link_act.Round p) = act.Round (pending p)
 shown (link_act.Took p count) = act.Took (pending p) count
 shown (link_act.Timer p ms) = act.Timer (timer.Response (pending p)) ms
 shown (link_act.RenewalTimer k ms) = act.Timer (timer.Renewal k) ms
 shown link_act.NeedCreds = act.NeedCreds
+shown link_act.NeedRenewals = act.NeedCreds
 shown (link_act.Push info) = act.Push info
 shown (link_act.Message m) = act.Message m
 shown (link_act.Monitor v) = act.Monitor v
@@ -35,10 +37,12 @@ shown_each (a ∷ more) = shown a ∷ shown_each more
 
 abbrev pub kept : List (Option Outcome) → LinkAct → List (Option Outcome)
 kept os (link_act.Created e) = os
+kept os (link_act.Round p) = os
 kept os (link_act.Took p count) = os
 kept os (link_act.Timer p ms) = os
 kept os (link_act.RenewalTimer k ms) = os
 kept os link_act.NeedCreds = os
+kept os link_act.NeedRenewals = os
 kept os (link_act.Renewed message need len) = os
 kept os (link_act.Push info) = os
 kept os (link_act.Message m) = os

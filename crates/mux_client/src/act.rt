@@ -32,6 +32,10 @@ pub enum ConnectionAct {
     /// `Denied` or `Deserted`. Another is for the renewals: what comes of it is told as `LinkNews::Renewed` or `Unrenewed`, and
     /// its errors are passed over.
     NeedCreds,
+    /// The round of a request begins, of a connection that comes back: others show none.
+    Round {
+        request: Pending,
+    },
     /// A request takes so many permits.
     Took {
         request: Pending,

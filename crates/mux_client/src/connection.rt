@@ -123,17 +123,18 @@ impl MultiplexedConnection {
         let told = info.clone(alloc)?;
         let early = timer(alloc, config.connection_timeout)?;
         let renewal = Renewal::new(alloc, config.credentials_provider, config.response_timeout);
+        let core = Core::new(
+            alloc,
+            config.pipeline_buffer_size,
+            config.write_backpressure_boundary,
+            config.concurrency_limit,
+            heard_by(config.push_sender),
+            told,
+            renewal,
+        )?;
         Ok(MultiplexedConnection {
             link,
-            core: Core::new(
-                alloc,
-                config.pipeline_buffer_size,
-                config.write_backpressure_boundary,
-                config.concurrency_limit,
-                heard_by(config.push_sender),
-                told,
-                renewal,
-            ),
+            core,
             timeout: config.response_timeout,
             outcomes: Seq::new(alloc),
             early,
@@ -153,9 +154,10 @@ impl MultiplexedConnection {
         let told = info.clone(alloc)?;
         let boundary = AsyncConnectionConfig::new().write_backpressure_boundary;
         let renewal = Renewal::new(alloc, false, None);
+        let core = Core::new(alloc, u32::MAX, boundary, None, hears, told, renewal)?;
         Ok(MultiplexedConnection {
             link,
-            core: Core::new(alloc, u32::MAX, boundary, None, hears, told, renewal),
+            core,
             timeout: None,
             outcomes: Seq::new(alloc),
             early: Seq::new(alloc),
@@ -170,6 +172,7 @@ impl MultiplexedConnection {
             Life::Ready { link } => count <= link.offered_len(),
             Life::SettingUp { link, greeting: _ } => count <= link.offered_len(),
             Life::Wanting { link } => count <= link.offered_len(),
+            Life::Resting => true,
             Life::Dialing => true,
             Life::Ended { error: _ } => true,
         }
@@ -186,6 +189,7 @@ impl MultiplexedConnection {
                 greeting: _,
             } => false,
             Life::Wanting { link: _ } => false,
+            Life::Resting => false,
             Life::Dialing => false,
             Life::Ended { error: _ } => false,
         }

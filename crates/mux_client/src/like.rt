@@ -5,7 +5,8 @@ ghost use Rattle.driver_model.specs.News.{told};
 ghost use Rattle.mux_conn.specs.Connection.{is_ready, uses_up};
 ghost use Rattle.mux_conn.specs.Effects.{IsWithin};
 ghost use Rattle.mux_client.specs.Connection.{opened, outcome_of, fault_of, RefusesConnection};
-ghost use Rattle.mux_client.specs.Calls.{next_number, sent, sent_inside, shape_inside, cancelled};
+ghost use Rattle.driver_model.specs.Shape.{shape_inside};
+ghost use Rattle.mux_client.specs.Calls.{next_number, sent, sent_inside, cancelled};
 ghost use Rattle.mux_client.specs.Calls.{stepped, acts_of, turn_of, RefusesSend};
 
 use crate::act::ConnectionAct;

@@ -1,7 +1,7 @@
 ghost use Rattle.std.specs.Prelude.{◌≡◌, ◌≢◌, ◌⊎◌, ◌<◌, ◌+◌, ◌^◌, [], length, not, true, Some, None, OnOk, IfOk, IfErr};
 ghost use Rattle.resp_write.specs.Pack.{pack, pack_pipeline};
 ghost use Rattle.mux_conn.specs.Connection.{is_ready};
-ghost use Rattle.mux_client.specs.Calls.{shape_inside};
+ghost use Rattle.driver_model.specs.Shape.{shape_inside};
 
 use crate::act::{ConnectionAct, ConnectionTimer};
 use crate::connection::MultiplexedConnection;

@@ -41,6 +41,9 @@ fn show(act: LinkAct, outcomes: &mut Seq<Option<Outcome>>) -> ConnectionAct
 {
     match act {
         LinkAct::Created { error } => ConnectionAct::Created { error },
+        LinkAct::Round { request } => ConnectionAct::Round {
+            request: pending(request),
+        },
         LinkAct::Took { request, count } => ConnectionAct::Took {
             request: pending(request),
             count,
@@ -51,6 +54,7 @@ fn show(act: LinkAct, outcomes: &mut Seq<Option<Outcome>>) -> ConnectionAct
             ms,
         },
         LinkAct::NeedCreds => ConnectionAct::NeedCreds,
+        LinkAct::NeedRenewals => ConnectionAct::NeedCreds,
         LinkAct::Push { info } => ConnectionAct::Push { info },
         LinkAct::Message { msg } => ConnectionAct::Message { msg },
         LinkAct::Monitor { value } => ConnectionAct::Monitor { value },

@@ -1,5 +1,5 @@
 -- What is true of new credentials stays while requests are moved, and while bytes and waits are shown.
-use Rattle.std.proofs.Common.{◌≡◌, ℕ, List, [], ◌∷◌, Bool, true, false, Option, None, Some, refl, ap, ◌∙◌, if◌then◌else◌}
+use Rattle.std.proofs.Common.{◌≡◌, ℕ, List, [], ◌∷◌, Bool, true, false, ◌&&◌, Option, None, Some, refl, ap, ◌∙◌, if◌then◌else◌}
 use Rattle.resp_value.specs.declared.value.Value.TheVariants.{Nil}
 use Rattle.driver_model.specs.declared.action.WaitKind.{WaitKind}
 use Rattle.driver_model.specs.declared.outcome.Outcome.{Outcome}
@@ -10,13 +10,13 @@ use Rattle.link_core.specs.Outbox.{can_offer}
 use Rattle.mux_conn.specs.declared.connection.MultiplexedConnection.{MultiplexedConnection}
 use Rattle.mux_conn.specs.declared.life.Greeting.{Greeting}
 use Rattle.mux_conn.specs.declared.life.Life.{Life}
-use Rattle.mux_conn.specs.declared.life.Life.TheVariants.{Dialing, Wanting, SettingUp, Ready, Ended}
+use Rattle.mux_conn.specs.declared.life.Life.TheVariants.{Resting, Dialing, Wanting, SettingUp, Ready, Ended}
 use Rattle.mux_conn.specs.declared.renewal.Renewal.{Renewal}
 use Rattle.mux_conn.specs.declared.request.Waiting.{Waiting}
-use Rattle.mux_conn.specs.Connection.{Work, with_link, with_setup, admits_none, has_room}
-use Rattle.mux_conn.specs.Requests.{is_open_at, is_waiting_at, is_admitted_at, answered}
+use Rattle.mux_conn.specs.Connection.{Work, with_link, with_setup, is_ready, admits_none, has_room}
+use Rattle.mux_conn.specs.Requests.{is_open_at, is_waiting_at, is_unbegun_at, is_admitted_at, answered}
 use Rattle.mux_conn.specs.Passes.{shown_each, greeted_each, started, started_at, placed_at, told_at_place, seated, moved_up, moved_up_each, moved_up_all, still_admitted}
-use Rattle.mux_conn.specs.Passes.{permits_taken, took_shown, timer_asked, let_in, took, holding, put_behind, seated_or_behind, admitted_at, admitted, admitted_each, still_waiting, passed}
+use Rattle.mux_conn.specs.Passes.{permits_taken, took_shown, timer_asked, let_in, took, holding, put_behind, seated_or_behind, round_begun, rounds_of, rounds_begun, admitted_at, admitted, admitted_each, still_waiting, moved_all, passed}
 use Rattle.mux_conn.specs.Renewals.{renewed}
 use Rattle.mux_conn.specs.Turn.{written, written_at, moved_wait, fresh_wait, wait_shown, moved_each_shown, fresh_each_shown, moved_shown, flushed}
 
@@ -38,6 +38,7 @@ kept_either true r v w h k = h
 kept_either false r v w h k = k
 
 started_kept_at : (w : Work) (life : Life) → renewal_of (started_at w life) ≡ renewal_of w
+started_kept_at w Resting = refl
 started_kept_at w Dialing = refl
 started_kept_at w (Wanting link) = refl
 started_kept_at w (Ended x) = refl
@@ -58,6 +59,7 @@ told_kept : (w : Work) (q : Waiting) → renewal_of (told_at_place w q) ≡ rene
 told_kept w q = kept_either q.awaited (renewal_of w) w (answered w q.number (outcome.One Nil)) refl (answered_kept w q.number (outcome.One Nil))
 
 placed_kept : (w : Work) (q : Waiting) (life : Life) → renewal_of (placed_at w q life) ≡ renewal_of w
+placed_kept w q Resting = refl
 placed_kept w q Dialing = refl
 placed_kept w q (Wanting link) = refl
 placed_kept w q (Ended x) = refl
@@ -94,12 +96,24 @@ let_in_kept w q =
     let n = permits_taken w.conn.limit w.conn.free q.shape in
     timer_kept (took w q.number n) q.number q.timeout ∙ took_kept (record w { conn = holding w.conn q.number n }) q.number n w.conn.limit
 
+round_kept : (w : Work) (p : ℕ) → renewal_of (round_begun w p) ≡ renewal_of w
+round_kept w p = kept_either (w.conn.rounds && is_unbegun_at w.conn.requests p) (renewal_of w) _ w refl refl
+
+rounds_kept : (w : Work) (ps : List ℕ) → renewal_of (rounds_of w ps) ≡ renewal_of w
+rounds_kept w [] = refl
+rounds_kept w (p ∷ ps) = rounds_kept (round_begun w p) ps ∙ round_kept w p
+
+-- rounds that begin change nothing of it
+pub begun_kept : (w : Work) → renewal_of (rounds_begun w) ≡ renewal_of w
+begun_kept w = kept_either (w.conn.rounds && is_ready w.conn.life) (renewal_of w) (rounds_of w w.conn.fresh) w (rounds_kept w w.conn.fresh) refl
+
 admitted_at_kept : (w : Work) (q : Waiting) (life : Life) → renewal_of (admitted_at w q life) ≡ renewal_of w
+admitted_at_kept w q Resting = refl
 admitted_at_kept w q Dialing = refl
 admitted_at_kept w q (Wanting link) = refl
 admitted_at_kept w q (SettingUp link greeting) = refl
 admitted_at_kept w q (Ended x) = answered_kept w q.number (outcome.Fault x)
-admitted_at_kept w q (Ready link) = behind_kept (let_in w q) q ∙ let_in_kept w q
+admitted_at_kept w q (Ready link) = let begun = round_begun w q.number in behind_kept (let_in begun q) q ∙ let_in_kept begun q ∙ round_kept w q.number
 
 admitted_kept : (w : Work) (q : Waiting) → renewal_of (admitted w q) ≡ renewal_of w
 admitted_kept w q = kept_either (is_waiting_at w.conn.requests q.number) (renewal_of w) (admitted_at w q w.conn.life) w (admitted_at_kept w q w.conn.life) refl
@@ -110,12 +124,16 @@ admitted_each_kept w (q ∷ qs) =
     kept_either (admits_none w.conn) (renewal_of w) (still_waiting w (q ∷ qs)) (admitted_each (admitted w q) qs)
     refl (admitted_each_kept (admitted w q) qs ∙ admitted_kept w q)
 
--- a pass changes nothing of it once credentials are told
-pub passed_kept : (w : Work) → renewal_of (passed w) ≡ renewal_of (renewed w)
-passed_kept w =
+-- nor does anything once credentials are told, while requests are moved
+pub moved_kept : (w : Work) → renewal_of (moved_all w) ≡ renewal_of (renewed w)
+moved_kept w =
     let s = started (renewed w) in
     let m = moved_up_all s in
     admitted_each_kept (still_waiting m []) m.conn.waiting ∙ moved_up_each_kept (still_admitted s []) s.conn.admitted ∙ started_kept (renewed w)
+
+-- so a pass changes nothing of it then
+pub passed_kept : (w : Work) → renewal_of (passed w) ≡ renewal_of (renewed w)
+passed_kept w = begun_kept (moved_all w) ∙ moved_kept w
 
 wait_kept : (w : Work) (p : ℕ) (kind : Option WaitKind) → renewal_of (wait_shown w p kind) ≡ renewal_of w
 wait_kept w p None = refl
@@ -130,6 +148,7 @@ fresh_each_kept w [] = refl
 fresh_each_kept w (p ∷ ps) = fresh_each_kept (wait_shown w p (fresh_wait w.conn p)) ps ∙ wait_kept w p (fresh_wait w.conn p)
 
 written_kept : (w : Work) (life : Life) → renewal_of (written_at w life) ≡ renewal_of w
+written_kept w Resting = refl
 written_kept w Dialing = refl
 written_kept w (Wanting link) = refl
 written_kept w (Ended x) = refl

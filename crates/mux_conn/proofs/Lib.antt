@@ -1,6 +1,9 @@
 pub mod Kept
 pub mod Spent
 pub mod Entries
+pub mod Begun
 pub mod Threads
 pub mod Judged
 pub mod Told
+pub mod Unreadable
+pub mod Openings

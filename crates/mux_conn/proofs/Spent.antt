@@ -1,5 +1,5 @@
 -- A number that has run out has run out for the rest of the turn.
-use Rattle.std.proofs.Common.{◌≡◌, ℕ, ◌^◌, ◌≤◌, nat_le, List, [], ◌∷◌, Bool, true, false, ◌||◌, Option, None, Some, refl, sym, ap, subst, ◌∙◌, arith, if◌then◌else◌}
+use Rattle.std.proofs.Common.{◌≡◌, ℕ, ◌^◌, ◌≤◌, nat_le, List, [], ◌∷◌, Bool, true, false, ◌&&◌, ◌||◌, Option, None, Some, refl, sym, ap, subst, ◌∙◌, arith, if◌then◌else◌}
 use Rattle.std.proofs.Math.Nat.{le_refl}
 use Rattle.std.proofs.lemmas.Bool.Decides.{nat_tests}
 use Rattle.containers.proofs.Choices.{taken_if, left_if, not_both}
@@ -12,18 +12,18 @@ use Rattle.link_core.proofs.StartLemmas.{numbers_rise}
 use Rattle.mux_conn.specs.declared.connection.MultiplexedConnection.{MultiplexedConnection}
 use Rattle.mux_conn.specs.declared.life.Greeting.{Greeting}
 use Rattle.mux_conn.specs.declared.life.Life.{Life}
-use Rattle.mux_conn.specs.declared.life.Life.TheVariants.{Dialing, Wanting, SettingUp, Ready, Ended}
+use Rattle.mux_conn.specs.declared.life.Life.TheVariants.{Resting, Dialing, Wanting, SettingUp, Ready, Ended}
 use Rattle.mux_conn.specs.declared.renewal.Renewal.{Renewal}
 use Rattle.mux_conn.specs.declared.request.Waiting.{Waiting}
-use Rattle.mux_conn.specs.Connection.{Work, with_link, with_setup, admits_none, has_room, started_in, is_spent_in, runs_out, renewals_run_out, uses_up}
-use Rattle.mux_conn.specs.Requests.{is_open_at, is_waiting_at, is_admitted_at, answered}
+use Rattle.mux_conn.specs.Connection.{Work, with_link, with_setup, is_ready, admits_none, has_room, started_in, is_spent_in, runs_out, renewals_run_out, uses_up}
+use Rattle.mux_conn.specs.Requests.{is_open_at, is_waiting_at, is_unbegun_at, is_admitted_at, answered}
 use Rattle.driver_model.specs.declared.action.WaitKind.{WaitKind}
 use Rattle.driver_model.specs.News.{News}
 use Rattle.mux_conn.specs.Effects.{applied}
 use Rattle.mux_conn.specs.Passes.{shown_each, greeted_each, started, started_at, placed_at, told_at_place, seated, moved_up, moved_up_each, moved_up_all, still_admitted}
-use Rattle.mux_conn.specs.Passes.{permits_taken, took, took_shown, timer_asked, let_in, holding, put_behind, seated_or_behind, admitted_at, admitted, admitted_each, admitted_all, still_waiting, passed}
+use Rattle.mux_conn.specs.Passes.{permits_taken, took, took_shown, timer_asked, let_in, holding, put_behind, seated_or_behind, round_begun, rounds_of, rounds_begun, admitted_at, admitted, admitted_each, admitted_all, still_waiting, moved_all, passed}
 use Rattle.mux_conn.specs.Renewals.{renewed}
-use Rattle.mux_conn.proofs.Kept.{shown_same, greeted_same, passed_kept, flushed_kept}
+use Rattle.mux_conn.proofs.Kept.{shown_same, greeted_same, begun_kept, moved_kept, flushed_kept}
 use Rattle.mux_conn.specs.Turn.{written, written_at, moved_wait, fresh_wait, wait_shown, moved_each_shown, fresh_each_shown, moved_shown, fresh_shown, flushed, stepped}
 
 -- how many messages have started
@@ -32,6 +32,7 @@ count w = started_in w.conn.life
 
 -- starts give no smaller numbers
 started_rises_at : (w : Work) (life : Life) → w.conn.life ≡ life → count w ≤ count (started_at w life)
+started_rises_at w Resting e = le_refl (count w)
 started_rises_at w Dialing e = le_refl (count w)
 started_rises_at w (Wanting link) e = le_refl (count w)
 started_rises_at w (Ended x) e = le_refl (count w)
@@ -79,6 +80,7 @@ told_count : (w : Work) (q : Waiting) → count (told_at_place w q) ≡ count w
 told_count w q = count_either q.awaited (count w) w (answered w q.number (outcome.One Nil)) refl (answered_count w q.number (outcome.One Nil))
 
 placed_count : (w : Work) (q : Waiting) (life : Life) → w.conn.life ≡ life → count (placed_at w q life) ≡ count w
+placed_count w q Resting e = refl
 placed_count w q Dialing e = refl
 placed_count w q (Wanting link) e = refl
 placed_count w q (Ended x) e = refl
@@ -118,12 +120,27 @@ let_in_count w q =
     let n = permits_taken w.conn.limit w.conn.free q.shape in
     timer_count (took w q.number n) q.number q.timeout ∙ took_count (record w { conn = holding w.conn q.number n }) q.number n w.conn.limit
 
+-- nor do rounds that begin
+round_count : (w : Work) (p : ℕ) → count (round_begun w p) ≡ count w
+round_count w p = count_either (w.conn.rounds && is_unbegun_at w.conn.requests p) (count w) _ w refl refl
+
+rounds_count : (w : Work) (ps : List ℕ) → count (rounds_of w ps) ≡ count w
+rounds_count w [] = refl
+rounds_count w (p ∷ ps) = rounds_count (round_begun w p) ps ∙ round_count w p
+
+begun_count : (w : Work) → count (rounds_begun w) ≡ count w
+begun_count w = count_either (w.conn.rounds && is_ready w.conn.life) (count w) (rounds_of w w.conn.fresh) w (rounds_count w w.conn.fresh) refl
+
 admitted_at_rises : (w : Work) (q : Waiting) (life : Life) → count w ≤ count (admitted_at w q life)
+admitted_at_rises w q Resting = le_refl (count w)
 admitted_at_rises w q Dialing = le_refl (count w)
 admitted_at_rises w q (Wanting link) = le_refl (count w)
 admitted_at_rises w q (SettingUp link greeting) = le_refl (count w)
 admitted_at_rises w q (Ended x) = let same = answered_count w q.number (outcome.Fault x) in omega (arith, same)
-admitted_at_rises w q (Ready link) = let same = let_in_count w q in omega (arith, same, behind_rises (let_in w q) q)
+admitted_at_rises w q (Ready link) =
+    let begun = round_begun w q.number in
+    let same : count (let_in begun q) ≡ count w = let_in_count begun q ∙ round_count w q.number in
+    omega (arith, same, behind_rises (let_in begun q) q)
 
 admitted_rises : (w : Work) (q : Waiting) → count w ≤ count (admitted w q)
 admitted_rises w q = rises_either (is_waiting_at w.conn.requests q.number) (count w) (admitted_at w q w.conn.life) w (admitted_at_rises w q w.conn.life) (le_refl (count w))
@@ -167,29 +184,36 @@ uses_more w v l e h =
     ap (λ (n : ℕ). runs_out v || nat_le (2 ^ 32) n) e ∙ or_more (runs_out w) (runs_out v) (nat_le (2 ^ 32) w.conn.renewal.asked) (past (count w) (count v) l) h
 
 -- those that take a place run out before the others are admitted
-pub spent_second : (w : Work) → is_spent_in (moved_up_all (started (renewed w))).conn.life ≡ true → uses_up (passed w) ≡ true
+pub spent_second : (w : Work) → is_spent_in (moved_up_all (started (renewed w))).conn.life ≡ true → uses_up (moved_all w) ≡ true
 spent_second w h =
     let v = moved_up_all (started (renewed w)) in
-    either_left (runs_out (passed w)) (renewals_run_out (passed w)) (past (count v) (count (admitted_all v)) (admitted_each_rises (still_waiting v []) v.conn.waiting) h)
+    either_left (runs_out (moved_all w)) (renewals_run_out (moved_all w)) (past (count v) (count (admitted_all v)) (admitted_each_rises (still_waiting v []) v.conn.waiting) h)
 
 -- starts run out before requests are moved
-pub spent_first : (w : Work) → is_spent_in (started (renewed w)).conn.life ≡ true → uses_up (passed w) ≡ true
+pub spent_first : (w : Work) → is_spent_in (started (renewed w)).conn.life ≡ true → uses_up (moved_all w) ≡ true
 spent_first w h =
     let v = started (renewed w) in
     spent_second w (past (count v) (count (moved_up_all v)) (moved_up_each_rises (still_admitted v []) v.conn.admitted) h)
 
--- a pass gives no smaller numbers than new credentials do
-passed_rises : (w : Work) → count (renewed w) ≤ count (passed w)
-passed_rises w =
+-- to move requests gives no smaller numbers than new credentials do
+moved_rises : (w : Work) → count (renewed w) ≤ count (moved_all w)
+moved_rises w =
     let s = started (renewed w) in
     let m = moved_up_all s in
     let up : count s ≤ count m = moved_up_each_rises (still_admitted s []) s.conn.admitted in
-    let all : count m ≤ count (passed w) = admitted_each_rises (still_waiting m []) m.conn.waiting in
+    let all : count m ≤ count (moved_all w) = admitted_each_rises (still_waiting m []) m.conn.waiting in
     omega (arith, started_rises (renewed w), up, all)
 
 -- what new credentials use up is used up when requests were moved
-pub spent_renewed : (w : Work) → uses_up (renewed w) ≡ true → uses_up (passed w) ≡ true
-spent_renewed w h = uses_more (renewed w) (passed w) (passed_rises w) (ap (λ (r : Renewal). r.asked) (passed_kept w)) h
+pub spent_renewed : (w : Work) → uses_up (renewed w) ≡ true → uses_up (moved_all w) ≡ true
+spent_renewed w h = uses_more (renewed w) (moved_all w) (moved_rises w) (ap (λ (r : Renewal). r.asked) (moved_kept w)) h
+
+-- what is used up when requests were moved is used up when rounds have begun
+pub spent_moved : (w : Work) → uses_up (moved_all w) ≡ true → uses_up (passed w) ≡ true
+spent_moved w h =
+    let v = moved_all w in
+    let same = begun_count v in
+    uses_more v (rounds_begun v) (omega (arith, same)) (ap (λ (r : Renewal). r.asked) (begun_kept v)) h
 
 wait_count : (w : Work) (p : ℕ) (kind : Option WaitKind) → count (wait_shown w p kind) ≡ count w
 wait_count w p None = refl
@@ -210,6 +234,7 @@ fresh_count : (w : Work) → count (fresh_shown w) ≡ count w
 fresh_count w = fresh_each_count (record w { conn = record w.conn { fresh = [] } }) w.conn.fresh
 
 written_count : (w : Work) (life : Life) → w.conn.life ≡ life → count (written_at w life) ≡ count w
+written_count w Resting e = refl
 written_count w Dialing e = refl
 written_count w (Wanting link) e = refl
 written_count w (Ended x) e = refl

@@ -6,7 +6,7 @@ use Rattle.mux_conn.specs.declared.act.LinkAct.{LinkAct}
 use Rattle.mux_conn.specs.declared.connection.MultiplexedConnection.{MultiplexedConnection}
 use Rattle.mux_conn.specs.declared.life.Greeting.{Greeting}
 use Rattle.mux_conn.specs.declared.life.Life.{Life}
-use Rattle.mux_conn.specs.declared.life.Life.TheVariants.{Dialing, Wanting, SettingUp, Ready, Ended}
+use Rattle.mux_conn.specs.declared.life.Life.TheVariants.{Resting, Dialing, Wanting, SettingUp, Ready, Ended}
 use Rattle.mux_conn.specs.declared.renewal.Renewal.{Renewal}
 
 -- a connection, and the acts of the turn so far
@@ -37,8 +37,22 @@ with_wanting w link = at_life w (Wanting link)
 abbrev pub with_setup : Work → LinkState → Greeting → Work
 with_setup w link greeting = at_life w (SettingUp link greeting)
 
+-- it is up and set up by this link
+abbrev pub opened_on : Work → LinkState → Work
+opened_on w link = record w { conn = record w.conn { life = Ready link; opened = true } }
+
+-- there is no link, and none is asked for
+abbrev pub is_resting : Life → Bool
+is_resting Resting = true
+is_resting Dialing = false
+is_resting (Wanting link) = false
+is_resting (SettingUp link greeting) = false
+is_resting (Ready link) = false
+is_resting (Ended e) = false
+
 -- its connect isn't answered
 abbrev pub awaits_connect : Life → Bool
+awaits_connect Resting = false
 awaits_connect Dialing = true
 awaits_connect (Wanting link) = false
 awaits_connect (SettingUp link greeting) = false
@@ -47,6 +61,7 @@ awaits_connect (Ended e) = false
 
 -- it is up, and its setup waits for credentials
 abbrev pub awaits_credentials : Life → Bool
+awaits_credentials Resting = false
 awaits_credentials Dialing = false
 awaits_credentials (Wanting link) = true
 awaits_credentials (SettingUp link greeting) = false
@@ -55,6 +70,7 @@ awaits_credentials (Ended e) = false
 
 -- it is up, and what is said to the server before the first request isn't answered
 abbrev pub is_setting_up : Life → Bool
+is_setting_up Resting = false
 is_setting_up Dialing = false
 is_setting_up (Wanting link) = false
 is_setting_up (SettingUp link greeting) = true
@@ -62,6 +78,7 @@ is_setting_up (Ready link) = false
 is_setting_up (Ended e) = false
 
 abbrev pub is_ready : Life → Bool
+is_ready Resting = false
 is_ready Dialing = false
 is_ready (Wanting link) = false
 is_ready (SettingUp link greeting) = false
@@ -75,6 +92,7 @@ has_no_permit (Some limit) free = free == 0
 
 -- no request that waits for the connection, or for a permit of it, can be moved
 abbrev pub admits_none_at : Life → Bool → Bool
+admits_none_at Resting empty = true
 admits_none_at Dialing empty = true
 admits_none_at (Wanting link) empty = true
 admits_none_at (SettingUp link greeting) empty = true
@@ -99,6 +117,7 @@ in_front r = if is_due r then 1 else 0
 
 -- it is up, and the queue holds less than its size, where so many messages are counted that stand before it
 abbrev pub has_room_at : Life → ℕ → Bool
+has_room_at Resting n = false
 has_room_at Dialing n = false
 has_room_at (Wanting link) n = false
 has_room_at (SettingUp link greeting) n = false
@@ -110,6 +129,7 @@ has_room c = has_room_at c.life (in_front c.renewal)
 
 -- no message starts on it, if it is set up
 abbrev pub is_held_back : Life → Bool
+is_held_back Resting = false
 is_held_back Dialing = false
 is_held_back (Wanting link) = false
 is_held_back (SettingUp link greeting) = false
@@ -118,6 +138,7 @@ is_held_back (Ended e) = false
 
 -- the request whose message starts next, where it is up and one is in the queue
 abbrev pub first_queued : Life → Option ℕ
+first_queued Resting = None
 first_queued Dialing = None
 first_queued (Wanting link) = None
 first_queued (SettingUp link greeting) = None
@@ -126,6 +147,7 @@ first_queued (Ended e) = None
 
 -- how many messages of a link that is up have started
 abbrev pub started_in : Life → ℕ
+started_in Resting = 0
 started_in Dialing = 0
 started_in (Wanting link) = link.started
 started_in (SettingUp link greeting) = link.started

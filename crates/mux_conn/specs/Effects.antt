@@ -1,5 +1,5 @@
 -- What news of its link does to a connection, and the leave of a caller. No request is moved.
-use Rattle.std.specs.Prelude.{◌≤◌, ℕ, ◌+◌, ◌^◌, ◌==◌, nat_le, Bool, true, false, ◌&&◌, ◌||◌, List, [], ◌∷◌, Some, None, codes, if◌then◌else◌}
+use Rattle.std.specs.Prelude.{◌≤◌, ℕ, ◌+◌, ◌^◌, ◌==◌, nat_le, Bool, true, false, ◌&&◌, ◌||◌, List, [], ◌∷◌, ◌++◌, Option, Some, None, unwrap_or, codes, if◌then◌else◌}
 use Rattle.redis_error.specs.declared.fault_kind.FaultKind.{FaultKind}
 use Rattle.redis_error.specs.declared.fault_kind.FaultKind.TheVariants as kind
 use Rattle.redis_error.specs.declared.redis_error.RedisError.{RedisError}
@@ -8,7 +8,7 @@ use Rattle.driver_model.specs.declared.news.LinkFault.{LinkFault}
 use Rattle.driver_model.specs.declared.news.LinkFault.TheVariants as fault
 use Rattle.driver_model.specs.declared.outcome.Outcome.TheVariants as outcome
 use Rattle.resp_value.specs.declared.push_kind.PushKind.TheVariants.{Disconnection}
-use Rattle.driver_model.specs.News.{News, silence, connected, refused, overdue, took, came, failed, authorized, denied, deserted, renewed, unrenewed, late, dropped, shut}
+use Rattle.driver_model.specs.News.{News, silence, connected, refused, overdue, took, came, failed, authorized, denied, deserted, renewed, unrenewed, late, unrepeated, dropped, shut}
 use Rattle.connection_setup.specs.declared.judgement.SetupResult.{SetupResult}
 use Rattle.connection_setup.specs.declared.judgement.SetupResult.TheVariants as result
 use Rattle.connection_setup.specs.Setup.{Step, setup}
@@ -37,11 +37,11 @@ use Rattle.resp_write.specs.Pack.{pack}
 use Rattle.mux_conn.specs.declared.life.Greeting.{Greeting}
 use Rattle.mux_conn.specs.declared.life.Greeting.TheVariants as greet
 use Rattle.mux_conn.specs.declared.life.Life.{Life}
-use Rattle.mux_conn.specs.declared.life.Life.TheVariants.{Dialing, Wanting, SettingUp, Ready, Ended}
+use Rattle.mux_conn.specs.declared.life.Life.TheVariants.{Resting, Dialing, Wanting, SettingUp, Ready, Ended}
 use Rattle.mux_conn.specs.declared.request.Waiting.{Waiting}
-use Rattle.mux_conn.specs.Connection.{Work, acted, at_life, with_link, with_setup, with_wanting, is_ready}
+use Rattle.mux_conn.specs.Connection.{Work, acted, at_life, with_link, with_setup, with_wanting, opened_on, is_ready}
 use Rattle.mux_conn.specs.Requests.{is_open_at, closed, answered}
-use Rattle.mux_conn.specs.Renewals.{renewing, source_asked, expecting, none_follow, late_for, renewal_id, is_done, replied}
+use Rattle.mux_conn.specs.Renewals.{no_renewal, renewing, source_asked, expecting, none_follow, late_for, renewal_id, is_done, replied}
 use Rattle.credentials.specs.Credentials.{Credentials}
 
 -- a link without messages, with the queue and the boundary of its connection
@@ -118,10 +118,6 @@ parted w = if hears_pushes w.conn.hears then noticed w (notice.Push (record { ki
 abbrev pub ended_by : Work → LinkState → LinkFault → Work
 ended_by w link f = all_answered (parted (cut_short w)) (faulted (record { link = link; out = [] }) f).out
 
--- the opening fails with this error, which is shown, and those that have no place are answered
-abbrev pub opening_failed : Work → RedisError → Work
-opening_failed w e = waiting_failed (acted (at_life w (Ended e)) (act.Created (Some e))) e
-
 -- the numbers of requests that have no place
 abbrev pub numbers_of : List Waiting → List ℕ
 numbers_of [] = []
@@ -131,9 +127,39 @@ numbers_of (q ∷ qs) = q.number ∷ numbers_of qs
 abbrev pub all_fresh : Work → Work
 all_fresh w = record w { conn = record w.conn { fresh = numbers_of w.conn.waiting } }
 
+-- without a link, behind one that is over: nothing of that stays but the requests, and those that wait, whose waits are to be shown
+-- anew
+abbrev pub afresh : MultiplexedConnection → MultiplexedConnection
+afresh c = record c {
+  free = unwrap_or c.limit 0;
+  info = c.address;
+  renewal = no_renewal c.renewal.wanted c.renewal.within;
+  life = Resting;
+  opened = false;
+  admitted = [];
+  fresh = numbers_of c.waiting;
+  moved = [];
+}
+
+-- the connect of its next link is asked for, and whether no other attempt follows it; the waits of those that wait are to be shown anew
+abbrev pub dialled : MultiplexedConnection → Bool → MultiplexedConnection
+dialled c is_last = record c { last = is_last; life = Dialing; fresh = numbers_of c.waiting }
+
+-- that it is ready, or that its opening failed, is shown, unless it was before
+abbrev pub creation_told : Work → Option RedisError → Work
+creation_told w e = record { conn = record w.conn { told = true }; acts = if w.conn.told then w.acts else w.acts ++ act.Created e ∷ [] }
+
+-- its last attempt fails with this error, which is shown, and those that have no place are answered
+abbrev pub given_up : Work → RedisError → Work
+given_up w e = waiting_failed (creation_told (at_life w (Ended e)) (Some e)) e
+
+-- an attempt to open it fails with this error: the last one, or another follows
+abbrev pub opening_failed : Work → RedisError → Work
+opening_failed w e = if w.conn.last then given_up w e else record w { conn = afresh w.conn }
+
 -- the link is set up, which is shown, and a source is asked for new credentials, where they come of sources
 abbrev pub made_ready : Work → LinkState → Work
-made_ready w link = source_asked (acted (with_link (all_fresh w) link) (act.Created None))
+made_ready w link = source_asked (creation_told (opened_on (all_fresh w) link) None)
 
 -- the number of a greeting's message: no request has it
 abbrev pub setup_id : Greeting → ℕ
@@ -179,6 +205,7 @@ comes_to_want w link = acted (with_wanting (all_fresh w) link) act.NeedCreds
 
 -- the first answer to the connect: it succeeded
 abbrev pub connected_at : Work → Life → Work
+connected_at w Resting = w
 connected_at w Dialing = if w.conn.renewal.wanted then comes_to_want w (new_link w.conn) else come_up w (new_link w.conn)
 connected_at w (Wanting link) = w
 connected_at w (SettingUp link greeting) = w
@@ -192,6 +219,7 @@ with_credentials w c = record w { conn = record w.conn { info = record w.conn.in
 -- the first credentials came: the link is set up by them
 abbrev pub authorized_at : Work → Credentials → Life → Work
 authorized_at w c (Wanting link) = come_up (with_credentials w c) link
+authorized_at w c Resting = w
 authorized_at w c Dialing = w
 authorized_at w c (SettingUp link greeting) = w
 authorized_at w c (Ready link) = w
@@ -200,6 +228,7 @@ authorized_at w c (Ended e) = w
 -- there are none: where the setup waits for them, the link is closed, and its opening fails with this error
 abbrev pub unauthorized_at : Work → RedisError → Life → Work
 unauthorized_at w e (Wanting link) = opening_failed (acted w act.Close) e
+unauthorized_at w e Resting = w
 unauthorized_at w e Dialing = w
 unauthorized_at w e (SettingUp link greeting) = w
 unauthorized_at w e (Ready link) = w
@@ -207,6 +236,7 @@ unauthorized_at w e (Ended x) = w
 
 -- the first answer to the connect: it failed
 abbrev pub refused_at : Work → FaultKind → Life → Work
+refused_at w f Resting = w
 refused_at w f Dialing = opening_failed w (error.Io f)
 refused_at w f (Wanting link) = w
 refused_at w f (SettingUp link greeting) = w
@@ -215,6 +245,7 @@ refused_at w f (Ended e) = w
 
 -- the time in which it was to be connected and set up is over: where it isn't, it is closed
 abbrev pub overdue_at : Work → Life → Work
+overdue_at w Resting = w
 overdue_at w Dialing = opening_failed (acted w act.Close) (error.Io kind.TimedOut)
 overdue_at w (Wanting link) = opening_failed (acted w act.Close) (error.Io kind.TimedOut)
 overdue_at w (SettingUp link greeting) = opening_failed (acted w act.Close) (error.Io kind.TimedOut)
@@ -224,6 +255,7 @@ overdue_at w (Ended e) = w
 -- so many bytes were offered
 abbrev pub CanTake : Life → ℕ → Type 0
 CanTake (Ready link) count = count ≤ link.outbox.offered
+CanTake Resting count = Unit {0}
 CanTake Dialing count = Unit {0}
 CanTake (Wanting link) count = count ≤ link.outbox.offered
 CanTake (SettingUp link greeting) count = count ≤ link.outbox.offered
@@ -231,6 +263,7 @@ CanTake (Ended e) count = Unit {0}
 
 abbrev pub taken_at : Work → ℕ → Life → Work
 taken_at w count (Ready link) = with_link w (wrote_of link count)
+taken_at w count Resting = w
 taken_at w count Dialing = w
 taken_at w count (Wanting link) = with_wanting w (wrote_of link count)
 taken_at w count (SettingUp link greeting) = with_setup w (wrote_of link count) greeting
@@ -246,6 +279,7 @@ greeting_error greet.Monitor row f = if is_awaiting row then error_of f else err
 -- the link ends where it is up; before it is set up its opening fails
 abbrev pub failed_at : Work → LinkFault → Life → Work
 failed_at w f (Ready link) = ended_by w link (felt w.conn.hears f)
+failed_at w f Resting = w
 failed_at w f Dialing = w
 failed_at w f (Wanting link) = opening_failed (acted w act.Close) error.Closed
 failed_at w f (SettingUp link greeting) = opening_failed (acted w act.Close) (greeting_error greeting link.row f)
@@ -254,6 +288,7 @@ failed_at w f (Ended e) = w
 -- the stream of messages is dropped: a link of messages ends
 abbrev pub dropped_at : Work → Life → Work
 dropped_at w (Ready link) = ended_by w link fault.Ended
+dropped_at w Resting = w
 dropped_at w Dialing = opening_failed (acted w act.Close) error.Closed
 dropped_at w (Wanting link) = opening_failed (acted w act.Close) error.Closed
 dropped_at w (SettingUp link greeting) = opening_failed (acted w act.Close) error.Closed
@@ -315,14 +350,16 @@ read_wanting w r = broken_at r.link.broken (with_wanting w r.link)
 -- bytes come
 abbrev pub read_at : Work → List ℕ → Life → Work
 read_at w piece (Ready link) = read_to w (piece_read w.conn.hears true link piece)
+read_at w piece Resting = w
 read_at w piece Dialing = w
 read_at w piece (Wanting link) = read_wanting w (piece_read hearing.Nothing false link piece)
 read_at w piece (SettingUp link greeting) = read_setup w greeting (piece_read w.conn.hears false link piece)
 read_at w piece (Ended e) = w
 
--- everything is closed
+-- everything is closed: without a link those that wait are answered
 abbrev pub shut_at : Work → Life → Work
 shut_at w (Ready link) = ended w (closed_all (record { link = link; out = [] })).out
+shut_at w Resting = waiting_failed w error.Closed
 shut_at w Dialing = ended w []
 shut_at w (Wanting link) = ended w []
 shut_at w (SettingUp link greeting) = ended w []
@@ -331,6 +368,7 @@ shut_at w (Ended e) = w
 -- that message of a link that is set up leaves its queue, or is answered to nobody
 abbrev pub cancelled_in : Life → ℕ → Life
 cancelled_in (Ready link) p = Ready (cancelled link p)
+cancelled_in Resting p = Resting
 cancelled_in Dialing p = Dialing
 cancelled_in (Wanting link) p = Wanting link
 cancelled_in (SettingUp link greeting) p = SettingUp link greeting
@@ -351,6 +389,7 @@ IsWithin life deserted = Unit {0}
 IsWithin life (renewed c) = Unit {0}
 IsWithin life unrenewed = Unit {0}
 IsWithin life (late k) = Unit {0}
+IsWithin life unrepeated = Unit {0}
 IsWithin life dropped = Unit {0}
 IsWithin life shut = Unit {0}
 
@@ -369,6 +408,7 @@ applied w deserted = unauthorized_at w (error.AuthFailed []) w.conn.life
 applied w (renewed c) = record w { conn = expecting w.conn c }
 applied w unrenewed = record w { conn = none_follow w.conn }
 applied w (late k) = record w { conn = late_for w.conn k }
+applied w unrepeated = w
 applied w dropped = dropped_by w
 applied w shut = shut_at w w.conn.life
 

@@ -14,12 +14,12 @@ use Rattle.mux_conn.specs.declared.connection.MultiplexedConnection.{Multiplexed
 use Rattle.mux_conn.specs.declared.life.Greeting.{Greeting}
 use Rattle.mux_conn.specs.declared.life.Greeting.TheVariants as greet
 use Rattle.mux_conn.specs.declared.life.Life.{Life}
-use Rattle.mux_conn.specs.declared.life.Life.TheVariants.{Dialing, Wanting, SettingUp, Ready, Ended}
+use Rattle.mux_conn.specs.declared.life.Life.TheVariants.{Resting, Dialing, Wanting, SettingUp, Ready, Ended}
 use Rattle.mux_conn.specs.declared.request.Progress.TheVariants as progress
 use Rattle.mux_conn.specs.declared.request.Waiting.{Waiting}
-use Rattle.mux_conn.specs.Connection.{Work, acted, with_link, with_setup, admits_none, has_room}
+use Rattle.mux_conn.specs.Connection.{Work, acted, with_link, with_setup, is_ready, admits_none, has_room}
 use Rattle.mux_conn.specs.Renewals.{renewed}
-use Rattle.mux_conn.specs.Requests.{name_at, is_waiting_at, is_admitted_at, with_permits, progressed, answered}
+use Rattle.mux_conn.specs.Requests.{name_at, is_waiting_at, is_unbegun_at, is_admitted_at, with_permits, progressed, answered}
 
 -- each start is shown
 abbrev pub shown_each : Work → List Started → Work
@@ -47,6 +47,7 @@ greets_with w greeting s = greeted_each (with_setup w s.link greeting) greeting 
 abbrev pub started_at : Work → Life → Work
 started_at w (Ready link) = starts_with w (started_all (record { link = link; out = [] }))
 started_at w (SettingUp link greeting) = greets_with w greeting (started_all (record { link = link; out = [] }))
+started_at w Resting = w
 started_at w Dialing = w
 started_at w (Wanting link) = w
 started_at w (Ended e) = w
@@ -64,6 +65,7 @@ noted w p = record w { conn = record w.conn { moved = w.conn.moved ++ p ∷ [] }
 -- a request takes its place in the queue
 abbrev pub placed_at : Work → Waiting → Life → Work
 placed_at w q (Ready link) = with_link (progressed (noted w q.number) q.number progress.Placed) (enqueued link (message_of q))
+placed_at w q Resting = w
 placed_at w q Dialing = w
 placed_at w q (Wanting link) = w
 placed_at w q (SettingUp link greeting) = w
@@ -101,6 +103,11 @@ put_behind w q = still_admitted (noted w q.number) (w.conn.admitted ++ q ∷ [])
 abbrev pub seated_or_behind : Work → Waiting → Work
 seated_or_behind w q = if has_room w.conn then seated w q else put_behind w q
 
+-- the round of request p begins, where rounds are shown and it waits without one
+abbrev pub round_begun : Work → ℕ → Work
+round_begun w p =
+    if w.conn.rounds && is_unbegun_at w.conn.requests p then acted (progressed w p progress.Begun) (act.Round (name_at w.conn.requests p)) else w
+
 -- how many permits a message takes, where they are counted: as many as are free, and no more than it may
 abbrev pub permits_taken : Option ℕ → ℕ → Shape → ℕ
 permits_taken None free of_shape = 0
@@ -127,10 +134,11 @@ timer_asked w p (Some ms) = acted w (act.Timer (name_at w.conn.requests p) ms)
 abbrev pub let_in : Work → Waiting → Work
 let_in w q = timer_asked (took w q.number (permits_taken w.conn.limit w.conn.free q.shape)) q.number q.timeout
 
--- a request that waits for the connection, or for a permit, is let in; on a link that has ended it is answered
+-- a request that waits for the connection, or for a permit, is let in, once its round has begun; on a link that has ended it is answered
 abbrev pub admitted_at : Work → Waiting → Life → Work
-admitted_at w q (Ready link) = seated_or_behind (let_in w q) q
+admitted_at w q (Ready link) = seated_or_behind (let_in (round_begun w q.number) q) q
 admitted_at w q (Ended e) = answered w q.number (outcome.Fault e)
+admitted_at w q Resting = w
 admitted_at w q Dialing = w
 admitted_at w q (Wanting link) = w
 admitted_at w q (SettingUp link greeting) = w
@@ -150,10 +158,24 @@ admitted_each w (q ∷ qs) = if admits_none w.conn then still_waiting w (q ∷ q
 abbrev pub admitted_all : Work → Work
 admitted_all w = admitted_each (still_waiting w []) w.conn.waiting
 
+-- the rounds of these requests begin, in order
+abbrev pub rounds_of : Work → List ℕ → Work
+rounds_of w [] = w
+rounds_of w (p ∷ ps) = rounds_of (round_begun w p) ps
+
+-- where rounds are shown, on a link that is set up: of all that still wait, for a permit, the rounds begin. Those whose wait isn't to be
+-- shown have begun before
+abbrev pub rounds_begun : Work → Work
+rounds_begun w = if w.conn.rounds && is_ready w.conn.life then rounds_of w w.conn.fresh else w
+
 -- new credentials are told, what waits in the queue starts, then those that wait for a place are moved, and then those that
 -- wait for the connection
+abbrev pub moved_all : Work → Work
+moved_all w = admitted_all (moved_up_all (started (renewed w)))
+
+-- every request is moved as far as it can go, and those that go on waiting for a permit begin their rounds
 abbrev pub passed : Work → Work
-passed w = admitted_all (moved_up_all (started (renewed w)))
+passed w = rounds_begun (moved_all w)
 
 -- it is the entry of request p
 abbrev pub has_number : ℕ → Waiting → Bool

@@ -12,7 +12,7 @@ use Rattle.mux_conn.specs.declared.act.LinkAct.{LinkAct}
 use Rattle.mux_conn.specs.declared.act.LinkAct.TheVariants as act
 use Rattle.mux_conn.specs.declared.connection.MultiplexedConnection.{MultiplexedConnection}
 use Rattle.mux_conn.specs.declared.life.Life.{Life}
-use Rattle.mux_conn.specs.declared.life.Life.TheVariants.{Dialing, Wanting, SettingUp, Ready, Ended}
+use Rattle.mux_conn.specs.declared.life.Life.TheVariants.{Resting, Dialing, Wanting, SettingUp, Ready, Ended}
 use Rattle.mux_conn.specs.declared.renewal.Renewal.{Renewal}
 use Rattle.mux_conn.specs.Connection.{Work, acted, with_link, is_ready, is_due}
 
@@ -29,7 +29,7 @@ renewing w r = record w { conn = with_renewal w.conn r }
 
 -- a source is asked for, where credentials come of sources
 abbrev pub source_asked : Work → Work
-source_asked w = if w.conn.renewal.wanted then acted w act.NeedCreds else w
+source_asked w = if w.conn.renewal.wanted then acted w act.NeedRenewals else w
 
 -- more of them may come
 abbrev pub takes_more : Renewal → Bool
@@ -95,6 +95,7 @@ renewal_asked w =
 -- a message starts at once on a link that is set up
 abbrev pub begun_in : Life → Queued → Life
 begun_in (Ready link) q = Ready (begun link q)
+begun_in Resting q = Resting
 begun_in Dialing q = Dialing
 begun_in (Wanting link) q = Wanting link
 begun_in (SettingUp link greeting) q = SettingUp link greeting
@@ -114,6 +115,7 @@ renewal_told w link c cs =
 abbrev pub renewal_moved : Work → Life → List Credentials → Work
 renewal_moved w (Ready link) (c ∷ cs) = if holds_back link then w else renewal_told w link c cs
 renewal_moved w (Ready link) [] = w
+renewal_moved w Resting cs = w
 renewal_moved w Dialing cs = w
 renewal_moved w (Wanting link) cs = w
 renewal_moved w (SettingUp link greeting) cs = w

@@ -13,20 +13,31 @@ use Rattle.mux_conn.specs.Connection.{Work, acted}
 -- neither answered nor left by its caller
 abbrev pub is_open : Progress → Bool
 is_open progress.Waiting = true
+is_open progress.Begun = true
 is_open progress.Admitted = true
 is_open progress.Placed = true
 is_open progress.Closed = false
 
--- it waits for the connection
+-- it waits for the connection, or for a permit of it
 abbrev pub is_waiting : Progress → Bool
 is_waiting progress.Waiting = true
+is_waiting progress.Begun = true
 is_waiting progress.Admitted = false
 is_waiting progress.Placed = false
 is_waiting progress.Closed = false
 
+-- it waits, and its round hasn't begun
+abbrev pub is_unbegun : Progress → Bool
+is_unbegun progress.Waiting = true
+is_unbegun progress.Begun = false
+is_unbegun progress.Admitted = false
+is_unbegun progress.Placed = false
+is_unbegun progress.Closed = false
+
 -- it waits for a place
 abbrev pub is_admitted : Progress → Bool
 is_admitted progress.Waiting = false
+is_admitted progress.Begun = false
 is_admitted progress.Admitted = true
 is_admitted progress.Placed = false
 is_admitted progress.Closed = false
@@ -34,6 +45,7 @@ is_admitted progress.Closed = false
 -- it is in the queue, or started
 abbrev pub is_placed : Progress → Bool
 is_placed progress.Waiting = false
+is_placed progress.Begun = false
 is_placed progress.Admitted = false
 is_placed progress.Placed = true
 is_placed progress.Closed = false
@@ -47,6 +59,9 @@ is_open_at requests p = if_there is_open (slice_get requests p)
 
 abbrev pub is_waiting_at : List Request → ℕ → Bool
 is_waiting_at requests p = if_there is_waiting (slice_get requests p)
+
+abbrev pub is_unbegun_at : List Request → ℕ → Bool
+is_unbegun_at requests p = if_there is_unbegun (slice_get requests p)
 
 abbrev pub is_admitted_at : List Request → ℕ → Bool
 is_admitted_at requests p = if_there is_admitted (slice_get requests p)

@@ -1,5 +1,5 @@
 -- What a turn ends with, and a whole turn of a connection.
-use Rattle.std.specs.Prelude.{ℕ, nat_le, Bool, false, ◌&&◌, Option, None, Some, unwrap_or, List, [], ◌∷◌, if◌then◌else◌}
+use Rattle.std.specs.Prelude.{ℕ, nat_le, Bool, true, false, ◌&&◌, Option, None, Some, unwrap_or, List, [], ◌∷◌, if◌then◌else◌}
 use Rattle.connection_info.specs.declared.address.RedisConnectionInfo.{RedisConnectionInfo}
 use Rattle.driver_model.specs.declared.action.WaitKind.{WaitKind}
 use Rattle.driver_model.specs.declared.action.WaitKind.TheVariants as wait
@@ -12,13 +12,13 @@ use Rattle.mux_conn.specs.declared.connection.MultiplexedConnection.{Multiplexed
 use Rattle.mux_conn.specs.declared.renewal.Renewal.{Renewal}
 use Rattle.mux_conn.specs.declared.life.Greeting.{Greeting}
 use Rattle.mux_conn.specs.declared.life.Life.{Life}
-use Rattle.mux_conn.specs.declared.life.Life.TheVariants.{Dialing, Wanting, SettingUp, Ready, Ended}
+use Rattle.mux_conn.specs.declared.life.Life.TheVariants.{Resting, Dialing, Wanting, SettingUp, Ready, Ended}
 use Rattle.mux_conn.specs.Connection.{Work, acted, with_link, with_setup, first_queued}
 use Rattle.mux_conn.specs.Requests.{name_at, is_waiting_at, is_admitted_at, is_placed_at}
 use Rattle.mux_conn.specs.Effects.{applied}
 use Rattle.mux_conn.specs.Passes.{passed}
 
--- a connection whose connect isn't answered, without requests
+-- a connection whose connect isn't answered, without requests: its opening is the only attempt
 abbrev pub dialing : ℕ → ℕ → Option ℕ → Hearing → RedisConnectionInfo → Renewal → MultiplexedConnection
 dialing size boundary limit hears info renewal = record {
   size = size;
@@ -27,8 +27,13 @@ dialing size boundary limit hears info renewal = record {
   free = unwrap_or limit 0;
   hears = hears;
   info = info;
+  address = info;
   renewal = renewal;
   life = Dialing;
+  last = true;
+  told = false;
+  opened = false;
+  rounds = false;
   requests = [];
   waiting = [];
   admitted = [];
@@ -50,6 +55,7 @@ setup_offered w link greeting = if can_offer link.outbox then acted (with_setup 
 
 abbrev pub written_at : Work → Life → Work
 written_at w (Ready link) = offers w link
+written_at w Resting = w
 written_at w Dialing = w
 written_at w (Wanting link) = w
 written_at w (SettingUp link greeting) = setup_offered w link greeting
@@ -69,8 +75,10 @@ moved_wait c p =
     if is_admitted_at c.requests p then Some wait.Place
     else if is_placed_at c.requests p && is_from (first_queued c.life) p then Some wait.Room else None
 
--- what a request waits for that waits for its connection: the connect, the credentials for its setup, the setup, or a permit
+-- what a request waits for that waits for its connection: the next attempt, the connect, the credentials for its setup, the setup, or a
+-- permit
 abbrev pub early_wait : Life → WaitKind
+early_wait Resting = wait.Backoff
 early_wait Dialing = wait.Connect
 early_wait (Wanting link) = wait.Creds
 early_wait (SettingUp link greeting) = wait.Setup

@@ -10,6 +10,10 @@ pub enum LinkAct {
     Created {
         error: Option<RedisError>,
     },
+    /// The round of a request begins.
+    Round {
+        request: u32,
+    },
     /// A request takes so many permits.
     Took {
         request: u32,
@@ -20,8 +24,10 @@ pub enum LinkAct {
         request: u32,
         ms: u64,
     },
-    /// A source of credentials is wanted: the first for the setup, and another for the renewals, once the link is set up.
+    /// A source of credentials is wanted for the setup.
     NeedCreds,
+    /// A source of new credentials is wanted, once the link is set up.
+    NeedRenewals,
     /// A timer is to fire after so many milliseconds: by then new credentials are to be answered, the first of which have the
     /// number 0.
     RenewalTimer {

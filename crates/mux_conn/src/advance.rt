@@ -85,6 +85,7 @@ impl MultiplexedConnection {
                 (start_ready(alloc, link, &mut starts), *greeting)
             }
             Life::Ready { link: _ } => unreachable!(),
+            Life::Resting => unreachable!(),
             Life::Dialing => unreachable!(),
             Life::Wanting { link: _ } => unreachable!(),
             Life::Ended { error: _ } => unreachable!(),
@@ -117,6 +118,7 @@ impl MultiplexedConnection {
                 link: _,
                 greeting: _,
             } => unreachable!(),
+            Life::Resting => return Ok(()),
             Life::Dialing => return Ok(()),
             Life::Wanting { link: _ } => return Ok(()),
             Life::Ended { error: _ } => return Ok(()),
@@ -232,7 +234,7 @@ impl MultiplexedConnection {
     ghost use Rattle.mux_conn.specs.Requests.{answered};
     ghost use Rattle.mux_conn.specs.Passes.{placed_at, seated, moved_up};
     ghost use Rattle.mux_conn.specs.Passes.{moved_up_all, put_behind, seated_or_behind, admitted};
-    ghost use Rattle.mux_conn.specs.Passes.{admitted_all, passed};
+    ghost use Rattle.mux_conn.specs.Passes.{admitted_all, moved_all, passed};
     ghost use Rattle.mux_conn.specs.Connection.{work_with, admits_none, has_room, runs_out, uses_up};
 
     /// A request takes its place in the queue.
@@ -251,6 +253,7 @@ impl MultiplexedConnection {
                 link: _,
                 greeting: _,
             } => return Ok(()),
+            Life::Resting => return Ok(()),
             Life::Dialing => return Ok(()),
             Life::Wanting { link: _ } => return Ok(()),
             Life::Ended { error: _ } => return Ok(()),
@@ -404,7 +407,8 @@ impl MultiplexedConnection {
         Ok(())
     }
 
-    /// A request that still waits for the connection, or for a permit, is let in. On a link that has ended it is answered.
+    /// A request that still waits for the connection, or for a permit, is let in, once its round has begun. On a link that has
+    /// ended it is answered.
     fn admit(
         &mut self,
         alloc: Global,
@@ -429,6 +433,7 @@ impl MultiplexedConnection {
             self.answer(u64::from(request.number), Outcome::Fault(error), out)?;
             return Ok(());
         }
+        self.begin_round(request.number, out)?;
         self.let_in(&request, out)?;
         self.seat_or_put_behind(alloc, request, out)
     }
@@ -461,16 +466,12 @@ impl MultiplexedConnection {
     }
 
     /// New credentials are told, and every request is moved as far as it can go.
-    pub(crate) fn pass(
-        &mut self,
-        alloc: Global,
-        out: &mut Vec<LinkAct>,
-    ) -> Result<(), ConnectionError>
+    fn move_all(&mut self, alloc: Global, out: &mut Vec<LinkAct>) -> Result<(), ConnectionError>
         ensures work { OnOk result (
-            work_with self.new out.new.items ≡ passed (work_with self.old out.old.items)
+            work_with self.new out.new.items ≡ moved_all (work_with self.old out.old.items)
             ) }
         ensures spent { IsErrOf result ConnectionError.Spent
-            → uses_up (passed (work_with self.old out.old.items)) ≡ true }
+            → uses_up (moved_all (work_with self.old out.old.items)) ≡ true }
         ensures count { length self.new.requests ≡ length self.old.requests }
         ensures failure { self.new.failure ≡ self.old.failure }
     {
@@ -487,6 +488,28 @@ impl MultiplexedConnection {
             Err(error) => return Err(error),
         }
         self.admit_all(alloc, out)
+    }
+
+    /// Every request is moved as far as it can go, and those that go on waiting for a permit begin their rounds.
+    pub(crate) fn pass(
+        &mut self,
+        alloc: Global,
+        out: &mut Vec<LinkAct>,
+    ) -> Result<(), ConnectionError>
+        ensures work { OnOk result (
+            work_with self.new out.new.items ≡ passed (work_with self.old out.old.items)
+            ) }
+        ensures spent { IsErrOf result ConnectionError.Spent
+            → uses_up (passed (work_with self.old out.old.items)) ≡ true }
+        ensures count { length self.new.requests ≡ length self.old.requests }
+        ensures failure { self.new.failure ≡ self.old.failure }
+    {
+        match self.move_all(alloc, out) {
+            Ok(()) => {}
+            Err(error) => return Err(error),
+        }
+        self.begin_rounds(out)?;
+        Ok(())
     }
 }
 

@@ -1,5 +1,4 @@
-ghost use Rattle.std.specs.Prelude.{◌≡◌, ◌≤◌, [], true, length, OnOk, IfOk};
-ghost use Rattle.mux_conn.specs.Effects.{numbers_of};
+ghost use Rattle.std.specs.Prelude.{◌≡◌, ◌≤◌, [], true, length, OnOk};
 
 use crate::act::LinkAct;
 use crate::connection::MultiplexedConnection;
@@ -14,8 +13,8 @@ use std::alloc::{AllocError, Global};
 
 impl MultiplexedConnection {
     ghost use Rattle.driver_model.specs.News.{told};
-    ghost use Rattle.mux_conn.specs.Connection.{work_with, acted, is_ready};
-    ghost use Rattle.mux_conn.specs.Effects.{made_ready, come_up, all_fresh, dropped_by};
+    ghost use Rattle.mux_conn.specs.Connection.{work_with, is_ready};
+    ghost use Rattle.mux_conn.specs.Effects.{come_up, dropped_by};
     ghost use Rattle.mux_conn.specs.Effects.{settled_each, failed_each, waiting_failed, all_answered};
     ghost use Rattle.mux_conn.specs.Effects.{cut_short, parted, ended, opening_failed, refused_at, overdue_at};
     ghost use Rattle.mux_conn.specs.Effects.{connected_at, taken_at, failed_at, shut_at, comes_to_want};
@@ -81,7 +80,7 @@ impl MultiplexedConnection {
     }
 
     /// Those that wait for a place are answered with this error, and then those that wait for the connection.
-    fn fail_waiting(
+    pub(crate) fn fail_waiting(
         &mut self,
         alloc: Global,
         error: &RedisError,
@@ -185,45 +184,6 @@ impl MultiplexedConnection {
         self.answer_all(alloc, settled, out)
     }
 
-    /// The opening fails with this error, which is shown, and what has no place is answered.
-    fn fail_opening(
-        &mut self,
-        alloc: Global,
-        error: RedisError,
-        out: &mut Vec<LinkAct>,
-    ) -> Result<(), AllocError>
-        ensures work { OnOk result (
-            work_with self.new out.new.items
-            ≡ opening_failed (work_with self.old out.old.items) error
-            ) }
-        ensures count { length self.new.requests ≡ length self.old.requests }
-        ensures failure { self.new.failure ≡ self.old.failure }
-    {
-        let kept = error.clone(alloc)?;
-        let shown = error.clone(alloc)?;
-        self.life = Life::Ended { error: kept };
-        out.push(LinkAct::Created { error: Some(shown) })?;
-        self.fail_waiting(alloc, &error, out)
-    }
-
-    /// The link is closed, and its opening fails with this error.
-    pub(crate) fn close_opening(
-        &mut self,
-        alloc: Global,
-        error: RedisError,
-        out: &mut Vec<LinkAct>,
-    ) -> Result<(), AllocError>
-        ensures work { OnOk result (
-            work_with self.new out.new.items
-            ≡ opening_failed (acted (work_with self.old out.old.items) LinkAct.Close) error
-            ) }
-        ensures count { length self.new.requests ≡ length self.old.requests }
-        ensures failure { self.new.failure ≡ self.old.failure }
-    {
-        out.push(LinkAct::Close)?;
-        self.fail_opening(alloc, error, out)
-    }
-
     /// The connect failed.
     fn refuse_connect(
         &mut self,
@@ -258,37 +218,6 @@ impl MultiplexedConnection {
             self.close_opening(alloc, RedisError::Io { fault }, out)?;
         }
         Ok(())
-    }
-
-    /// The waits of all that wait for the connection are to be shown anew.
-    fn refresh(&mut self, alloc: Global) -> Result<(), AllocError>
-        ensures conn { OnOk result (self.new ≡ (all_fresh (work_with self.old [])).conn) }
-        ensures count { length self.new.requests ≡ length self.old.requests }
-        ensures failure { self.new.failure ≡ self.old.failure }
-    {
-        self.fresh = numbers(alloc, &self.waiting)?;
-        Ok(())
-    }
-
-    /// This link is set up, which is shown, and a source is asked for new credentials, where they come of sources. The waits of
-    /// all that waited for it are to be shown anew.
-    pub(crate) fn make_ready(
-        &mut self,
-        alloc: Global,
-        link: LinkCore,
-        out: &mut Vec<LinkAct>,
-    ) -> Result<(), AllocError>
-        ensures work { OnOk result (
-            work_with self.new out.new.items
-            ≡ made_ready (work_with self.old out.old.items) link
-            ) }
-        ensures count { length self.new.requests ≡ length self.old.requests }
-        ensures failure { self.new.failure ≡ self.old.failure }
-    {
-        self.refresh(alloc)?;
-        self.life = Life::Ready { link };
-        out.push(LinkAct::Created { error: None })?;
-        self.ask_source(out)
     }
 
     /// This link is up: it is set up, or nothing is to be said for it.
@@ -391,6 +320,7 @@ impl MultiplexedConnection {
                 self.come_up(alloc, link, out)?;
                 Ok(())
             }
+            Life::Resting => unreachable!(),
             Life::Dialing => unreachable!(),
             Life::SettingUp {
                 link: _,
@@ -430,6 +360,7 @@ impl MultiplexedConnection {
             Life::Ready { link } => link.wrote(count),
             Life::SettingUp { link, greeting: _ } => link.wrote(count),
             Life::Wanting { link } => link.wrote(count),
+            Life::Resting => {}
             Life::Dialing => {}
             Life::Ended { error: _ } => {}
         }
@@ -456,6 +387,7 @@ impl MultiplexedConnection {
             Life::Wanting { link: _ } => RedisError::Closed,
             Life::SettingUp { link, greeting } => greeting.error(link, fault),
             Life::Ready { link: _ } => unreachable!(),
+            Life::Resting => return Ok(()),
             Life::Dialing => return Ok(()),
             Life::Ended { error: _ } => return Ok(()),
         };
@@ -486,6 +418,7 @@ impl MultiplexedConnection {
                 greeting: _,
             } => unreachable!(),
             Life::Wanting { link: _ } => unreachable!(),
+            Life::Resting => unreachable!(),
             Life::Dialing => unreachable!(),
             Life::Ended { error: _ } => unreachable!(),
         }
@@ -511,7 +444,7 @@ impl MultiplexedConnection {
         Ok(())
     }
 
-    /// Everything is closed.
+    /// Everything is closed: without a link those that wait are answered.
     fn shut(&mut self, alloc: Global, out: &mut Vec<LinkAct>) -> Result<(), AllocError>
         ensures work { OnOk result (
             work_with self.new out.new.items
@@ -520,6 +453,10 @@ impl MultiplexedConnection {
         ensures count { length self.new.requests ≡ length self.old.requests }
         ensures failure { self.new.failure ≡ self.old.failure }
     {
+        if self.life.is_resting() {
+            self.fail_waiting(alloc, &RedisError::Closed, out)?;
+            return Ok(());
+        }
         let mut settled = Vec::new(alloc);
         match &mut self.life {
             Life::Ready { link } => link.close(&mut settled)?,
@@ -528,6 +465,7 @@ impl MultiplexedConnection {
                 greeting: _,
             } => {}
             Life::Wanting { link: _ } => {}
+            Life::Resting => unreachable!(),
             Life::Dialing => {}
             Life::Ended { error: _ } => return Ok(()),
         }
@@ -578,6 +516,7 @@ impl MultiplexedConnection {
                 self.renew_late(number);
                 Ok(())
             }
+            LinkNews::Unrepeated => Ok(()),
             LinkNews::Dropped => self.drop_stream(alloc, out),
             LinkNews::Shut => self.shut(alloc, out),
         }
@@ -594,6 +533,7 @@ impl MultiplexedConnection {
                 greeting: _,
             } => {}
             Life::Wanting { link: _ } => {}
+            Life::Resting => {}
             Life::Dialing => {}
             Life::Ended { error: _ } => {}
         }
@@ -631,16 +571,4 @@ impl MultiplexedConnection {
         let fault = FaultKind::TimedOut;
         self.answer(number, Outcome::Fault(RedisError::Io { fault }), out)
     }
-}
-
-/// The numbers of requests that have no place.
-fn numbers(alloc: Global, waiting: &Queue<Waiting>) -> Result<Queue<u32>, AllocError>
-    ensures { IfOk result (λ numbers. numbers ≡ numbers_of waiting.now) }
-{
-    let mut numbers = Queue::new(alloc);
-    let len = waiting.len();
-    for index in 0..len {
-        numbers.push_back(waiting.at(index).number)?;
-    }
-    Ok(numbers)
 }

@@ -27,11 +27,21 @@ pub struct MultiplexedConnection {
     pub free: u32,
     /// What is heard, beside the replies to requests.
     pub hears: Hearing,
-    /// What is said to the server before the first request.
+    /// What is said to the server before the first request: the address, with the credentials that came of a source.
     pub info: RedisConnectionInfo,
+    /// What is said to the server of each new link.
+    pub address: RedisConnectionInfo,
     /// The credentials that come of sources.
     pub renewal: Renewal,
     pub life: Life,
+    /// Whether no other attempt follows where its opening fails, so that those that wait are answered then.
+    pub last: bool,
+    /// Whether it was told that it is ready, or that its opening failed.
+    pub told: bool,
+    /// Whether its link was set up, so that its end is no failed opening.
+    pub opened: bool,
+    /// Whether the rounds of requests are shown.
+    pub rounds: bool,
     pub requests: Seq<Request>,
     pub waiting: Queue<Waiting>,
     pub admitted: Queue<Waiting>,
@@ -54,8 +64,13 @@ impl Drop for MultiplexedConnection {
             free: _,
             hears: _,
             info,
+            address,
             renewal,
             life,
+            last: _,
+            told: _,
+            opened: _,
+            rounds: _,
             requests,
             waiting,
             admitted,
@@ -67,6 +82,7 @@ impl Drop for MultiplexedConnection {
             failure: _,
         } = self;
         drop(info);
+        drop(address);
         drop(renewal);
         drop(life);
         drop(requests);
@@ -81,7 +97,7 @@ impl Drop for MultiplexedConnection {
 }
 
 impl MultiplexedConnection {
-    ghost use Rattle.mux_conn.specs.Requests.{is_open_at, is_waiting_at, is_admitted_at};
+    ghost use Rattle.mux_conn.specs.Requests.{is_open_at, is_waiting_at, is_unbegun_at, is_admitted_at};
     ghost use Rattle.mux_conn.specs.Requests.{is_placed_at, name_at, permits_at, closed, answered};
     ghost use Rattle.mux_conn.specs.Requests.{asked, progressed};
     ghost use Rattle.mux_conn.specs.Connection.{work_with, started_in, is_used_up, admits_none};
@@ -92,7 +108,7 @@ impl MultiplexedConnection {
     /// message will start on it while `boundary` bytes or more, and at least one, are unwritten. Its requests will hold no
     /// more than `limit` permits, at least one, and where there is no limit they need none. What it `hears` is told, and where that
     /// is pushes, so is an end by a fault. `info` is what is said to the server before the first of them, and `renewal` says
-    /// whether credentials come of sources. Takes no memory.
+    /// whether credentials come of sources. Its opening is the only attempt, until `dial` says otherwise.
     pub fn new(
         alloc: Global,
         size: u32,
@@ -101,18 +117,24 @@ impl MultiplexedConnection {
         hears: Hearing,
         info: RedisConnectionInfo,
         renewal: Renewal,
-    ) -> MultiplexedConnection
-        ensures { result ≡ dialing size boundary limit hears info renewal }
+    ) -> Result<MultiplexedConnection, AllocError>
+        ensures { IfOk result (λ c. c ≡ dialing size boundary limit hears info renewal) }
     {
-        MultiplexedConnection {
+        let address = info.clone(alloc)?;
+        Ok(MultiplexedConnection {
             size,
             boundary,
             limit,
             free: limit.unwrap_or(0),
             hears,
             info,
+            address,
             renewal,
             life: Life::Dialing,
+            last: true,
+            told: false,
+            opened: false,
+            rounds: false,
             requests: Seq::new(alloc),
             waiting: Queue::new(alloc),
             admitted: Queue::new(alloc),
@@ -122,7 +144,7 @@ impl MultiplexedConnection {
             settled: Spare::new(alloc),
             notices: Spare::new(alloc),
             failure: None,
-        }
+        })
     }
 
     /// Whether no request that waits for the connection, or for a permit of it, can be moved.
@@ -148,6 +170,7 @@ impl MultiplexedConnection {
         ensures { result ≡ started_in self.now.life }
     {
         match &self.life {
+            Life::Resting => 0,
             Life::Dialing => 0,
             Life::Wanting { link } => link.started(),
             Life::SettingUp { link, greeting: _ } => link.started(),
@@ -173,13 +196,14 @@ impl MultiplexedConnection {
         }
         match self.requests.at(number as usize).progress {
             Progress::Waiting => true,
+            Progress::Begun => true,
             Progress::Admitted => true,
             Progress::Placed => true,
             Progress::Closed => false,
         }
     }
 
-    /// Whether a request waits for the connection.
+    /// Whether a request waits for the connection, or for a permit of it.
     pub fn is_waiting(&self, number: u32) -> bool
         ensures value { result ≡ is_waiting_at self.now.requests number }
         ensures there { result ≡ true → number < length self.now.requests }
@@ -189,6 +213,24 @@ impl MultiplexedConnection {
         }
         match self.requests.at(number as usize).progress {
             Progress::Waiting => true,
+            Progress::Begun => true,
+            Progress::Admitted => false,
+            Progress::Placed => false,
+            Progress::Closed => false,
+        }
+    }
+
+    /// Whether a request waits, and its round hasn't begun.
+    pub(crate) fn is_unbegun(&self, number: u32) -> bool
+        ensures value { result ≡ is_unbegun_at self.now.requests number }
+        ensures there { result ≡ true → number < length self.now.requests }
+    {
+        if number as usize >= self.requests.len() {
+            return false;
+        }
+        match self.requests.at(number as usize).progress {
+            Progress::Waiting => true,
+            Progress::Begun => false,
             Progress::Admitted => false,
             Progress::Placed => false,
             Progress::Closed => false,
@@ -205,6 +247,7 @@ impl MultiplexedConnection {
         }
         match self.requests.at(number as usize).progress {
             Progress::Waiting => false,
+            Progress::Begun => false,
             Progress::Admitted => true,
             Progress::Placed => false,
             Progress::Closed => false,
@@ -220,6 +263,7 @@ impl MultiplexedConnection {
         }
         match self.requests.at(number as usize).progress {
             Progress::Waiting => false,
+            Progress::Begun => false,
             Progress::Admitted => false,
             Progress::Placed => true,
             Progress::Closed => false,

@@ -26,6 +26,7 @@ impl MultiplexedConnection {
         let offers = match &mut self.life {
             Life::SettingUp { link, greeting: _ } => link.offer(&mut bytes)?,
             Life::Ready { link: _ } => unreachable!(),
+            Life::Resting => unreachable!(),
             Life::Dialing => unreachable!(),
             Life::Wanting { link: _ } => unreachable!(),
             Life::Ended { error: _ } => unreachable!(),
@@ -56,6 +57,7 @@ impl MultiplexedConnection {
                 link: _,
                 greeting: _,
             } => unreachable!(),
+            Life::Resting => return Ok(()),
             Life::Dialing => return Ok(()),
             Life::Wanting { link: _ } => return Ok(()),
             Life::Ended { error: _ } => return Ok(()),

@@ -11,9 +11,11 @@ mod flush;
 mod greeting;
 mod internal;
 mod life;
+mod opening;
 mod reading;
 mod renewal;
 mod request;
+mod rounds;
 mod step;
 
 pub use act::LinkAct;

@@ -16,6 +16,8 @@ pub enum Greeting {
 /// How far a link has come.
 #[derive(Drop)]
 pub enum Life {
+    /// There is none: none was asked for yet, or the opening of the last one failed and another attempt follows.
+    Resting,
     /// Its connect isn't answered.
     Dialing,
     /// It is up, and the credentials for its setup have not come.
@@ -31,16 +33,34 @@ pub enum Life {
 
 impl Life {
     ghost use Rattle.std.specs.Prelude.{◌≡◌};
-    ghost use Rattle.mux_conn.specs.Connection.{awaits_connect, awaits_credentials, is_setting_up, is_ready};
-    ghost use Rattle.mux_conn.specs.Connection.{admits_none_at, has_room_at, is_held_back};
+    ghost use Rattle.mux_conn.specs.Connection.{is_resting, awaits_connect, awaits_credentials, is_setting_up};
+    ghost use Rattle.mux_conn.specs.Connection.{is_ready, admits_none_at, has_room_at, is_held_back};
     ghost use Rattle.mux_conn.specs.Connection.{first_queued};
     ghost use Rattle.mux_conn.specs.Turn.{early_wait};
+
+    /// Whether there is no link, and none is asked for.
+    pub fn is_resting(&self) -> bool
+        ensures { result ≡ is_resting self.now }
+    {
+        match self {
+            Life::Resting => true,
+            Life::Dialing => false,
+            Life::Wanting { link: _ } => false,
+            Life::SettingUp {
+                link: _,
+                greeting: _,
+            } => false,
+            Life::Ready { link: _ } => false,
+            Life::Ended { error: _ } => false,
+        }
+    }
 
     /// Whether the connect isn't answered.
     pub fn is_dialing(&self) -> bool
         ensures { result ≡ awaits_connect self.now }
     {
         match self {
+            Life::Resting => false,
             Life::Dialing => true,
             Life::Wanting { link: _ } => false,
             Life::SettingUp {
@@ -57,6 +77,7 @@ impl Life {
         ensures { result ≡ awaits_credentials self.now }
     {
         match self {
+            Life::Resting => false,
             Life::Dialing => false,
             Life::Wanting { link: _ } => true,
             Life::SettingUp {
@@ -73,6 +94,7 @@ impl Life {
         ensures { result ≡ is_setting_up self.now }
     {
         match self {
+            Life::Resting => false,
             Life::Dialing => false,
             Life::Wanting { link: _ } => false,
             Life::SettingUp {
@@ -89,6 +111,7 @@ impl Life {
         ensures { result ≡ is_ready self.now }
     {
         match self {
+            Life::Resting => false,
             Life::Dialing => false,
             Life::Wanting { link: _ } => false,
             Life::SettingUp {
@@ -106,6 +129,7 @@ impl Life {
         ensures { result ≡ admits_none_at self.now empty }
     {
         match self {
+            Life::Resting => true,
             Life::Dialing => true,
             Life::Wanting { link: _ } => true,
             Life::SettingUp {
@@ -122,6 +146,7 @@ impl Life {
         ensures { result ≡ has_room_at self.now in_front }
     {
         match self {
+            Life::Resting => false,
             Life::Dialing => false,
             Life::Wanting { link: _ } => false,
             Life::SettingUp {
@@ -138,6 +163,7 @@ impl Life {
         ensures { result ≡ is_held_back self.now }
     {
         match self {
+            Life::Resting => false,
             Life::Dialing => false,
             Life::Wanting { link: _ } => false,
             Life::SettingUp {
@@ -154,6 +180,7 @@ impl Life {
         ensures { result ≡ first_queued self.now }
     {
         match self {
+            Life::Resting => None,
             Life::Dialing => None,
             Life::Wanting { link: _ } => None,
             Life::SettingUp {
@@ -165,12 +192,13 @@ impl Life {
         }
     }
 
-    /// What a request waits for that waits for its connection: the connect, the credentials for its setup, the setup, or a
-    /// permit.
+    /// What a request waits for that waits for its connection: the next attempt, the connect, the credentials for its setup,
+    /// the setup, or a permit.
     pub fn early_wait(&self) -> WaitKind
         ensures { result ≡ early_wait self.now }
     {
         match self {
+            Life::Resting => WaitKind::Backoff,
             Life::Dialing => WaitKind::Connect,
             Life::Wanting { link: _ } => WaitKind::Creds,
             Life::SettingUp {

@@ -250,6 +250,7 @@ impl MultiplexedConnection {
                 greeting: _,
             } => unreachable!(),
             Life::Ready { link: _ } => unreachable!(),
+            Life::Resting => unreachable!(),
             Life::Dialing => unreachable!(),
             Life::Ended { error: _ } => unreachable!(),
         };
@@ -288,6 +289,7 @@ impl MultiplexedConnection {
                 greeting: _,
             } => unreachable!(),
             Life::Wanting { link: _ } => unreachable!(),
+            Life::Resting => return Ok(()),
             Life::Dialing => return Ok(()),
             Life::Ended { error: _ } => return Ok(()),
         };
@@ -324,6 +326,7 @@ impl MultiplexedConnection {
                 self.read_setup(alloc, link, greeting, piece, out)?;
                 Ok(())
             }
+            Life::Resting => unreachable!(),
             Life::Dialing => unreachable!(),
             Life::Wanting { link: _ } => unreachable!(),
             Life::Ready { link: _ } => unreachable!(),

@@ -103,7 +103,7 @@ impl MultiplexedConnection {
             ) }
     {
         if self.renewal.wanted {
-            out.push(LinkAct::NeedCreds)?;
+            out.push(LinkAct::NeedRenewals)?;
         }
         Ok(())
     }
@@ -282,6 +282,7 @@ impl MultiplexedConnection {
         let id = renewal_id();
         let started = match &mut self.life {
             Life::Ready { link } => link.start_first(alloc, id, packed, Shape::Confirmation),
+            Life::Resting => unreachable!(),
             Life::Dialing => unreachable!(),
             Life::Wanting { link: _ } => unreachable!(),
             Life::SettingUp {

@@ -13,6 +13,8 @@ pub struct Pending {
 pub enum Progress {
     /// It waits for its connection, or for a permit of it.
     Waiting,
+    /// Its round has begun, and it waits for a permit.
+    Begun,
     /// It may take a place in the queue, and has none yet.
     Admitted,
     /// It has its place, or is started.

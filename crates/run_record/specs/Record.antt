@@ -12,7 +12,7 @@ use Rattle.text_laws.specs.Records.{record_text}
 abbrev pub IsRecordOf : List ℕ → History → Type 0
 IsRecordOf text h = script_of text ≡ Ok (record { config = h.config; word = h.word; events = h.events })
 
--- its configuration has no line, or a submission of the history no form, or else its text passes a limit of scripts
+-- a submission of the history has no form, or else its text passes a limit of scripts
 abbrev pub HasNoRecord : History → Type 0
 HasNoRecord h = HaveForms h.config h.events → keeps_limits (record_text h.config h.word h.events) ≡ false
 

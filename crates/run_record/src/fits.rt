@@ -1,10 +1,14 @@
 ghost use Rattle.std.specs.Prelude.{All, IfSome, ◌<◌, ◌^◌};
 ghost use Rattle.std.specs.Bool.{MatchBool};
 ghost use Rattle.text_laws.specs.Fits.{AreBytes, FitsCommands, FitsSubmission, FitsNumber, FitsKind};
-ghost use Rattle.text_laws.specs.Fits.{FitsEvent, FitsLimit, FitsConfig, FitsHistory, HasForm, WithForm, HaveForms};
+ghost use Rattle.text_laws.specs.Fits.{FitsEvent, FitsLimit, FitsAddress, FitsConnection};
+ghost use Rattle.text_laws.specs.Fits.{FitsFraction, FitsManager, FitsConfig};
+ghost use Rattle.text_laws.specs.Fits.{FitsHistory, HasForm, WithForm, HaveForms};
 
 use containers::{Bytes, Names};
-use driver_model::{Config, Event, EventKind, SessionKind, Submission};
+use driver_model::{
+    AddressWords, Config, ConnectionWords, Event, EventKind, ManagerWords, SessionKind, Submission,
+};
 use shared_session::Session;
 use text_laws::a_slice_has_bytes;
 
@@ -144,16 +148,72 @@ fn event_fits(event: &Event)
     kind_fits(&event.kind);
 }
 
+/// Does nothing. Its contract: so are the words of an address.
+fn address_fits(words: &AddressWords)
+    ensures { FitsAddress words.now }
+{
+    a_slice_has_bytes(words.url.as_slice());
+}
+
+/// Does nothing. Its contract: so are those of a connection.
+fn connection_fits(words: &ConnectionWords)
+    ensures { FitsConnection words.now }
+{
+    limit_fits(words.connect);
+    limit_fits(words.response);
+    optional_number_fits(words.limit);
+    optional_number_fits(words.buffer);
+    optional_large_number_fits(words.boundary);
+}
+
+/// Does nothing. Its contract: so are the parts of a fraction that may be left out.
+fn fraction_fits(base: Option<(u32, u32)>)
+    ensures { IfSome base FitsFraction }
+{
+    match base {
+        Some((numerator, denominator)) => {
+            number_fits(numerator);
+            number_fits(denominator)
+        }
+        None => {}
+    }
+}
+
+/// Does nothing. Its contract: so are the words of how a connection comes back.
+fn manager_fits(words: &ManagerWords)
+    ensures { FitsManager words.now }
+{
+    optional_number_fits(words.retries);
+    optional_large_number_fits(words.min);
+    limit_fits(words.max);
+    fraction_fits(words.base);
+}
+
 /// Does nothing. Its contract: so is a configuration.
 fn config_fits(config: &Config)
     ensures { FitsConfig config.now }
 {
-    a_slice_has_bytes(config.url.as_slice());
-    limit_fits(config.connect);
-    limit_fits(config.response);
-    optional_number_fits(config.limit);
-    optional_number_fits(config.buffer);
-    optional_large_number_fits(config.boundary);
+    match config {
+        Config::Single {
+            address,
+            connection,
+        } => {
+            address_fits(address);
+            connection_fits(connection)
+        }
+        Config::Manager {
+            lazy: _,
+            address,
+            connection,
+            manager,
+        } => {
+            address_fits(address);
+            connection_fits(connection);
+            manager_fits(manager)
+        }
+        Config::PubSub { address } => address_fits(address),
+        Config::Monitor { address } => address_fits(address),
+    }
 }
 
 /// Does nothing. Its contract: so are events.
@@ -211,14 +271,11 @@ fn all_have_forms(session: SessionKind, events: &[Event]) -> bool
     true
 }
 
-/// Whether a configuration has a line, and each event a form in a script of it.
-#[tactic(auto, using(crate::proofs::Forms::lineless, crate::proofs::Forms::all_formed))]
+/// Whether each event has a form in a script of a session of this configuration.
+#[tactic(auto, using(crate::proofs::Forms::all_formed))]
 pub fn have_forms(config: &Config, events: &[Event]) -> bool
     ensures { MatchBool result
         (HaveForms config.now events.now) (HaveForms config.now events.now → ⊥) }
 {
-    if !config.has_line() {
-        return false;
-    }
-    all_have_forms(config.kind, events)
+    all_have_forms(config.kind(), events)
 }

@@ -13,7 +13,7 @@ use std::alloc::{AllocError, Global};
 #[derive(Clone, Copy, Debug, PartialEq, Eq)]
 pub enum RecordError {
     /// Its text passes a limit of scripts; or a submission of it has no form there, as a list of exactly one command without
-    /// a name, which no step takes; or its configuration has no line, which no session is opened with.
+    /// a name, which no step takes.
     NoScript,
     /// Memory was refused.
     NoMemory,

@@ -1,5 +1,5 @@
 -- What the turns of the generated script tell of link 0.
-use Rattle.std.proofs.Common.{◌≡◌, ℕ, ◌+◌, ◌-◌, ◌==◌, Bool, true, false, List, [], ◌∷◌, ◌++◌, length, take, None, refl, sym, ap, ◌∙◌, subst, arith, length-append, if◌then◌else◌}
+use Rattle.std.proofs.Common.{◌≡◌, ℕ, ◌+◌, ◌-◌, ◌==◌, Bool, true, false, List, [], ◌∷◌, ◌++◌, length, take, None, refl, sym, ap, ◌∙◌, subst, arith, length-append, if◌then◌else◌, max}
 use Rattle.std.specs.Fmt.{digits}
 use Rattle.containers.proofs.Choices.{eq_test, if_true}
 use Rattle.resp_value.specs.Data.{simple}
@@ -22,7 +22,7 @@ use Rattle.driver_model.specs.Hearing.{as_item, taking}
 use Rattle.driver_model.specs.declared.hearing.Hearing.TheVariants as hearing
 use Rattle.legal_trace.specs.Ledger.{Ledger, Start, reach, items_came, is_awaiting, is_set_up, taking_of, value_by, value_came, values_came, bytes_came}
 use Rattle.legal_trace.specs.Story.{handed_in, shape}
-use Rattle.legal_trace.specs.Book.{Book, blank_book, entered_each, current, is_unspoken}
+use Rattle.legal_trace.specs.Book.{Book, blank_book, entered_each, is_unspoken}
 use Rattle.legal_trace.proofs.Ledgers.{reach_alike, reach_more}
 use Rattle.script_generator.specs.Script.{event_of, reply}
 
@@ -56,7 +56,7 @@ pub tells_submitted : (b : Book) (n items needs t k len : ℕ) (args : List (Lis
 tells_submitted b n items needs t k len args packed h =
     let what = submission.Cmd args in
     let l = b.link 0 in
-    let own : Bool → Shape = λ same. shape (if same then handed_in (b.story n) what b.shut (is_unspoken b what) (current b) b.timeout else b.story n) in
+    let own : Bool → Shape = λ same. shape (if same then handed_in (b.story n) what b.shut (is_unspoken b what) (max 1 b.generation) b.current b.timeout else b.story n) in
     let single : need_of (own (b.submissions == n)) ≡ 1 = ap (λ same. need_of (own same)) (eq_test b.submissions n h.handed_in) in
     let s : Start = record { owner = owner.Try n 0; shape = own (b.submissions == n); bytes = _ } in
     record {

@@ -1,5 +1,5 @@
 -- The sessions that the generated script leads to.
-use Rattle.std.proofs.Common.{ℕ, false, List, [], Option, None}
+use Rattle.std.proofs.Common.{ℕ, true, false, List, [], Option, None}
 use Rattle.connection_info.specs.declared.address.RedisConnectionInfo.{RedisConnectionInfo}
 use Rattle.driver_model.specs.declared.hearing.Hearing.TheVariants as hearing
 use Rattle.driver_model.specs.declared.kind.SessionKind.TheVariants as kind
@@ -23,7 +23,7 @@ link_with row started outbox = record { size = 50; boundary = 8192; queue = []; 
 abbrev pub no_bytes : Outbox
 no_bytes = record { unwritten = []; offered = 0 }
 
--- a connection of this life and these requests, of which these wait for it, and these are to be shown
+-- a connection that was set up, of this life and these requests, of which these wait for it, and these are to be shown
 abbrev pub connection_with : RedisConnectionInfo → Life → List Request → List Waiting → List ℕ → List ℕ → MultiplexedConnection
 connection_with info life requests waiting fresh moved = record {
   size = 50;
@@ -32,8 +32,13 @@ connection_with info life requests waiting fresh moved = record {
   free = 0;
   hears = hearing.Nothing;
   info = info;
+  address = info;
   renewal = no_renewal false None;
   life = life;
+  last = true;
+  told = true;
+  opened = true;
+  rounds = false;
   requests = requests;
   waiting = waiting;
   admitted = [];
@@ -51,7 +56,7 @@ still info life requests = connection_with info life requests [] [] []
 
 -- a session over a connection, before its turn of that number, with these requests of its submissions
 abbrev pub session_with : ℕ → List (Option Pending) → MultiplexedConnection → Core
-session_with turns table connection = record { kind = kind.Single; turns = turns; links = 1; shut = false; timeout = None; timers = []; sources = []; table = table; single = record { link = 0; connection = connection } }
+session_with turns table connection = record { kind = kind.Single; manager = None; turns = turns; links = 1; shut = false; timeout = None; timers = []; sources = []; table = table; single = record { link = 0; connection = connection } }
 
 -- a session whose link is up
 abbrev pub up : RedisConnectionInfo → ℕ → List (Option Pending) → List Request → LinkState → Core

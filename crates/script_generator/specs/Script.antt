@@ -2,7 +2,8 @@
 use Rattle.std.specs.Prelude.{ℕ, zero, suc, ◌%◌, ◌==◌, Bool, false, List, [], ◌∷◌, ◌++◌, length, Some, None, decimal, codes, if◌then◌else◌}
 use Rattle.resp_write.specs.Pack.{pack}
 use Rattle.driver_model.specs.declared.config.Config.{Config}
-use Rattle.driver_model.specs.declared.kind.SessionKind.TheVariants as kind
+use Rattle.driver_model.specs.declared.config.Config.TheVariants as config
+use Rattle.driver_model.specs.Config.{no_words}
 use Rattle.driver_model.specs.declared.event.Event.{Event}
 use Rattle.driver_model.specs.declared.event.EventKind.{EventKind}
 use Rattle.driver_model.specs.declared.event.EventKind.TheVariants as event
@@ -10,7 +11,7 @@ use Rattle.driver_model.specs.declared.event.Submission.TheVariants as submissio
 
 -- config single url=redis://h:6379 connect=none response=none lib=off
 abbrev pub generated_config : Config
-generated_config = record { kind = kind.Single; url = codes "redis://h:6379"; connect = Some None; response = Some None; limit = None; buffer = None; boundary = None; push = None; creds = None; lib = Some false }
+generated_config = config.Single (record { url = codes "redis://h:6379"; lib = Some false }) (record no_words { connect = Some None; response = Some None })
 
 -- the word of the opening's draws, and of each event's
 abbrev pub generated_word : ℕ

@@ -2,7 +2,7 @@ ghost use Rattle.std.specs.Prelude.{◌≡◌, ◌∷◌, [], codes, IfOk};
 ghost use Rattle.script_generator.specs.Script.{generated_config, command, is_cancelled, replies};
 
 use containers::{Bytes, Names};
-use driver_model::{Config, Event, SessionKind, Submission};
+use driver_model::{AddressWords, Config, ConnectionWords, Event, Submission};
 use itoa::Buffer;
 use std::alloc::{AllocError, Global};
 
@@ -11,9 +11,7 @@ pub fn generated_config(alloc: Global) -> Result<Config, AllocError>
     ensures { IfOk result (λ config. config ≡ generated_config) }
 {
     let url = Bytes::from_slice(alloc, b"redis://h:6379")?;
-    Ok(Config {
-        kind: SessionKind::Single,
-        url,
+    let connection = ConnectionWords {
         connect: Some(None),
         response: Some(None),
         limit: None,
@@ -21,7 +19,13 @@ pub fn generated_config(alloc: Global) -> Result<Config, AllocError>
         boundary: None,
         push: None,
         creds: None,
-        lib: Some(false),
+    };
+    Ok(Config::Single {
+        address: AddressWords {
+            url,
+            lib: Some(false),
+        },
+        connection,
     })
 }
 

@@ -5,6 +5,7 @@ use Rattle.std.specs.List.{onto_first, list_all}
 use Rattle.std.specs.Result.{result_map_both}
 use Rattle.std.proofs.lemmas.Bool.{both_ways}
 use Rattle.std.proofs.lemmas.Bool.Decides.{nat_tests}
+use Rattle.driver_model.specs.Config.{kind_of}
 use Rattle.driver_model.specs.declared.config.Config.{Config}
 use Rattle.driver_model.specs.declared.event.Event.{Event}
 use Rattle.driver_model.specs.declared.kind.SessionKind.{SessionKind}
@@ -79,7 +80,7 @@ after_line kind number n (Some words) = after_end number n (is_end words) (event
 -- where the lines behind the first are at fault for each kind of session, the text is
 after_config : (fault : SessionKind → ℕ) (o : Option (Config × ℕ)) → (k : ℕ) × ((rest : SessionKind → Result (List Event) ℕ) → ((kind : SessionKind) → rest kind ≡ Err (fault kind)) → config_then o rest ≡ Err k)
 after_config fault None = (1, λ rest h. refl)
-after_config fault (Some opening) = (fault opening.0.kind, λ rest h. ap (result_map_both (λ events. record { config = opening.0; word = opening.1; events = events }) (λ k. k)) (h opening.0.kind))
+after_config fault (Some opening) = (fault (kind_of opening.0), λ rest h. ap (result_map_both (λ events. record { config = opening.0; word = opening.1; events = events }) (λ k. k)) (h (kind_of opening.0)))
 
 refused : (kind : SessionKind) (number room : ℕ) (line : List ℕ) (behind : List (List ℕ)) → line_at number room (line ∷ behind) ≡ None → events_from kind number room (line ∷ behind) ≡ Err number
 refused kind number room line behind h = ap (λ o. line_then kind number (option_and_then words_of_line o) (is_nothing behind) (events_from kind (number + 1) (room - (length line + 1)) behind)) h

@@ -8,6 +8,7 @@ pub mod Forms
 pub mod Glue
 pub mod Glued
 pub mod Kept
+pub mod Keys
 pub mod Late
 pub mod Limited
 pub mod Lines

@@ -122,6 +122,7 @@ requests =
 -- what is submitted to a session of this kind: nothing in monitor mode
 abbrev pub submissions : SessionKind → Forms Submission
 submissions kind.Single = requests
+submissions (kind.Manager lazy) = requests
 submissions kind.PubSub = (codes "ping", whole pinged) ∷ calls
 submissions kind.Monitor = []
 

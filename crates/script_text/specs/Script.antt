@@ -1,6 +1,7 @@
 -- Which script a text is, or which of its lines is the first at fault.
 use Rattle.std.specs.Prelude.{ℕ, ◌+◌, ◌-◌, Bool, true, false, ◌&&◌, nat_le, nat_lt, List, [], ◌∷◌, length, Option, Some, None, option_and_then, Result, Ok, Err, bytes_eq, codes, if◌then◌else◌}
 use Rattle.std.specs.Result.{result_map_both}
+use Rattle.driver_model.specs.Config.{kind_of}
 use Rattle.driver_model.specs.declared.config.Config.{Config}
 use Rattle.driver_model.specs.declared.event.Event.{Event}
 use Rattle.driver_model.specs.declared.kind.SessionKind.{SessionKind}
@@ -67,7 +68,7 @@ events_from kind number room (line ∷ rest) =
 -- a first line that is this configuration with this word, or none, before the events behind it, which are read as those of its kind
 abbrev pub config_then : Option (Config × ℕ) → (SessionKind → Result (List Event) ℕ) → Result Script ℕ
 config_then None rest = Err 1
-config_then (Some opening) rest = result_map_both (λ events. record { config = opening.0; word = opening.1; events = events }) (λ n. n) (rest opening.0.kind)
+config_then (Some opening) rest = result_map_both (λ events. record { config = opening.0; word = opening.1; events = events }) (λ n. n) (rest (kind_of opening.0))
 
 -- the configuration in the first line, and the events behind it
 abbrev pub script_from : List (List ℕ) → Result Script ℕ

@@ -3,13 +3,15 @@ ghost use Rattle.std.specs.List.{list_all};
 ghost use Rattle.script_text.specs.ConfigLine.{keys, is_setting, values, only};
 ghost use Rattle.script_text.specs.ConfigLine.{allows, allows_times, allows_queue};
 ghost use Rattle.script_text.specs.ConfigLine.{allows_numbers, allows_optional, allows_switches, are_allowed};
-ghost use Rattle.script_text.specs.ConfigLine.{allows_setup, session, named_session, config_of, opening_of};
+ghost use Rattle.script_text.specs.ConfigLine.{allows_setup, allows_connection, allows_growth};
+ghost use Rattle.script_text.specs.ConfigLine.{allows_delays, allows_attempts, allows_retries};
+ghost use Rattle.script_text.specs.ConfigLine.{session, named_session, config_of, opening_of};
 ghost use Rattle.script_text.specs.Faults.{FindsFault, values_reason};
-ghost use Rattle.script_text.specs.Numbers.{number, max_u32, max_u64, time_limit, switch};
+ghost use Rattle.script_text.specs.Numbers.{number, max_u32, max_u64, time_limit, fraction, switch};
 
 use crate::config_line::{
-    allows_large_number, allows_number, allows_switch, allows_time, has_value, is_known_setting,
-    kind_named, only_value, value,
+    allows_fraction, allows_large_number, allows_number, allows_switch, allows_time, has_value,
+    is_known_setting, kind_named, only_value, value,
 };
 use crate::draw::{draw_fault, drawn, fault_behind};
 use crate::fault::Fault;
@@ -25,11 +27,13 @@ const BEFORE: usize = 2;
 
 /// Why a word is no KEY=VALUE with a key that a session of this kind has.
 fn setting_reason(kind: SessionKind, word: &[u8]) -> ConfigReason {
-    match (kind.is_single(), cut(word, b'=').is_some()) {
-        (true, false) => ConfigReason::Setting,
-        (true, true) => ConfigReason::UnknownKey,
-        (false, false) => ConfigReason::LinkSetting,
-        (false, true) => ConfigReason::UnknownLinkKey,
+    match (kind, cut(word, b'=').is_some()) {
+        (SessionKind::Single, false) => ConfigReason::Setting,
+        (SessionKind::Single, true) => ConfigReason::UnknownKey,
+        (SessionKind::Manager { lazy: _ }, false) => ConfigReason::ManagerSetting,
+        (SessionKind::Manager { lazy: _ }, true) => ConfigReason::UnknownManagerKey,
+        (_, false) => ConfigReason::LinkSetting,
+        (_, true) => ConfigReason::UnknownLinkKey,
     }
 }
 
@@ -113,15 +117,24 @@ fn number_fault(words: &[Word<'_>], key: &[u8], reason: ConfigReason) -> Option<
     Some(values_fault(words, key, Reason::Config(reason)))
 }
 
-/// What is wrong with the boundary.
-fn boundary_fault(words: &[Word<'_>]) -> Option<Fault>
-    ensures { is_some result ≡ not (allows (number max_u64) (values (codes "boundary") words.now)) }
+/// What is wrong with the number of 64 bits of a key.
+fn large_number_fault(words: &[Word<'_>], key: &[u8], reason: ConfigReason) -> Option<Fault>
+    ensures { is_some result ≡ not (allows (number max_u64) (values key.now words.now)) }
 {
-    if allows_large_number(words, b"boundary") {
+    if allows_large_number(words, key) {
         return None;
     }
-    let wrong = Reason::Config(ConfigReason::Boundary);
-    Some(values_fault(words, b"boundary", wrong))
+    Some(values_fault(words, key, Reason::Config(reason)))
+}
+
+/// What is wrong with the fraction of a key.
+fn fraction_fault(words: &[Word<'_>], key: &[u8], reason: ConfigReason) -> Option<Fault>
+    ensures { is_some result ≡ not (allows fraction (values key.now words.now)) }
+{
+    if allows_fraction(words, key) {
+        return None;
+    }
+    Some(values_fault(words, key, Reason::Config(reason)))
 }
 
 /// What is wrong with what is given of the times.
@@ -141,7 +154,7 @@ fn queue_fault(words: &[Word<'_>]) -> Option<Fault>
     if let Some(fault) = number_fault(words, b"buffer", ConfigReason::Buffer) {
         return Some(fault);
     }
-    boundary_fault(words)
+    large_number_fault(words, b"boundary", ConfigReason::Boundary)
 }
 
 /// What is wrong with how many permits there are, or with what is given of the queue.
@@ -185,15 +198,67 @@ fn switches_fault(words: &[Word<'_>]) -> Option<Fault>
     setup_fault(words)
 }
 
-/// What is wrong with a setting other than the URL.
+/// What is wrong with what is given of the library, or of how a multiplexed connection behaves.
 #[tactic(auto, using(crate::proofs::Values::first_fails, crate::proofs::Values::second_tells))]
-fn allowed_fault(words: &[Word<'_>]) -> Option<Fault>
-    ensures { is_some result ≡ not (are_allowed words.now) }
+fn connection_fault(words: &[Word<'_>]) -> Option<Fault>
+    ensures { is_some result ≡ not (allows_connection words.now) }
 {
     if let Some(fault) = optional_fault(words) {
         return Some(fault);
     }
     switches_fault(words)
+}
+
+/// What is wrong with what is given of how delays grow.
+fn growth_fault(words: &[Word<'_>]) -> Option<Fault>
+    ensures { is_some result ≡ not (allows_growth words.now) }
+{
+    if let Some(fault) = time_fault(words, b"max", ConfigReason::LongestDelay) {
+        return Some(fault);
+    }
+    fraction_fault(words, b"base", ConfigReason::Growth)
+}
+
+/// What is wrong with what is given of the delays between attempts.
+fn delays_fault(words: &[Word<'_>]) -> Option<Fault>
+    ensures { is_some result ≡ not (allows_delays words.now) }
+{
+    if let Some(fault) = large_number_fault(words, b"min", ConfigReason::FirstDelay) {
+        return Some(fault);
+    }
+    growth_fault(words)
+}
+
+/// What is wrong with what is given of the number of attempts, or of what is subscribed again.
+fn attempts_fault(words: &[Word<'_>]) -> Option<Fault>
+    ensures { is_some result ≡ not (allows_attempts words.now) }
+{
+    if let Some(fault) = number_fault(words, b"retries", ConfigReason::Retries) {
+        return Some(fault);
+    }
+    switch_fault(words, b"resub", ConfigReason::Resubscription)
+}
+
+/// What is wrong with what is given of how a connection comes back.
+#[tactic(auto, using(crate::proofs::Values::first_fails, crate::proofs::Values::second_tells))]
+fn retries_fault(words: &[Word<'_>]) -> Option<Fault>
+    ensures { is_some result ≡ not (allows_retries words.now) }
+{
+    if let Some(fault) = delays_fault(words) {
+        return Some(fault);
+    }
+    attempts_fault(words)
+}
+
+/// What is wrong with a setting other than the URL.
+#[tactic(auto, using(crate::proofs::Values::first_fails, crate::proofs::Values::second_tells))]
+fn allowed_fault(words: &[Word<'_>]) -> Option<Fault>
+    ensures { is_some result ≡ not (are_allowed words.now) }
+{
+    if let Some(fault) = connection_fault(words) {
+        return Some(fault);
+    }
+    retries_fault(words)
 }
 
 /// What is wrong with the URL: that it doesn't stand just once. Whether it is an address is no matter of the script.

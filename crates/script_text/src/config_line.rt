@@ -1,22 +1,26 @@
 ghost use Rattle.std.specs.Prelude.{◌≡◌, ◌==◌, not, length, bytes_eq, MatchOption, Some, None, IfOk};
 ghost use Rattle.std.specs.List.{list_all, list_any};
-ghost use Rattle.script_text.specs.ConfigLine.{connection_keys, link_keys, keys, is_setting};
+ghost use Rattle.script_text.specs.ConfigLine.{connection_keys, retry_keys, manager_keys, link_keys};
+ghost use Rattle.script_text.specs.ConfigLine.{keys, is_setting};
 ghost use Rattle.script_text.specs.ConfigLine.{value_of, values, only};
 ghost use Rattle.script_text.specs.ConfigLine.{allows, given, allows_times, allows_queue};
 ghost use Rattle.script_text.specs.ConfigLine.{allows_numbers, allows_optional, allows_switches, are_allowed};
-ghost use Rattle.script_text.specs.ConfigLine.{allows_setup, config_with, session, kind_named, config_of, opening_of};
-ghost use Rattle.script_text.specs.Numbers.{number, max_u32, max_u64, time_limit, switch};
+ghost use Rattle.script_text.specs.ConfigLine.{allows_setup, allows_connection, allows_growth};
+ghost use Rattle.script_text.specs.ConfigLine.{allows_delays, allows_attempts, allows_retries};
+ghost use Rattle.script_text.specs.ConfigLine.{address_with, connection_with, manager_with};
+ghost use Rattle.script_text.specs.ConfigLine.{config_with, session, kind_named, config_of, opening_of};
+ghost use Rattle.script_text.specs.Numbers.{number, max_u32, max_u64, time_limit, fraction, switch};
 
 use crate::draw::drawn;
 use crate::line::Line;
-use crate::number::{number_u32, number_u64, switch, time_limit};
+use crate::number::{fraction, number_u32, number_u64, switch, time_limit};
 use crate::word::Word;
 use crate::words::cut;
 use containers::{Bytes, Seq};
-use driver_model::{Config, SessionKind};
+use driver_model::{AddressWords, Config, ConnectionWords, ManagerWords, SessionKind};
 use std::alloc::{AllocError, Global};
 
-/// Whether this is a key of one multiplexed connection.
+/// Whether this is a key of a multiplexed connection.
 fn is_connection_key(key: &[u8]) -> bool
     ensures { result ≡ list_any (bytes_eq key.now) connection_keys }
 {
@@ -29,6 +33,25 @@ fn is_connection_key(key: &[u8]) -> bool
         || key == b"push".as_slice()
         || key == b"creds".as_slice()
         || key == b"lib".as_slice()
+}
+
+/// Whether this is a key of how a connection comes back.
+fn is_retry_key(key: &[u8]) -> bool
+    ensures { result ≡ list_any (bytes_eq key.now) retry_keys }
+{
+    key == b"retries".as_slice()
+        || key == b"min".as_slice()
+        || key == b"max".as_slice()
+        || key == b"base".as_slice()
+        || key == b"resub".as_slice()
+}
+
+/// Whether this is a key of a connection that comes back.
+#[tactic(auto, using(crate::proofs::Keys::key_before, crate::proofs::Keys::key_behind))]
+fn is_manager_key(key: &[u8]) -> bool
+    ensures { result ≡ list_any (bytes_eq key.now) manager_keys }
+{
+    is_connection_key(key) || is_retry_key(key)
 }
 
 /// Whether this is a key of a link of publish/subscribe or of monitor mode.
@@ -44,6 +67,7 @@ fn is_key(kind: SessionKind, key: &[u8]) -> bool
 {
     match kind {
         SessionKind::Single => is_connection_key(key),
+        SessionKind::Manager { lazy: _ } => is_manager_key(key),
         SessionKind::PubSub => is_link_key(key),
         SessionKind::Monitor => is_link_key(key),
     }
@@ -131,6 +155,13 @@ fn large_number_of(words: &[Word<'_>], key: &[u8]) -> Option<u64>
     number_u64(only_value(words, key)?)
 }
 
+/// The fraction that words give the key, where they give it just one value.
+fn fraction_of(words: &[Word<'_>], key: &[u8]) -> Option<(u32, u32)>
+    ensures { result ≡ given fraction (values key.now words.now) }
+{
+    fraction(only_value(words, key)?)
+}
+
 /// Whether what the key names is on, where words say so once.
 fn switch_of(words: &[Word<'_>], key: &[u8]) -> Option<bool>
     ensures { result ≡ given switch (values key.now words.now) }
@@ -167,6 +198,17 @@ pub fn allows_large_number(words: &[Word<'_>], key: &[u8]) -> bool
 {
     match only_value(words, key) {
         Some(value) => number_u64(value).is_some(),
+        None => !has_value(words, key),
+    }
+}
+
+/// Whether words leave the fraction of the key open, or give it once.
+#[tactic(auto, using(crate::proofs::Values::allowed_once, crate::proofs::Values::allowed_never))]
+pub fn allows_fraction(words: &[Word<'_>], key: &[u8]) -> bool
+    ensures { result ≡ allows fraction (values key.now words.now) }
+{
+    match only_value(words, key) {
+        Some(value) => fraction(value).is_some(),
         None => !has_value(words, key),
     }
 }
@@ -224,20 +266,63 @@ fn allows_switches(words: &[Word<'_>]) -> bool
     allows_switch(words, b"push") && allows_setup(words)
 }
 
-/// Whether all settings but the URL are allowed.
-fn are_allowed(words: &[Word<'_>]) -> bool
-    ensures { result ≡ are_allowed words.now }
+/// Whether words leave the library and how a multiplexed connection behaves open, or give what they give of that once.
+fn allows_connection(words: &[Word<'_>]) -> bool
+    ensures { result ≡ allows_connection words.now }
 {
     allows_optional(words) && allows_switches(words)
 }
 
-/// The configuration of this kind with this URL, and with what words give it beside that.
-fn config_with(kind: SessionKind, words: &[Word<'_>], url: Bytes) -> Config
-    ensures { result ≡ config_with kind words.now url }
+/// Whether words leave open how delays grow, or give what they give of that once.
+fn allows_growth(words: &[Word<'_>]) -> bool
+    ensures { result ≡ allows_growth words.now }
 {
-    Config {
-        kind,
+    allows_time(words, b"max") && allows_fraction(words, b"base")
+}
+
+/// Whether words leave the delays between attempts open, or give what they give of them once.
+fn allows_delays(words: &[Word<'_>]) -> bool
+    ensures { result ≡ allows_delays words.now }
+{
+    allows_large_number(words, b"min") && allows_growth(words)
+}
+
+/// Whether words leave the number of attempts and what is subscribed again open, or give each once.
+fn allows_attempts(words: &[Word<'_>]) -> bool
+    ensures { result ≡ allows_attempts words.now }
+{
+    allows_number(words, b"retries") && allows_switch(words, b"resub")
+}
+
+/// Whether words leave open how a connection comes back, or give what they give of that once.
+fn allows_retries(words: &[Word<'_>]) -> bool
+    ensures { result ≡ allows_retries words.now }
+{
+    allows_delays(words) && allows_attempts(words)
+}
+
+/// Whether all settings but the URL are allowed.
+fn are_allowed(words: &[Word<'_>]) -> bool
+    ensures { result ≡ are_allowed words.now }
+{
+    allows_connection(words) && allows_retries(words)
+}
+
+/// The address with this URL, and with what words give it beside that.
+fn address_with(words: &[Word<'_>], url: Bytes) -> AddressWords
+    ensures { result ≡ address_with words.now url }
+{
+    AddressWords {
         url,
+        lib: switch_of(words, b"lib"),
+    }
+}
+
+/// What words give of how a multiplexed connection behaves.
+fn connection_with(words: &[Word<'_>]) -> ConnectionWords
+    ensures { result ≡ connection_with words.now }
+{
+    ConnectionWords {
         connect: time_of(words, b"connect"),
         response: time_of(words, b"response"),
         limit: number_of(words, b"limit"),
@@ -245,7 +330,40 @@ fn config_with(kind: SessionKind, words: &[Word<'_>], url: Bytes) -> Config
         boundary: large_number_of(words, b"boundary"),
         push: switch_of(words, b"push"),
         creds: switch_of(words, b"creds"),
-        lib: switch_of(words, b"lib"),
+    }
+}
+
+/// What words give of how a connection comes back.
+fn manager_with(words: &[Word<'_>]) -> ManagerWords
+    ensures { result ≡ manager_with words.now }
+{
+    ManagerWords {
+        retries: number_of(words, b"retries"),
+        min: large_number_of(words, b"min"),
+        max: time_of(words, b"max"),
+        base: fraction_of(words, b"base"),
+        resub: switch_of(words, b"resub"),
+    }
+}
+
+/// The configuration of this kind with this URL, and with what words give it beside that.
+fn config_with(kind: SessionKind, words: &[Word<'_>], url: Bytes) -> Config
+    ensures { result ≡ config_with kind words.now url }
+{
+    let address = address_with(words, url);
+    match kind {
+        SessionKind::Single => Config::Single {
+            address,
+            connection: connection_with(words),
+        },
+        SessionKind::Manager { lazy } => Config::Manager {
+            lazy,
+            address,
+            connection: connection_with(words),
+            manager: manager_with(words),
+        },
+        SessionKind::PubSub => Config::PubSub { address },
+        SessionKind::Monitor => Config::Monitor { address },
     }
 }
 
@@ -273,6 +391,12 @@ pub fn kind_named(name: &[u8]) -> Option<SessionKind>
 {
     if name == b"single".as_slice() {
         return Some(SessionKind::Single);
+    }
+    if name == b"manager".as_slice() {
+        return Some(SessionKind::Manager { lazy: false });
+    }
+    if name == b"lazy".as_slice() {
+        return Some(SessionKind::Manager { lazy: true });
     }
     if name == b"pubsub".as_slice() {
         return Some(SessionKind::PubSub);

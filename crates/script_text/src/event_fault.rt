@@ -247,6 +247,7 @@ fn submission_fault(kind: SessionKind, words: &[Word<'_>], more: &[Seq<Word<'_>>
 {
     match kind {
         SessionKind::Single => request_fault(words, more),
+        SessionKind::Manager { lazy: _ } => request_fault(words, more),
         SessionKind::PubSub => link_submission_fault(words, more),
         SessionKind::Monitor => name_fault(EventReason::NoSubmission),
     }

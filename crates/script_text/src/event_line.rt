@@ -367,6 +367,7 @@ fn submission(
 {
     match kind {
         SessionKind::Single => request(alloc, words, more),
+        SessionKind::Manager { lazy: _ } => request(alloc, words, more),
         SessionKind::PubSub => link_submission(alloc, words, more.as_slice()),
         SessionKind::Monitor => Ok(None),
     }

@@ -192,7 +192,7 @@ fn kind_of(alloc: Global, text: &[u8]) -> Result<SessionKind, AllocError> {
         return Ok(SessionKind::Single);
     }
     match opening(alloc, &words)? {
-        Some((config, _)) => Ok(config.kind),
+        Some((config, _)) => Ok(config.kind()),
         None => Ok(SessionKind::Single),
     }
 }

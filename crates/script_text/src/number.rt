@@ -1,6 +1,8 @@
 ghost use Rattle.std.specs.Prelude.{◌≡◌, ◌≤◌, ◌<◌, ◌+◌, ◌*◌, IfSome};
 ghost use Rattle.std.specs.Option.{SomeIff};
-ghost use Rattle.script_text.specs.Numbers.{number, max_u32, max_u64, time_limit, switch};
+ghost use Rattle.script_text.specs.Numbers.{number, max_u32, max_u64, time_limit, fraction, switch};
+
+use crate::words::cut;
 
 /// A number with one more digit, if it is one of at most that.
 fn with_digit(n: u64, digit: u64, most: u64) -> Option<u64>
@@ -59,6 +61,16 @@ pub fn time_limit(value: &[u8]) -> Option<Option<u64>>
     }
     let ms = number_u64(value)?;
     Some(Some(ms))
+}
+
+/// The fraction that a value is: a numerator and a denominator.
+pub fn fraction(value: &[u8]) -> Option<(u32, u32)>
+    ensures { result ≡ fraction value.now }
+{
+    let (above, below) = cut(value, b'/')?;
+    let numerator = number_u32(above)?;
+    let denominator = number_u32(below)?;
+    Some((numerator, denominator))
 }
 
 /// Whether something is on, where the value is `on` or `off`.

@@ -50,6 +50,9 @@ pub enum ConfigReason {
     /// A word that isn't KEY=VALUE.
     Setting,
     UnknownKey,
+    /// These of a connection that comes back.
+    ManagerSetting,
+    UnknownManagerKey,
     /// These of a link of publish/subscribe or of monitor mode.
     LinkSetting,
     UnknownLinkKey,
@@ -71,6 +74,16 @@ pub enum ConfigReason {
     Credentials,
     /// Whether the library is named: neither `on` nor `off`.
     Library,
+    /// How many attempts there are after the first: no number of 32 bits.
+    Retries,
+    /// Below what the first delay between attempts lies: no number of 64 bits.
+    FirstDelay,
+    /// How long such a delay is at most: neither a number nor `none`.
+    LongestDelay,
+    /// By what such delays grow: no two numbers of 32 bits with a `/` between them.
+    Growth,
+    /// Whether what was subscribed is subscribed again: neither `on` nor `off`.
+    Resubscription,
 }
 
 /// Why the words of a line are no event.
@@ -166,14 +179,21 @@ impl ConfigReason {
     fn sentence(self) -> &'static [u8] {
         match self {
             ConfigReason::Name => {
-                b"the first line is config single url=URL, with connect=MS, response=MS (MS or none), buffer=COUNT, limit=COUNT, boundary=BYTES, push=on or push=off, creds=on or creds=off, and lib=on or lib=off where wanted; or config pubsub url=URL or config monitor url=URL, with lib=on or lib=off where wanted"
+                b"the first line is config single url=URL, with connect=MS, response=MS (MS or none), buffer=COUNT, limit=COUNT, boundary=BYTES, push=on or push=off, creds=on or creds=off, and lib=on or lib=off where wanted; or config manager url=URL or config lazy url=URL, with these and retries=COUNT, min=MS, max=MS (MS or none), base=NUMBER/NUMBER, and resub=on or resub=off where wanted; or config pubsub url=URL or config monitor url=URL, with lib=on or lib=off where wanted"
             }
-            ConfigReason::Kind => b"only single, pubsub and monitor are supported yet",
+            ConfigReason::Kind =>
+                b"only single, manager, lazy, pubsub and monitor are supported yet",
             ConfigReason::Setting => {
                 b"a setting is KEY=VALUE, with url, connect, response, buffer, limit, boundary, push, creds or lib"
             }
             ConfigReason::UnknownKey => {
                 b"the keys are url, connect, response, buffer, limit, boundary, push, creds and lib"
+            }
+            ConfigReason::ManagerSetting => {
+                b"a setting is KEY=VALUE, with url, connect, response, buffer, limit, boundary, push, creds, lib, retries, min, max, base or resub"
+            }
+            ConfigReason::UnknownManagerKey => {
+                b"the keys of this kind are url, connect, response, buffer, limit, boundary, push, creds, lib, retries, min, max, base and resub"
             }
             ConfigReason::LinkSetting => b"a setting is KEY=VALUE, with url or lib",
             ConfigReason::UnknownLinkKey => b"the keys of this kind are url and lib",
@@ -197,6 +217,19 @@ impl ConfigReason {
             ConfigReason::Push => b"push is on or off",
             ConfigReason::Credentials => b"creds is on or off",
             ConfigReason::Library => b"lib is on or off",
+            ConfigReason::Retries => {
+                b"retries is a number of attempts, digits alone without a leading zero, at most 4294967295"
+            }
+            ConfigReason::FirstDelay => {
+                b"min is a number of milliseconds, digits alone without a leading zero, at most 18446744073709551615"
+            }
+            ConfigReason::LongestDelay => {
+                b"max is a number of milliseconds, at most 18446744073709551615, or none"
+            }
+            ConfigReason::Growth => {
+                b"base is two numbers with / between them, each digits alone without a leading zero, at most 4294967295"
+            }
+            ConfigReason::Resubscription => b"resub is on or off",
         }
     }
 }

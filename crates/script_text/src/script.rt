@@ -189,7 +189,7 @@ pub fn read_script(alloc: Global, text: &[u8]) -> Result<Script, ScriptError>
         Ok(opening) => opening,
         Err(error) => return Err(error),
     };
-    match all_events(alloc, config.kind, &mut cursor, &mut words) {
+    match all_events(alloc, config.kind(), &mut cursor, &mut words) {
         Ok(events) => Ok(Script {
             config,
             word,

@@ -1,7 +1,7 @@
 -- One outcome: where it may stand, and what it leaves.
 use Rattle.std.proofs.Common.{◌≡◌, ◌≢◌, inl, inr, ℕ, ◌<◌, ◌==◌, Bool, true, false, ◌&&◌, not, is_some, List, [], ◌∷◌, ◌++◌, length, Option, Some, None, if◌then◌else◌, refl, sym, ap, ◌∙◌, subst, arith}
 use Rattle.std.specs.List.{AllByRecursion}
-use Rattle.containers.proofs.Choices.{by_test, chosen, if_true, left_if, taken_if, eq_from, eq_test, ne_from, not_both}
+use Rattle.containers.proofs.Choices.{by_test, chosen, if_true, taken_if, eq_from, eq_test, ne_from, not_both}
 use Rattle.driver_model.specs.declared.action.Action.TheVariants as action
 use Rattle.driver_model.specs.declared.outcome.Outcome.{Outcome}
 use Rattle.driver_model.specs.declared.outcome.Outcome.TheVariants as outcome
@@ -12,21 +12,24 @@ use Rattle.link_core.specs.declared.message.Entry.{Entry}
 use Rattle.link_core.specs.Link.{LinkState}
 use Rattle.link_laws.specs.Settles.{wanted}
 use Rattle.mux_conn.specs.declared.life.Life.{Life}
-use Rattle.mux_conn.specs.declared.life.Life.TheVariants.{Dialing, Wanting, SettingUp, Ready, Ended}
+use Rattle.mux_conn.specs.declared.life.Life.TheVariants.{Resting, Dialing, Wanting, SettingUp, Ready, Ended}
 use Rattle.mux_conn.specs.declared.request.Pending.{Pending}
 use Rattle.mux_conn.specs.declared.request.Progress.TheVariants as progress
 use Rattle.mux_conn.specs.declared.request.Request.{Request}
 use Rattle.mux_conn.specs.declared.request.Waiting.{Waiting}
 use Rattle.mux_conn.specs.Requests.{is_open as is_open_progress, is_placed, is_open_at, name_at, permits_at, with_permits, given_back}
-use Rattle.legal_trace.specs.Ledger.{End, Heard, ending_alive, ending_asked, Ledger, is_over, ending, next_notice}
+use Rattle.legal_trace.specs.Ledger.{End, Heard, Ledger, is_over, ending, next_notice, Ending, by_shutdown, by_fault, by_opening, by_attempt}
 use Rattle.legal_trace.specs.Story.{Story, Try, last_of, is_no_error, is_open, packed_in, shape_in, bytes_of, answered}
-use Rattle.legal_trace.specs.Book.{Book, entered}
-use Rattle.legal_trace.specs.Owed.{owed, owed_to_try, owed_to_message, owed_unstarted, unstarted_error}
+use Rattle.legal_trace.specs.Book.{Book, entered, faults_in}
+use Rattle.legal_trace.specs.Owed.{owed, owed_by, owed_to_try, owed_to_message, owed_unstarted, owed_waiting}
 use Rattle.legal_trace.specs.Legal.{NoneEnds, VerdictsAreShown, MayAnswer, FailuresAreShown, EndsAreTold, IsBefore, is_heard}
+use Rattle.session_laws.proofs.Calm.{calm_more, owed_calm}
+use Rattle.session_laws.proofs.Rounded.{rounds_closed, early_closed}
 use Rattle.session_laws.proofs.Numbers.{IsIn, in_either, in_right, in_left, Rising, rising_in, requests_in, request_in}
-use Rattle.session_laws.proofs.Tied.{Inner, link_in, queue_ids, IsUnknown, TiedLife, TiedNames, IsEntry, AreQueued, TiedLines, Tied, relined, has_ended, numbers_kept}
+use Rattle.session_laws.proofs.Tied.{AreCalm, Inner, link_in, queue_ids, TiedLife, TiedNames, IsEntry, AreQueued, TiedLines, Tied, relined, has_ended, numbers_kept}
 use Rattle.session_laws.proofs.Said.{carried_tied, sources_asked}
 use Rattle.session_laws.proofs.Names.{name_within, open_within, earlier_name, owners_with, length_with, names_with, with_other, with_then, request_not}
+use Rattle.session_laws.proofs.Aside.{aside_ends, not_up_ends, over_not_asked}
 use Rattle.session_laws.proofs.InLine.{kept_ids, line_of, IsInLine, awaited_in, first_is_apart}
 use Rattle.session_laws.proofs.Behind.{open_unanswered, told_answered}
 use Rattle.session_laws.proofs.Closing.{Closes, closed_other, late_closed, with_closed, story_closed, tries_closed, packs_closed, queue_closed, waits_closed, kept_other, IsUntried, told_closed}
@@ -51,34 +54,19 @@ may_answer b t p o h e owes before pushed after =
           let q = open_request b t m h asked in
           let k = open_within t.requests q.number q.open_at in
           ap (owed b) (sym q.named) ∙ before q.number (earlier_name t.table t.requests q.number p h.names k l (subst (λ n. n < name_at t.requests p) (sym q.named) less)) q.open_at;
-      after_notices = λ heard push next. pushed heard push (subst (λ n. next_notice (b.link n) ≡ Some push) r.on next);
-      after_closes = λ over. after (subst (λ n. is_over (b.link n) ≡ true) r.on over);
+      after_notices = λ heard push next. pushed heard push (subst (λ n. next_notice (b.link n) ≡ Some push) (r.on e) next);
+      after_closes = λ over. after (subst (λ n. is_over (b.link n) ≡ true) (r.on e) over);
       after_sources = λ over. sources_asked b t h;
     }
-
--- what isn't up need not end where it isn't asked for, or is over
-pub not_up_ends : (l : Ledger) → l.up ≡ false → (l.asked && not (is_over l)) ≡ false → ending l ≡ None
-not_up_ends l down no_dial = left_if l.up (ending_alive l) _ down ∙ left_if (l.asked && not (is_over l)) (ending_asked l l.heard) None no_dial
-
--- nor what was never asked for
-pub unknown_ends : (l : Ledger) → IsUnknown l → ending l ≡ None
-unknown_ends l h = not_up_ends l h.up (ap (λ a. a && not (is_over l)) h.asked)
 
 -- an end that owes something is one
 pub some_end : (x : Option End) (o : Outcome) → owed_unstarted x ≡ Some o → is_some x ≡ true
 some_end None o owes = cc
 some_end (Some e) o owes = refl
 
--- what is over is not waited for
-pub over_not_asked : (l : Ledger) → is_over l ≡ true → (l.asked && not (is_over l)) ≡ false
-over_not_asked l over = ap (λ o. l.asked && not o) over ∙ none_of l.asked
-  where
-    none_of : (a : Bool) → (a && false) ≡ false
-    none_of true = refl
-    none_of false = refl
-
 -- a connection that has ended has a link that is over
-ended_over : (l : Ledger) (created : ℕ) (life : Life) → has_ended life ≡ true → TiedLife l created life → is_over l ≡ true
+pub ended_over : (l : Ledger) (created : ℕ) (life : Life) → has_ended life ≡ true → TiedLife l created life → is_over l ≡ true
+ended_over l created Resting over h = cc
 ended_over l created Dialing over h = cc
 ended_over l created (Wanting link) over h = cc
 ended_over l created (SettingUp link greeting) over h = cc
@@ -87,6 +75,7 @@ ended_over l created (Ended e) over h = some_end l.end (outcome.Fault e) h.1
 
 -- what has ended need not end
 ended_ends : (l : Ledger) (created : ℕ) (life : Life) → has_ended life ≡ true → TiedLife l created life → ending l ≡ None
+ended_ends l created Resting over h = cc
 ended_ends l created Dialing over h = cc
 ended_ends l created (Wanting link) over h = cc
 ended_ends l created (SettingUp link greeting) over h = cc
@@ -98,11 +87,11 @@ pub after_end : (b : Book) (t : Inner) → Tied b t → has_ended t.life ≡ tru
 after_end b t h over = (
   (λ m. by_test (m == t.link) _
       (λ same. let e = eq_from m t.link same in subst (λ n. ending (b.link n) ≡ None) (sym e) (ended_ends (b.link t.link) b.created t.life over h.life))
-      (λ other. unknown_ends (b.link m) (h.others m (ne_from m t.link other)))),
+      (λ other. aside_ends (b.link m) (h.others m (ne_from m t.link other)))),
   (λ n asked alive.
       let q = open_request b t n h asked in
       let r = request_story b t q.number h (open_within t.requests q.number q.open_at) in
-      let on : (b.story n).link ≡ t.link = ap (λ m. (b.story m).link) (sym q.named) ∙ r.on in
+      let on : (b.story n).link ≡ t.link = ap (λ m. (b.story m).link) (sym q.named) ∙ r.on q.open_at in
       absurd (not_both (is_over (b.link t.link)) (subst (λ m. is_over (b.link m) ≡ false) on alive) (ended_over (b.link t.link) b.created t.life over h.life))),
   failures_shown b t h,
 )
@@ -138,7 +127,7 @@ owed_still b n o m =
     (λ f. alike (b.story m) refl refl refl refl refl refl)
   where
     by_try : (s : Story) (x : Option Try) → s.link ≡ (b.story m).link → s.submission ≡ (b.story m).submission → owed_to_try (entered b (action.Outcome n o)) s x ≡ owed_to_try b (b.story m) x
-    by_try s None link what = ap (λ l. owed_unstarted (b.link l).end) link
+    by_try s None link what = ap (λ l. owed_waiting b.shut (b.link l)) link
     by_try s (Some t) link what = ap (λ w. owed_to_message (b.link t.link) t.message (shape_in w)) what
 
     alike : (s : Story) → s.late ≡ (b.story m).late → s.unspoken ≡ (b.story m).unspoken → s.overdue ≡ (b.story m).overdue → s.link ≡ (b.story m).link → s.submission ≡ (b.story m).submission → s.tries ≡ (b.story m).tries → owed_in (entered b (action.Outcome n o)) s ≡ owed_in b (b.story m)
@@ -158,6 +147,7 @@ answer_closes s o = record {
   link = refl;
   time = refl;
   tries = refl;
+  rounded = refl;
   closed = answered_closed (answered s o) s.outcomes o refl;
 }
 
@@ -206,11 +196,13 @@ lines_answered table story requests link waiting admitted p pending started clos
 abbrev pub closed_in : Inner → ℕ → List ℕ → Inner
 closed_in t p pending = record t { requests = with_permits t.requests p progress.Closed 0; free = given_back t.limit t.free (permits_at t.requests p); pending = pending }
 
--- one that is to be answered is, and is neither in the row nor in the queue; who is told and has not started is there
-pub answer_apart : (b : Book) (t : Inner) (p : ℕ) (pending : List ℕ) (o : Outcome) → p < length t.requests → (IsIn p (wanted (link_in t.life).row ++ queue_ids (link_in t.life).queue) → ⊥)
-    → (has_ended t.life ≡ false → AreQueued (entered b (action.Outcome (name_at t.requests p) o)).story (with_permits t.requests p progress.Closed 0) (link_in t.life)) → Tied b (record t { pending = p ∷ pending })
+-- one that is to be answered is, and is neither in the row nor in the queue; who is told and has not started is there; and the answer
+-- is no cause for the next generation, until the link ends
+pub answer_apart : (b : Book) (t : Inner) (p : ℕ) (pending : List ℕ) (o : Outcome) → (has_ended t.life ≡ false → t.shut ≡ false → AreCalm (faults_in o)) → is_open_at t.requests p ≡ true → (IsIn p (wanted (link_in t.life).row ++ queue_ids (link_in t.life).queue) → ⊥)
+    → (has_ended t.life ≡ false → AreQueued (entered b (action.Outcome (name_at t.requests p) o)).story (with_permits t.requests p progress.Closed 0) t.link (link_in t.life)) → Tied b (record t { pending = p ∷ pending })
     → Tied (entered b (action.Outcome (name_at t.requests p) o)) (closed_in t p pending)
-answer_apart b t p pending o l apart told h =
+answer_apart b t p pending o calm open_is apart told h =
+    let l = open_within t.requests p open_is in
     let closed : ℕ → Story = λ n. answered (b.story n) o in
     let c : (n : ℕ) → Closes (b.story n) (closed n) = λ n. answer_closes (b.story n) o in
     let link = link_in t.life in
@@ -223,12 +215,15 @@ answer_apart b t p pending o l apart told h =
     let known : n < b.submissions = (let within = name_within t.table t.requests p h.names l in let e = h.numbers.submissions in omega arith) in
     let own : (entered b (action.Outcome n o)).story n ≡ closed n = taken_if (n == n) (closed n) (b.story n) (eq_test n n refl) in
     record {
-      numbers = numbers_kept b b.link (entered b (action.Outcome n o)).story now t.life (given_back t.limit t.free (permits_at t.requests p)) (with_permits t.requests p progress.Closed 0) t.waiting t.admitted t.fresh t.moved t.letting pending t.started h.numbers;
+      numbers = numbers_kept b b.link (entered b (action.Outcome n o)).story (entered b (action.Outcome n o)).tracked (entered b (action.Outcome n o)).errors now t.life (given_back t.limit t.free (permits_at t.requests p)) (with_permits t.requests p progress.Closed 0) t.waiting t.admitted t.fresh t.moved t.letting pending t.started h.numbers.unrepeated h.numbers;
       others = h.others;
       notices = h.notices;
       life = h.life;
+      course = h.course;
+      calm = calm_more b.errors o t.shut t.life calm h.calm;
       creds = h.creds;
-      count = h.count;
+      creation = h.creation;
+      uses = h.uses;
       renewal = h.renewal;
       setup = h.setup;
       link = λ up. carried_tied t.life t.requests (with_permits t.requests p progress.Closed 0) (b.link t.link) (sym (owners_with t.requests p progress.Closed 0)) (h.link up);
@@ -237,13 +232,15 @@ answer_apart b t p pending o l apart told h =
       tries = tries_closed (b.link t.link) b.story t.requests t.link p closed t.started c h.tries;
       lines = lines_answered t.table b.story t.requests (link_in t.life) t.waiting t.admitted p pending t.started closed h.names l c apart h.lines;
       told = told;
-      waits = waits_closed t.table b.story t.requests p closed t.life t.life t.fresh t.moved h.names l (λ e. e) (λ x e. (x, e)) (λ x u e. (x, e)) (λ x e. (x, e))
+      waits = waits_closed t.table b.story t.requests p closed t.life t.life t.fresh t.moved h.names l (λ e. e) (λ e. e) (λ x e. (x, e)) (λ x u e. (x, e)) (λ x e. (x, e))
           (λ q i.
           let j = awaited_in q link.queue i in
           let k = rising_in 0 (requests_in t.started ++ (queue ++ kept)) (length t.requests) q h.lines.line (in_right q (requests_in t.started) (queue ++ kept) (in_left q queue kept j)) in
           ((λ same. apart (in_right p rows queue (subst (λ m. IsIn m queue) (sym same) j))), k.1, i)) h.waits;
-      permits = permits_closed b.story (entered b (action.Outcome n o)).story t.table b.submissions t.requests t.link t.limit t.free t.letting p h.names l known r.on r.permits_is (λ m other. closed_other b.story t.requests p closed m other)
-          (ap (λ (s : Story). s.permits) own) (ap (λ (s : Story). s.link) own ∙ r.on) h.permits;
+      permits = permits_closed b.story (entered b (action.Outcome n o)).story t.table b.submissions t.requests t.link t.limit t.free t.letting p h.names l known (r.on open_is) r.permits_is (λ m other. closed_other b.story t.requests p closed m other)
+          (ap (λ (s : Story). s.permits) own) (ap (λ (s : Story). s.link) own ∙ r.on open_is) h.permits;
+      rounds = rounds_closed b.story t.requests t.fresh p closed l c h.rounds;
+      early = early_closed t.requests t.life p l h.early;
       late = late_closed t.table b.story t.requests p closed (p ∷ pending) pending h.names l (λ q other i. elim i [ inl same ↦ absurd (other same) | inr j ↦ j ]) h.late;
     }
 
@@ -256,7 +253,17 @@ fault_is e o is = let same : outcome.Fault e ≡ o = cc in subst (λ (x : Outcom
 -- by the end of its link
 end_is : (x : Option End) (o : Outcome) → owed_unstarted x ≡ Some o → is_no_error (o ∷ []) ≡ false
 end_is None o e = cc
-end_is (Some end) o e = fault_is (unstarted_error end.why) o e
+end_is (Some end) o e = by_why end.why e
+  where
+    by_why : (why : Ending) → owed_by why ≡ Some o → is_no_error (o ∷ []) ≡ false
+    by_why by_shutdown e = fault_is error.Closed o e
+    by_why (by_fault f) e = fault_is error.Closed o e
+    by_why (by_opening x) e = fault_is x o e
+    by_why (by_attempt x) e = cc
+
+-- also where everything is shut down
+waiting_is : (shut : Bool) (l : Ledger) (o : Outcome) → owed_waiting shut l ≡ Some o → is_no_error (o ∷ []) ≡ false
+waiting_is shut l o = chosen (λ (x : Option Outcome). x ≡ Some o → is_no_error (o ∷ []) ≡ false) (shut && not l.asked) (Some (outcome.Fault error.Closed)) (owed_unstarted l.end) (λ t. fault_is error.Closed o) (λ f. end_is l.end o)
 
 -- whatever it is
 owed_fault : (b : Book) (n : ℕ) (o : Outcome) → (b.story n).tries ≡ [] → owed b n ≡ Some o → is_no_error (o ∷ []) ≡ false
@@ -274,7 +281,7 @@ owed_fault b n o none e =
     (λ t. fault_is error.EmptyCommand o)
     (λ g. chosen IsFault (b.story n).overdue (Some (outcome.Fault (error.Io kinds.TimedOut))) by_try
     (λ t. fault_is (error.Io kinds.TimedOut) o)
-    (λ h is. end_is (b.link (b.story n).link).end o (ap (λ ts. owed_to_try b (b.story n) (last_of ts)) (sym none) ∙ is)))))
+    (λ h is. waiting_is b.shut (b.link (b.story n).link) o (ap (λ ts. owed_to_try b (b.story n) (last_of ts)) (sym none) ∙ is)))))
     e
 
 -- so an open submission that is answered with what it is owed was not told at its place, or has started
@@ -298,8 +305,8 @@ answer_tied b t p pending o e owes r h =
       | inl j ↦ in_left p (requests_in (wanted link.row)) (queue_ids link.queue) (request_in p (wanted link.row) (request_not b (record t { pending = p ∷ pending }) p h l) j)
       | inr j ↦ in_right p (requests_in (wanted link.row)) (queue_ids link.queue) j
     ] in
-    answer_apart b t p pending o l (λ i. first_is_apart 0 p (pending ++ line_of link t.admitted t.waiting) (length t.requests) r (in_right p pending (line_of link t.admitted t.waiting) (front_in p (requests_in (wanted link.row)) (queue_ids link.queue) (kept_ids t.admitted t.waiting) (asked_in i))))
-    (λ up. told_closed b.story t.requests p (λ n. answered (b.story n) o) link link (λ u. absurd (owed_untold b (name_at t.requests p) o asked owes u)) (λ q is i. i) (h.told up)) h
+    answer_apart b t p pending o (λ up open_still. owed_calm b (record t { pending = p ∷ pending }) p o h e up open_still owes) e (λ i. first_is_apart 0 p (pending ++ line_of link t.admitted t.waiting) (length t.requests) r (in_right p pending (line_of link t.admitted t.waiting) (front_in p (requests_in (wanted link.row)) (queue_ids link.queue) (kept_ids t.admitted t.waiting) (asked_in i))))
+    (λ up. told_closed b.story t.requests t.link p (λ n. answered (b.story n) o) link link (λ u. absurd (owed_untold b (name_at t.requests p) o asked owes u)) (λ n. refl) (λ q is i. i) (λ q i. i) (h.told up)) h
 
 -- one that isn't open is answered with nothing shown
 pub skip_tied : (b : Book) (t : Inner) (p : ℕ) (pending : List ℕ) → is_open_at t.requests p ≡ false → Tied b (record t { pending = p ∷ pending }) → Tied b (record t { pending = pending })
@@ -314,4 +321,4 @@ skip_tied b t p pending closed h =
         | inl i ↦ elim i [ inl same ↦ absurd (not_both (is_open_at t.requests q) (ap (is_open_at t.requests) (sym same) ∙ closed) e) | inr j ↦ inl j ]
         | inr w ↦ inr w
       ];
-    }) h.waits (λ q o late. elim (h.late q o late) [ inl same ↦ absurd (not_both (is_open_at t.requests q) (ap (is_open_at t.requests) (sym same) ∙ closed) o) | inr i ↦ i ])
+    }) h.waits h.rounds (λ q o late. elim (h.late q o late) [ inl same ↦ absurd (not_both (is_open_at t.requests q) (ap (is_open_at t.requests) (sym same) ∙ closed) o) | inr i ↦ i ])

@@ -2,7 +2,7 @@
 use Rattle.std.proofs.lemmas.List.{append-nil}
 use Rattle.std.proofs.Common.{◌≡◌, ◌≢◌, inl, inr, ℕ, ◌+◌, ◌<◌, ◌≤◌, ◌==◌, Bool, true, false, ◌||◌, ◌&&◌, not, List, [], ◌∷◌, ◌++◌, length, Some, slice_get, if◌then◌else◌, refl, sym, ap, ◌∙◌, subst, append_assoc, arith, length-append, ◌^◌}
 use Rattle.containers.proofs.Places.{get_within}
-use Rattle.containers.proofs.Choices.{chosen, not_both}
+use Rattle.containers.proofs.Choices.{chosen, not_both, or_left}
 use Rattle.redis_error.specs.declared.redis_error.RedisError.{RedisError}
 use Rattle.redis_error.specs.declared.redis_error.RedisError.TheVariants as error
 use Rattle.driver_model.specs.declared.action.Action.{Action}
@@ -11,33 +11,38 @@ use Rattle.driver_model.specs.declared.event.EventKind.TheVariants as event
 use Rattle.driver_model.specs.declared.event.Submission.{Submission}
 use Rattle.driver_model.specs.declared.outcome.Outcome.TheVariants as outcome
 use Rattle.driver_model.specs.News.{silence}
-use Rattle.driver_model.specs.Request.{packed_bytes, shape_of, is_reply_awaited, lacks_resp3, has_no_form}
+use Rattle.connection_info.specs.Protocol.{is_resp3}
+use Rattle.driver_model.specs.Hearing.{hears_messages}
+use Rattle.driver_model.specs.Request.{packed_bytes, shape_of, is_reply_awaited, lacks_resp3, needs_resp3, has_no_form}
 use Rattle.link_laws.proofs.Lists.{get_last}
 use Rattle.link_laws.proofs.TiedLink.{told_tied, all_push}
 use Rattle.mux_conn.specs.declared.request.Progress.{Progress}
 use Rattle.mux_conn.specs.declared.request.Progress.TheVariants as progress
 use Rattle.mux_conn.specs.declared.request.Request.{Request}
 use Rattle.mux_conn.specs.declared.request.Waiting.{Waiting}
-use Rattle.mux_conn.specs.Requests.{is_open as is_open_progress, is_waiting, is_admitted, is_placed, if_there, name_or_none, permits_or_none, permits_at, is_open_at, is_waiting_at, is_admitted_at, is_placed_at, name_at, waiting_of, asked}
+use Rattle.mux_conn.specs.Requests.{is_open as is_open_progress, is_waiting, is_admitted, is_placed, if_there, name_or_none, permits_or_none, permits_at, is_open_at, is_waiting_at, is_admitted_at, is_placed_at, name_at, waiting_of, asked, is_unbegun, is_unbegun_at}
 use Rattle.shared_session.specs.declared.core_state.Core.{Core}
 use Rattle.shared_session.specs.Turn.{Turning, heard, refused_with, asked_for, pending, effect, counted, is_bad}
 use Rattle.legal_trace.specs.Story.{Story, is_no_error, is_told, is_awaited}
-use Rattle.legal_trace.specs.Book.{Book, blank_book, book, entered, current, is_unspoken, kind_in}
+use Rattle.legal_trace.specs.Book.{Book, blank_book, book, entered, hearing_in, info_in, is_unspoken, kind_in}
 use Rattle.legal_trace.specs.Legal.{AllStand, NoneEnds, MayAnswer}
+use Rattle.session_laws.proofs.Rounded.{rounds_longer, early_longer}
+use Rattle.session_laws.proofs.Aside.{aside_silent}
 use Rattle.session_laws.proofs.Renewals.{renewal_alike}
 use Rattle.session_laws.proofs.Numbers.{IsIn, in_left, in_right, Rising, rising_next, requests_in, request_in}
-use Rattle.session_laws.proofs.Tied.{carried, inner, link_in, queue_ids, waiting_ids, whole_link, IsOf, IsRequest, IsPacked, IsKept, TiedLines, TiedWaits, Tied, no_opening}
+use Rattle.session_laws.proofs.Tied.{carried, inner, link_in, queue_ids, waiting_ids, whole_link, IsOf, IsRequest, IsPacked, IsKept, TiedLines, TiedWaits, Tied}
 use Rattle.session_laws.proofs.States.{Between, HasApplied}
 use Rattle.session_laws.proofs.Entered.{all_stand-append, book_more, sound_more}
 use Rattle.session_laws.proofs.Names.{there_within, names_asked, submits_unwatched}
 use Rattle.session_laws.proofs.Owes.{started_within}
 use Rattle.session_laws.proofs.Settle.{seen}
-use Rattle.session_laws.proofs.Announce.{aims_longer, aims_on, turn_of, turned, may_turn, uses_on, counted_on, time_still}
-use Rattle.session_laws.proofs.Heard.{told_life, silent_no_end, silent_applied, still_none, tame_between}
+use Rattle.session_laws.proofs.Announce.{aims_longer, aims_on, turn_of, turned, may_turn, uses_on, uses_on, time_still, still_unrepeated}
+use Rattle.session_laws.proofs.Heard.{told_life, silent_no_end, silent_applied, still_none, tame_between, hushed_still}
 use Rattle.session_laws.proofs.Said.{setup_on, IsTame, renoticed}
 use Rattle.session_laws.proofs.Further.{one_longer, there_longer, before_or_new, further_story, tries_longer, queue_longer, packs_longer, entries_longer, link_longer, told_longer, IsNext, waits_longer, permits_longer, late_longer}
 use Rattle.session_laws.proofs.InLine.{kept_ids, awaited_in}
-use Rattle.session_laws.proofs.Submit.{stories_with, new_story, story_is_new, others_before, within_line, IsErrorOf, may_refuse, core_refused, refused_tied}
+use Rattle.session_laws.proofs.Submit.{stories_with, new_story, story_is_new, others_before, within_line, IsErrorOf, may_refuse, core_refused, refused_tied, or_none}
+use Rattle.session_laws.proofs.Comes.{course_later}
 
 -- a submission that isn't bad has a form
 formed : (c : Core) (what : Submission) → is_bad c (event.Submit what) ≡ false → has_no_form c.kind what ≡ false
@@ -55,15 +60,16 @@ refused_applied before c started word what e h few good why =
     let t = seen (core_refused c what) [] c.single.connection [] started in
     let book_is : book front ≡ now = book_more before (turn_of c word (event.Submit what)) in
     let all : AllStand blank_book front = all_stand-append before (turn_of c word (event.Submit what) ∷ []) h.sound.stands (may_turn before c started word (event.Submit what) h good, tt) in
-    let applied = h.settled.written.moved.begun.applied in
+    let applied = h.settled.written.moved.begun.applied.shown in
     let may : MayAnswer now (length c.table) (outcome.Fault e) = may_refuse b c started word what e h.sound.tied applied.answered applied.ended applied.created.failed why in
     record {
       sound = sound_more front a t all (inl (subst (λ (x : Book). MayAnswer x (length c.table) (outcome.Fault e)) (sym book_is) may))
-          (subst (λ (x : Book). Tied (entered x a) t) (sym book_is) (refused_tied b c started word what e h.sound.tied (tame_between before c started h) (formed c what good) few h.fresh));
+          (subst (λ (x : Book). Tied (entered x a) t) (sym book_is) (refused_tied b c started word what e h.sound.tied (tame_between before c started h) (formed c what good) few h.fresh why));
       ended = subst NoneEnds (sym (book_more front a ∙ ap (λ (x : Book). entered x a) book_is)) (λ m. silent_no_end (b.link m) c.turns (still_none before c started h m));
       began = λ z. absurd (omega arith);
       moved = h.moved;
       fit = record { wanting = h.fit.wanting; setup = h.fit.setup; link = h.fit.link; none = h.fit.none };
+      hushed = hushed_still c (event.Submit what) refl h.hushed;
     }
 
 -- it is the next request
@@ -97,7 +103,11 @@ last_open c = ap (if_there is_open_progress) (get_last c.single.connection.reque
 last_waiting : (c : Core) → is_waiting_at (more_requests c) (length c.single.connection.requests) ≡ true
 last_waiting c = ap (if_there is_waiting) (get_last c.single.connection.requests (new_request c))
 
--- and not for a place
+-- its round has not begun
+last_unbegun : (c : Core) → is_unbegun_at (more_requests c) (length c.single.connection.requests) ≡ true
+last_unbegun c = ap (if_there is_unbegun) (get_last c.single.connection.requests (new_request c))
+
+-- and it doesn't wait for a place
 last_unadmitted : (c : Core) → is_admitted_at (more_requests c) (length c.single.connection.requests) ≡ false
 last_unadmitted c = ap (if_there is_admitted) (get_last c.single.connection.requests (new_request c))
 
@@ -193,6 +203,8 @@ asked_next b c started what h no_fresh =
       ];
       free = λ p w past. let is = last is_waiting p w past in (ap (permits_at (more_requests c)) is ∙ last_free c, ap (λ (s : Story). s.clock) (story_is p is));
       early = λ p o past. ap (λ (s : Story). s.overdue) (story_is p (last is_open_progress p o past));
+      unbegun = λ p u past. let is = last is_unbegun p u past in (ap (λ (s : Story). s.rounded) (story_is p is), in_fresh p is);
+      begun = λ p o u past. not_both (is_unbegun_at (more_requests c) p) u (ap (is_unbegun_at (more_requests c)) (last is_open_progress p o past) ∙ last_unbegun c);
     }
 
 -- the waits with it
@@ -237,25 +249,33 @@ asked_tied b c started word what h tame form few no_fresh up speaks some =
         links = h.numbers.links;
         timers = h.numbers.timers ∙ sym (append-nil c.timers);
         sources = h.numbers.sources ∙ sym (append-nil c.sources);
-        uses = uses_on c.sources c.single.link h.numbers.uses;
         aims = aims_on c.timers c.single.link (length (c.table ++ next ∷ [])) (aims_longer c.timers c.single.link (length c.table) (length (c.table ++ next ∷ [])) (omega (arith, length-append c.table (next ∷ []))) h.numbers.aims);
-        timed = λ config other opens bounded none. no_opening _ config other opens;
+        timed = h.numbers.timed;
         submissions = (let k = h.numbers.submissions in omega (arith, length-append c.table (next ∷ [])));
         timeout = time_still (kind_in b.config) b.timeout (event.Submit what) tt ∙ h.numbers.timeout;
         shut = ap (λ s. s || false) h.numbers.shut;
         within = h.numbers.within;
         few = omega (arith, few, length-append c.table (next ∷ []));
+        unrepeated = still_unrepeated b c started (event.Submit what) h;
         settings = record { size_is = h.numbers.settings.size_is; bound_is = h.numbers.settings.bound_is; limit_is = h.numbers.settings.limit_is; some = h.numbers.settings.some; limited = h.numbers.settings.limited };
         kind_is = h.numbers.kind_is;
         quiet = λ w. absurd (submits_unwatched b (inner c started) what h form w);
-        one = h.numbers.one;
-        only = h.numbers.only;
+        comes_back = h.numbers.comes_back;
+        lazy = h.numbers.lazy;
+        current_is = h.numbers.current_is;
+        speaks = h.numbers.speaks;
+        address_is = h.numbers.address_is;
+        wants = h.numbers.wants;
+        alone = h.numbers.alone;
       };
-      others = λ m other. let u = h.others m other in record { asked = u.asked; up = u.up; end = u.end; starts = u.starts; notices = u.notices };
+      others = λ m other. aside_silent (b.link m) c.turns (h.others m other);
       notices = renoticed tame h.notices;
       life = told_life ledger b.created conn.life silence h.life;
+      course = course_later conn.life ledger.last ledger.end c.links c.single.link c.shut (c.shut || false) c.manager conn.last conn.opened conn.info conn.address (or_left c.shut false) h.course;
+      calm = λ up awake. refl;
       creds = h.creds;
-      count = counted_on c.sources ledger.creds h.count;
+      creation = h.creation;
+      uses = uses_on c.sources c.single.link h.uses;
       renewal = renewal_alike ledger (record ledger { heard = silence }) conn.renewal conn.life refl refl refl h.renewal;
       setup = setup_on ledger ledger.asked ledger.up ledger.end ledger.taken ledger.offer ledger.rest silence conn.info started conn.life h.setup;
       link = λ alive. told_tied (carried conn.life (more_requests c)) ledger (whole_link conn.life) ledger.asked ledger.up silence (link_longer ledger conn.requests (more_requests c) conn.life longer h.lines.entries (h.link alive));
@@ -266,7 +286,7 @@ asked_tied b c started word what h tame form few no_fresh up speaks some =
             handed_in = refl;
             in_time = up;
             spoken = speaks;
-            on = (let e = h.numbers.links in let one = h.numbers.one in omega arith);
+            on = λ o. h.numbers.current_is;
             some = some;
             open_is = sym (last_open c);
             permits_is = sym (last_free c);
@@ -277,10 +297,13 @@ asked_tied b c started word what h tame form few no_fresh up speaks some =
           (λ p r i past. ap (λ (s : Story). s.tries) (own_at p r i past))
           (record { owners = h.tries.owners; greeted = h.tries.greeted; shapes = h.tries.shapes; tried = h.tries.tried; untried = h.tries.untried });
       lines = asked_lines b c started what h;
-      told = λ up. told_longer c.table b.story after conn.requests (more_requests c) (link_in conn.life) same longer (λ u. absurd (new_untold (is_awaited (new_story b what)) (ap is_told (sym (story_is_new b c started what h)) ∙ u.0))) (h.told up);
+      told = λ up. told_longer c.table b.story after conn.requests (more_requests c) c.single.link (link_in conn.life) h.names same longer (λ u. absurd (new_untold (is_awaited (new_story b what)) (ap is_told (sym (story_is_new b c started what h)) ∙ u.0)))
+          (λ p i. within_line conn.requests (requests_in started) queue last p h.lines.line (in_right p (requests_in started) (queue ++ last) (in_left p queue last i))) (h.told up);
       waits = asked_waits b c started what h no_fresh;
       permits = permits_longer c.table b.story after b.submissions conn.requests (more_requests c) c.single.link conn.limit conn.free (conn.fresh ++ n ∷ []) h.names same longer h.numbers.submissions (ap (λ (s : Story). s.permits) (story_is_new b c started what h))
           (asked_next b c started what h no_fresh) h.permits;
+      rounds = rounds_longer c.table b.story after conn.requests (more_requests c) conn.fresh (conn.fresh ++ n ∷ []) h.names same longer no_fresh (asked_next b c started what h no_fresh) h.rounds;
+      early = early_longer after conn.requests (more_requests c) (conn.fresh ++ n ∷ []) conn.life longer (asked_next b c started what h no_fresh) h.early;
       late = late_longer c.table b.story after conn.requests (more_requests c) (conn.fresh ++ n ∷ []) h.names same longer (asked_next b c started what h no_fresh) h.late;
     }
 
@@ -290,26 +313,27 @@ pub asked_applied : (before : List Action) (c : Core) (started : List ℕ) (word
 asked_applied before c started word what h few good up speaks some =
     let b = book before in
     silent_applied before c started word (event.Submit what) (core_asked c what) (asked c.single.connection (length c.table) (packed_bytes what) (shape_of what) (is_reply_awaited what) c.timeout) h good (λ m. silent_no_end (b.link m) c.turns (still_none before c started h m)) (λ z. absurd (omega arith)) h.moved (record { wanting = h.fit.wanting; setup = h.fit.setup; link = h.fit.link; none = h.fit.none })
+    (λ over. absurd (not_both b.shut up (h.sound.tied.numbers.shut ∙ sym (or_none c.shut) ∙ over)))
     (asked_tied b c started word what h.sound.tied (tame_between before c started h) (formed c what good) few h.fresh up speaks some)
 
 -- one or the other
 --
--- nothing more is shut
-or_none : (a : Bool) → (a || false) ≡ a
-or_none true = refl
-or_none false = refl
-
 -- what has a length is not empty
 some_bytes : (bytes : List ℕ) → (length bytes == 0) ≡ false → bytes ≢ []
 some_bytes bytes f e = not_both (length bytes == 0) f (ap (λ (bs : List ℕ). length bs == 0) e)
 
+-- three that all hold, in another order
+in_turn : (a b c : Bool) → (a && b && c) ≡ (b && (a && c))
+in_turn true b c = refl
+in_turn false true c = refl
+in_turn false false c = refl
+
 -- what the session says to the server is what the book tells of the link that a submission goes to
 lacks_as_told : (b : Book) (c : Core) (started : List ℕ) (what : Submission) → Tied b (inner c started) → lacks_resp3 c.single.connection.hears c.single.connection.info.protocol what ≡ is_unspoken b what
 lacks_as_told b c started what h =
-    let on : c.single.link ≡ current b = (let e = h.numbers.links in let one = h.numbers.one in omega arith) in
-    let says = sym h.setup.info_is ∙ ap (λ m. (b.link m).info) on in
-    let hears = sym h.notices.hearing_is ∙ ap (λ m. (b.link m).hearing) on in
-    λ i. lacks_resp3 (hears i) (says i).protocol what
+    let says = sym h.numbers.speaks in
+    let hears = sym h.notices.heard_is in
+    (λ i. lacks_resp3 (hears i) (says i) what) ∙ in_turn (not (hears_messages (hearing_in b.config))) (needs_resp3 what) (not (is_resp3 (info_in b.config).protocol))
 
 -- a submission, whichever it is
 pub submit_applied : (before : List Action) (c : Core) (started : List ℕ) (word : ℕ) (what : Submission) → Between before c started → length c.table < 2 ^ 32 → is_bad c (event.Submit what) ≡ false

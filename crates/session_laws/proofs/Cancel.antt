@@ -2,7 +2,8 @@
 use Rattle.std.proofs.lemmas.List.{append-nil}
 use Rattle.std.proofs.Common.{◌≡◌, ◌≢◌, inl, inr, ℕ, suc, ◌+◌, ◌<◌, ◌≤◌, ◌==◌, Bool, true, false, ◌&&◌, ◌||◌, is_some, List, [], ◌∷◌, ◌++◌, length, Option, Some, None, slice_get, if◌then◌else◌, refl, sym, ap, ◌∙◌, subst, arith}
 use Rattle.std.specs.List.{AllByRecursion}
-use Rattle.containers.proofs.Choices.{by_test, both_left, chosen, left_if, taken_if, eq_from, eq_test, ne_from, not_both}
+use Rattle.containers.proofs.Choices.{by_test, both_left, chosen, left_if, taken_if, eq_from, eq_test, ne_from, not_both, or_left}
+use Rattle.driver_model.specs.declared.hearing.Hearing.{Hearing}
 use Rattle.driver_model.specs.declared.action.Action.{Action}
 use Rattle.connection_info.specs.declared.address.RedisConnectionInfo.{RedisConnectionInfo}
 use Rattle.driver_model.specs.declared.action.Owner.TheVariants as owner
@@ -20,7 +21,7 @@ use Rattle.link_laws.specs.Settles.{wanted, awaited_ids}
 use Rattle.link_laws.proofs.TiedLink.{TiedLink, told_tied, cancelled_tied}
 use Rattle.mux_conn.specs.declared.connection.MultiplexedConnection.{MultiplexedConnection}
 use Rattle.mux_conn.specs.declared.life.Life.{Life}
-use Rattle.mux_conn.specs.declared.life.Life.TheVariants.{Dialing, Wanting, SettingUp, Ready, Ended}
+use Rattle.mux_conn.specs.declared.life.Life.TheVariants.{Resting, Dialing, Wanting, SettingUp, Ready, Ended}
 use Rattle.mux_conn.specs.declared.request.Pending.{Pending}
 use Rattle.mux_conn.specs.declared.request.Progress.TheVariants as progress
 use Rattle.mux_conn.specs.declared.request.Request.{Request}
@@ -29,15 +30,18 @@ use Rattle.mux_conn.specs.Requests.{is_open as is_open_progress, is_placed, is_o
 use Rattle.mux_conn.specs.Effects.{cancelled_in}
 use Rattle.shared_session.specs.declared.core_state.Core.{Core}
 use Rattle.shared_session.specs.Turn.{with_work, heard, is_shutdown, left_by, effect, counted, is_bad}
-use Rattle.legal_trace.specs.Ledger.{Ledger, Sourced, ending, hears, noted}
+use Rattle.legal_trace.specs.Ledger.{Ledger, Sourced, ending, hears, noted, Heard, End}
 use Rattle.legal_trace.specs.Story.{Story, is_open, is_told, left}
-use Rattle.legal_trace.specs.Book.{Book, after_event, book, entered, if_own, shuts, submitted_by, timeout_after, kind_in}
+use Rattle.legal_trace.specs.Book.{Book, after_event, book, entered, if_own, shuts, submitted_by, timeout_after, kind_in, has_generations}
 use Rattle.mux_conn.specs.Renewals.{renewal_id}
 use Rattle.mux_conn.specs.declared.renewal.Renewal.{Renewal}
+use Rattle.session_laws.proofs.Rounded.{rounds_closed, early_closed}
+use Rattle.session_laws.proofs.Aside.{aside_silent}
 use Rattle.session_laws.proofs.Renewals.{renewal_alike}
 use Rattle.session_laws.proofs.Numbers.{IsIn, in_left, in_right, in_either, Rising, rising_from, rising_in, rising_right, rising_tail, requests_in, request_in, request_of, request_other, requests_first}
-use Rattle.session_laws.proofs.Tied.{carried, inner, no_link, link_in, owner_of, queue_ids, whole_link, IsQueued, IsEntry, AreQueued, TiedCreds, TiedLife, TiedStory, TiedNames, TiedNumbers, TiedPermits, TiedLines, TiedSetup, IsUnknown, Tied, no_opening, has_ended, TiedRenewal, greeter}
-use Rattle.session_laws.proofs.States.{IsFit, IsFitIn, Between, HasApplied}
+use Rattle.session_laws.proofs.Server.{TiedCreds, TiedSetup, TiedRenewal, hearing_at}
+use Rattle.session_laws.proofs.Tied.{carried, inner, no_link, link_in, owner_of, queue_ids, whole_link, IsQueued, IsEntry, AreQueued, TiedLife, TiedStory, TiedNames, TiedNumbers, TiedPermits, TiedLines, IsAside, Tied, has_ended, greeter, TiedRounds, HasCourse, TiedNotices, AreEarly}
+use Rattle.session_laws.proofs.States.{IsFit, IsFitIn, Between, HasApplied, IsStopped}
 use Rattle.session_laws.proofs.Names.{name_within, open_within, name_of_some, owners_with, length_with, names_with, with_other, with_then, request_not}
 use Rattle.session_laws.proofs.InLine.{row_ids, kept_ids, chosen_in, awaited_in, wanted_in}
 use Rattle.session_laws.proofs.Behind.{open_untold}
@@ -46,11 +50,14 @@ use Rattle.legal_trace.specs.Legal.{NoneEnds}
 use Rattle.session_laws.proofs.Closing.{Closes, WasReady, WasSettingUp, WasWanting, closed_other, late_closed, with_closed, story_closed, tries_closed, packs_closed, queued_other, queue_closed, AreOthers, waits_closed, kept_other, IsUntried, told_closed}
 use Rattle.session_laws.proofs.Answer.{entries_answered}
 use Rattle.session_laws.proofs.Settle.{seen}
-use Rattle.session_laws.proofs.Announce.{aims_on, turn_of, turned, uses_on, counted_on, time_still}
+use Rattle.session_laws.proofs.Announce.{aims_on, turn_of, turned, uses_on, uses_on, time_still, still_unrepeated}
 use Rattle.session_laws.proofs.Kept.{tied_by}
 use Rattle.session_laws.proofs.Permits.{permits_closed}
-use Rattle.session_laws.proofs.Heard.{silent_applied, still_none, told_life, silent_no_end, tame_between}
+use Rattle.session_laws.proofs.Heard.{silent_applied, still_none, told_life, silent_no_end, tame_between, hushed_still}
 use Rattle.session_laws.proofs.Said.{carried_tied, setup_on, IsTame, renoticed}
+use Rattle.mux_conn.specs.Connection.{is_ready, is_resting}
+use Rattle.session_laws.proofs.Comes.{course_later}
+use Rattle.shared_session.specs.declared.generations.Generations.{Generations}
 
 -- one who leaves closes its story
 --
@@ -63,8 +70,8 @@ gone_closed false b = refl
 -- the story of one who leaves closes
 leave_closes : (s : Story) → Closes s (left s)
 leave_closes s = chosen (Closes s) (is_open s) (record s { cancelled = true; permits = 0; waiting = None }) s
-    (λ t. record { submission = refl; late = refl; unspoken = refl; link = refl; time = refl; tries = refl; closed = gone_closed (is_some s.submission) (length s.outcomes == 0) })
-    (λ f. record { submission = refl; late = refl; unspoken = refl; link = refl; time = refl; tries = refl; closed = f })
+    (λ t. record { submission = refl; late = refl; unspoken = refl; link = refl; time = refl; tries = refl; rounded = refl; closed = gone_closed (is_some s.submission) (length s.outcomes == 0) })
+    (λ f. record { submission = refl; late = refl; unspoken = refl; link = refl; time = refl; tries = refl; rounded = refl; closed = f })
 
 -- its permits are free
 leave_frees : (s : Story) → is_open s ≡ true → (left s).permits ≡ 0
@@ -145,6 +152,13 @@ without_awaited (x ∷ xs) p q other i =
     chosen (λ (ys : List Queued). IsIn q (awaited_ids ys)) (is_wanted p x) xs (x ∷ without xs p)
     (λ t. elim (in_either q own (awaited_ids xs) i) [ inl j ↦ absurd (other (sym (eq_from x.id p (both_left (x.id == p) x.awaited t)) ∙ chosen_in x.awaited q x.id j)) | inr j ↦ j ])
     (λ f. elim (in_either q own (awaited_ids xs) i) [ inl j ↦ in_left q own (awaited_ids (without xs p)) j | inr j ↦ in_right q own (awaited_ids (without xs p)) (without_awaited xs p q other j) ])
+
+-- and what is in it then was
+pub without_in : (queue : List Queued) (p q : ℕ) → IsIn q (queue_ids (without queue p)) → IsIn q (queue_ids queue)
+without_in [] p q i = i
+without_in (x ∷ xs) p q i = chosen (λ (ys : List Queued). IsIn q (queue_ids ys) → IsIn q (queue_ids (x ∷ xs))) (x.id == p && x.awaited) xs (x ∷ without xs p)
+    (λ t j. inr j)
+    (λ f j. elim j [ inl same ↦ inl same | inr k ↦ inr (without_in xs p q k) ]) i
 
 -- what it holds then it held before
 pub without_was : (queue : List Queued) (p q : ℕ) → IsIn q (awaited_ids (without queue p)) → IsIn q (awaited_ids queue)
@@ -243,6 +257,7 @@ left_lines table story requests link waiting admitted p started closed names l o
 --
 -- the link is as far as it was
 pub left_life : (l : Ledger) (created : ℕ) (life : Life) (p : ℕ) → TiedLife l created life → TiedLife (record l { heard = silence }) created (cancelled_in life p)
+left_life l created Resting p h = h
 left_life l created Dialing p h = h
 left_life l created (Wanting link) p h = h
 left_life l created (SettingUp link greeting) p h = h
@@ -251,6 +266,7 @@ left_life l created (Ended e) p h = h
 
 -- its credentials have come as far
 pub left_creds : (c : Sourced) (wants : Bool) (life : Life) (p : ℕ) → TiedCreds c wants life → TiedCreds c wants (cancelled_in life p)
+left_creds c wants Resting p h = h
 left_creds c wants Dialing p h = h
 left_creds c wants (Wanting link) p h = h
 left_creds c wants (SettingUp link greeting) p h = h
@@ -259,6 +275,7 @@ left_creds c wants (Ended e) p h = h
 
 -- and so are new credentials
 pub left_renewal : (l : Ledger) (r : Renewal) (life : Life) (p : ℕ) → TiedRenewal l r life → TiedRenewal l r (cancelled_in life p)
+left_renewal l r Resting p h = h
 left_renewal l r Dialing p h = h
 left_renewal l r (Wanting link) p h = h
 left_renewal l r (SettingUp link greeting) p h = h
@@ -267,6 +284,7 @@ left_renewal l r (Ended e) p h = h
 
 -- and its setup is
 pub left_setup : (l : Ledger) (info : RedisConnectionInfo) (started : List ℕ) (life : Life) (p : ℕ) → TiedSetup l info started life → TiedSetup (record l { heard = silence }) info started (cancelled_in life p)
+left_setup l info started Resting p h = setup_on l l.asked l.up l.end l.taken l.offer l.rest silence info started Resting h
 left_setup l info started Dialing p h = setup_on l l.asked l.up l.end l.taken l.offer l.rest silence info started Dialing h
 left_setup l info started (Wanting link) p h = setup_on l l.asked l.up l.end l.taken l.offer l.rest silence info started (Wanting link) h
 left_setup l info started (SettingUp link greeting) p h = setup_on l l.asked l.up l.end l.taken l.offer l.rest silence info started (SettingUp link greeting) h
@@ -276,6 +294,7 @@ left_setup l info started (Ended e) p h = setup_on l l.asked l.up l.end l.taken 
 -- and tied to its ledger
 pub left_link : (requests : List Request) (l : Ledger) (life : Life) (p : ℕ) → (has_ended life ≡ false → TiedLink (carried life requests) l (whole_link life)) → has_ended (cancelled_in life p) ≡ false
     → TiedLink (carried (cancelled_in life p) requests) (record l { heard = silence }) (whole_link (cancelled_in life p))
+left_link requests l Resting p h n = told_tied (owner_of requests) l (whole_link Resting) l.asked l.up silence (h refl)
 left_link requests l Dialing p h n = told_tied (owner_of requests) l (whole_link Dialing) l.asked l.up silence (h refl)
 left_link requests l (Wanting link) p h n = told_tied (λ (q : ℕ). owner.Setup) l link l.asked l.up silence (h refl)
 left_link requests l (SettingUp link greeting) p h n = told_tied (λ (q : ℕ). greeter greeting) l link l.asked l.up silence (h refl)
@@ -283,7 +302,59 @@ left_link requests l (Ready link) p h n = told_tied (owner_of requests) l (cance
 left_link requests l (Ended e) p h n = cc
 
 -- what dials has dialled before
+-- one without a link has none still
+pub still_rests : (life : Life) (p : ℕ) → cancelled_in life p ≡ Resting → life ≡ Resting
+still_rests Resting p e = refl
+still_rests Dialing p e = cc
+still_rests (Wanting link) p e = cc
+still_rests (SettingUp link greeting) p e = cc
+still_rests (Ready link) p e = cc
+still_rests (Ended x) p e = cc
+
+pub resting_cancelled : (life : Life) (p : ℕ) → is_resting (cancelled_in life p) ≡ is_resting life
+resting_cancelled Resting p = refl
+resting_cancelled Dialing p = refl
+resting_cancelled (Wanting link) p = refl
+resting_cancelled (SettingUp link greeting) p = refl
+resting_cancelled (Ready link) p = refl
+resting_cancelled (Ended x) p = refl
+
+-- it has come as far, and so it has where everything is shut down later
+pub left_course : (life : Life) (p : ℕ) (is_last : Bool) (end : Option End) (links link : ℕ) (shut next : Bool) (manager : Option Generations) (last opened : Bool) (info address : RedisConnectionInfo) → (next ≡ false → shut ≡ false) → HasCourse is_last end links link shut manager last opened info address life
+    → HasCourse is_last end links link next manager last opened info address (cancelled_in life p)
+left_course Resting p is_last end links link shut next manager last opened info address later h = h
+left_course Dialing p is_last end links link shut next manager last opened info address later h = h
+left_course (Wanting state) p is_last end links link shut next manager last opened info address later h = h
+left_course (SettingUp state greeting) p is_last end links link shut next manager last opened info address later h = h
+left_course (Ready state) p is_last end links link shut next manager last opened info address later h = h
+left_course (Ended e) p is_last end links link shut next manager last opened info address later h = course_later (Ended e) is_last end links link shut next manager last opened info address later h
+
+-- and what is heard on it is the same
+pub left_hearing : (life : Life) (p : ℕ) (mine hearing : Hearing) → hearing_at (cancelled_in life p) mine hearing ≡ hearing_at life mine hearing
+left_hearing Resting p mine hearing = refl
+left_hearing Dialing p mine hearing = refl
+left_hearing (Wanting link) p mine hearing = refl
+left_hearing (SettingUp link greeting) p mine hearing = refl
+left_hearing (Ready link) p mine hearing = refl
+left_hearing (Ended x) p mine hearing = refl
+
+pub left_notices : {heard mine : Hearing} {notices : List Heard} {told : ℕ} {end : Option End} {parted strange reading : Bool} {untold : List Heard} {parting : Bool} (life : Life) (p : ℕ) (hearing : Hearing) → TiedNotices heard mine (hearing_at life mine hearing) notices told end parted strange reading untold parting
+    → TiedNotices heard mine (hearing_at (cancelled_in life p) mine hearing) notices told end parted strange reading untold parting
+left_notices {heard = heard} {mine = mine} {notices = notices} {told = told} {end = end} {parted = parted} {strange = strange} {reading = reading} {untold = untold} {parting = parting} life p hearing h =
+    subst (λ (x : Hearing). TiedNotices heard mine x notices told end parted strange reading untold parting) (sym (left_hearing life p mine hearing)) h
+
+-- where it is stopped it is so still
+pub left_stopped : (life : Life) (p : ℕ) (waiting : List Waiting) → IsStopped life waiting → IsStopped (cancelled_in life p) waiting
+left_stopped Resting p waiting h = h
+left_stopped Dialing p waiting h = h
+left_stopped (Wanting link) p waiting h = h
+left_stopped (SettingUp link greeting) p waiting h = h
+left_stopped (Ready link) p waiting h = h
+left_stopped (Ended x) p waiting h = h
+
+-- nor is a connect answered that wasn't
 pub still_dials : (life : Life) (p : ℕ) → cancelled_in life p ≡ Dialing → life ≡ Dialing
+still_dials Resting p e = cc
 still_dials Dialing p e = refl
 still_dials (Wanting link) p e = cc
 still_dials (SettingUp link greeting) p e = cc
@@ -292,14 +363,34 @@ still_dials (Ended x) p e = cc
 
 -- a link that is up was so
 pub was_ready : (life : Life) (p : ℕ) → WasReady life (cancelled_in life p)
+was_ready Resting p x e = cc
 was_ready Dialing p x e = cc
 was_ready (Wanting link) p x e = cc
 was_ready (SettingUp link greeting) p x e = cc
 was_ready (Ready link) p x e = (link, refl)
 was_ready (Ended y) p x e = cc
 
+-- and whether it is ready is the same
+pub ready_cancelled : (life : Life) (p : ℕ) → is_ready (cancelled_in life p) ≡ is_ready life
+ready_cancelled Resting p = refl
+ready_cancelled Dialing p = refl
+ready_cancelled (Wanting link) p = refl
+ready_cancelled (SettingUp link greeting) p = refl
+ready_cancelled (Ready link) p = refl
+ready_cancelled (Ended y) p = refl
+
+-- so no round begins there
+pub early_cancelled : (requests : List Request) (life : Life) (p : ℕ) → AreEarly requests life → AreEarly requests (cancelled_in life p)
+early_cancelled requests Resting p h = h
+early_cancelled requests Dialing p h = h
+early_cancelled requests (Wanting link) p h = h
+early_cancelled requests (SettingUp link greeting) p h = h
+early_cancelled requests (Ready link) p h = h
+early_cancelled requests (Ended e) p h = h
+
 -- so was one that waits for credentials
 pub was_wanting : (life : Life) (p : ℕ) → WasWanting life (cancelled_in life p)
+was_wanting Resting p x e = cc
 was_wanting Dialing p x e = cc
 was_wanting (Wanting link) p x e = (x, e)
 was_wanting (SettingUp link greeting) p x e = cc
@@ -308,6 +399,7 @@ was_wanting (Ended y) p x e = cc
 
 -- and so was one that is set up
 pub was_setting : (life : Life) (p : ℕ) → WasSettingUp life (cancelled_in life p)
+was_setting Resting p x u e = cc
 was_setting Dialing p x u e = cc
 was_setting (Wanting link) p x u e = cc
 was_setting (SettingUp link greeting) p x u e = (x, e)
@@ -330,15 +422,16 @@ left_lines_in table story requests life waiting admitted p started closed names 
     by_life : (x : Life) → (has_ended x ≡ false → Rising 0 (requests_in (row_ids (link_in x).row) ++ (queue_ids (link_in x).queue ++ kept_ids admitted waiting)) (length requests)) → TiedLines story requests (link_in x) waiting admitted [] started
         → TiedLines (with_closed story requests p closed) (with_permits requests p progress.Closed 0) (link_in (cancelled_in x p)) waiting admitted [] started
     by_life (Ready link) r h = left_lines table story requests link waiting admitted p started closed names l other asked c (r refl) h
+    by_life Resting r h = bare h
     by_life Dialing r h = bare h
     by_life (Wanting link) r h = bare h
     by_life (SettingUp link greeting) r h = bare h
     by_life (Ended e) r h = bare h
 
 -- who was told is none that leaves, and is in the queue still
-left_told : (story : ℕ → Story) (requests : List Request) (life : Life) (p : ℕ) → is_open (story (name_at requests p)) ≡ true → (has_ended life ≡ false → AreQueued story requests (link_in life))
-    → has_ended (cancelled_in life p) ≡ false → AreQueued (with_closed story requests p (λ n. left (story n))) (with_permits requests p progress.Closed 0) (link_in (cancelled_in life p))
-left_told story requests life p asked h = by_life life h
+left_told : (story : ℕ → Story) (requests : List Request) (number : ℕ) (life : Life) (p : ℕ) → is_open (story (name_at requests p)) ≡ true → (has_ended life ≡ false → AreQueued story requests number (link_in life))
+    → has_ended (cancelled_in life p) ≡ false → AreQueued (with_closed story requests p (λ n. left (story n))) (with_permits requests p progress.Closed 0) number (link_in (cancelled_in life p))
+left_told story requests number life p asked h = by_life life h
   where
     own : (let n = name_at requests p in IsUntried (left (story n)) → IsUntried (story n))
     own = let s = story (name_at requests p) in chosen (λ (x : Story). IsUntried x → IsUntried s) (is_open s) (record s { cancelled = true; permits = 0; waiting = None }) s (λ t u. (u.0, u.1)) (λ f u. u)
@@ -346,11 +439,12 @@ left_told story requests life p asked h = by_life life h
     other : (q : ℕ) → is_told (story (name_at requests q)) ≡ true → p ≢ q
     other q is same = not_both (is_told (story (name_at requests q))) (subst (λ n. is_told (story (name_at requests n)) ≡ false) same (open_untold (story (name_at requests p)) asked)) is
 
-    by_life : (x : Life) → (has_ended x ≡ false → AreQueued story requests (link_in x)) → has_ended (cancelled_in x p) ≡ false → AreQueued (with_closed story requests p (λ n. left (story n))) (with_permits requests p progress.Closed 0) (link_in (cancelled_in x p))
-    by_life (Ready link) g n = told_closed story requests p (λ m. left (story m)) link (cancelled link p) own (λ q is i. without_others link.queue p q (other q is) i) (g refl)
-    by_life Dialing g n = told_closed story requests p (λ m. left (story m)) no_link no_link own (λ q is i. i) (g refl)
-    by_life (Wanting link) g n = told_closed story requests p (λ m. left (story m)) no_link no_link own (λ q is i. i) (g refl)
-    by_life (SettingUp link greeting) g n = told_closed story requests p (λ m. left (story m)) no_link no_link own (λ q is i. i) (g refl)
+    by_life : (x : Life) → (has_ended x ≡ false → AreQueued story requests number (link_in x)) → has_ended (cancelled_in x p) ≡ false → AreQueued (with_closed story requests p (λ n. left (story n))) (with_permits requests p progress.Closed 0) number (link_in (cancelled_in x p))
+    by_life (Ready link) g n = told_closed story requests number p (λ m. left (story m)) link (cancelled link p) own (λ n. leave_link (story n)) (λ q is i. without_others link.queue p q (other q is) i) (λ q i. without_in link.queue p q i) (g refl)
+    by_life Resting g n = told_closed story requests number p (λ m. left (story m)) no_link no_link own (λ n. leave_link (story n)) (λ q is i. i) (λ q i. i) (g refl)
+    by_life Dialing g n = told_closed story requests number p (λ m. left (story m)) no_link no_link own (λ n. leave_link (story n)) (λ q is i. i) (λ q i. i) (g refl)
+    by_life (Wanting link) g n = told_closed story requests number p (λ m. left (story m)) no_link no_link own (λ n. leave_link (story n)) (λ q is i. i) (λ q i. i) (g refl)
+    by_life (SettingUp link greeting) g n = told_closed story requests number p (λ m. left (story m)) no_link no_link own (λ n. leave_link (story n)) (λ q is i. i) (λ q i. i) (g refl)
     by_life (Ended e) g n = cc
 
 -- those that are awaited in the queue then are others
@@ -359,6 +453,7 @@ left_others requests (Ready link) ys p lo r q i =
     let was = without_was link.queue p q i in
     let k = rising_in lo (queue_ids link.queue ++ ys) (length requests) q r (in_left q (queue_ids link.queue) ys (awaited_in q link.queue was)) in
     ((λ same. without_apart link.queue ys p lo (length requests) r (subst (λ n. IsIn n (awaited_ids (without link.queue p))) (sym same) i)), k.1, was)
+left_others requests Resting ys p lo r q i = absurd i
 left_others requests Dialing ys p lo r q i = absurd i
 left_others requests (Wanting link) ys p lo r q i = absurd i
 left_others requests (SettingUp link greeting) ys p lo r q i = absurd i
@@ -366,6 +461,7 @@ left_others requests (Ended e) ys p lo r q i = absurd i
 
 -- the link is fit
 pub left_fit : (c : MultiplexedConnection) (free : ℕ) (requests : List Request) (life : Life) (p : ℕ) → c.life ≡ life → IsFitIn c → IsFitIn (record c { free = free; requests = requests; life = cancelled_in life p })
+left_fit c free requests Resting p is h = record { wanting = λ x e. cc; setup = λ x u e. cc; link = λ x e. cc; none = λ n. h.none (λ x e. (let no : Resting ≡ Ready x = sym is ∙ e in cc)) }
 left_fit c free requests Dialing p is h = record { wanting = λ x e. cc; setup = λ x u e. cc; link = λ x e. cc; none = λ n. h.none (λ x e. (let no : Dialing ≡ Ready x = sym is ∙ e in cc)) }
 left_fit c free requests (Wanting link) p is h = record {
   wanting = λ x e. let same : link ≡ x = cc in subst (IsFit c.size c.boundary) same (h.wanting link is);
@@ -418,24 +514,29 @@ silent_numbers b c started word kind timeout story free life requests pending q 
   links = h.numbers.links;
   timers = h.numbers.timers ∙ sym (append-nil c.timers);
   sources = h.numbers.sources ∙ sym (append-nil c.sources);
-  uses = uses_on c.sources c.single.link h.numbers.uses;
   aims = aims_on c.timers c.single.link (length c.table) h.numbers.aims;
-  timed = λ config other opens bounded none. no_opening _ config other opens;
+  timed = h.numbers.timed;
   submissions = (let e = h.numbers.submissions in let none = q.none in omega arith);
   timeout = q.time;
   shut = q.shut;
   within = h.numbers.within;
   few = h.numbers.few;
+  unrepeated = still_unrepeated b c started kind h;
   settings = record { size_is = h.numbers.settings.size_is; bound_is = h.numbers.settings.bound_is; limit_is = h.numbers.settings.limit_is; some = h.numbers.settings.some; limited = h.numbers.settings.limited };
   kind_is = h.numbers.kind_is;
   quiet = h.numbers.quiet;
-  one = h.numbers.one;
-  only = h.numbers.only;
+  comes_back = h.numbers.comes_back;
+  lazy = h.numbers.lazy;
+  current_is = h.numbers.current_is;
+  speaks = h.numbers.speaks;
+  address_is = h.numbers.address_is;
+  wants = h.numbers.wants;
+  alone = h.numbers.alone;
 }
 
--- all other links stay unknown
-pub silent_others : (b : Book) (c : Core) (kind : EventKind) (timeout : Option ℕ) (m : ℕ) → IsSilent b c kind timeout → IsUnknown (b.link m) → IsUnknown (noted (b.link m) (hears c.turns (news_of b.timers b.sources m kind)))
-silent_others b c kind timeout m q u = subst (λ (x : News). IsUnknown (noted (b.link m) (hears c.turns x))) (sym (q.silent m)) (record { asked = u.asked; up = u.up; end = u.end; starts = u.starts; notices = u.notices })
+-- all other links stay aside
+pub silent_others : {links created : ℕ} {heard : Hearing} {within : Option ℕ} (b : Book) (c : Core) (kind : EventKind) (timeout : Option ℕ) (m : ℕ) → IsSilent b c kind timeout → IsAside links m (b.link m) heard within created → IsAside links m (noted (b.link m) (hears c.turns (news_of b.timers b.sources m kind))) heard within created
+silent_others {links = links} {created = created} {heard = heard} {within = within} b c kind timeout m q u = subst (λ (x : News). IsAside links m (noted (b.link m) (hears c.turns x)) heard within created) (sym (q.silent m)) (aside_silent (b.link m) c.turns u)
 
 -- no link must end
 pub silent_ends : (b : Book) (c : Core) (kind : EventKind) (timeout : Option ℕ) → IsSilent b c kind timeout → NoneEnds b → (m : ℕ) → ending (noted (b.link m) (hears c.turns (news_of b.timers b.sources m kind))) ≡ None
@@ -457,8 +558,11 @@ still_tied b c started word kind timeout q same h tame =
       others = λ m other. silent_others b c kind timeout m q (h.others m other);
       notices = renoticed tame h.notices;
       life = told_life ledger b.created conn.life silence h.life;
+      course = course_later conn.life ledger.last ledger.end c.links c.single.link c.shut (c.shut || is_shutdown kind) c.manager conn.last conn.opened conn.info conn.address (or_left c.shut (is_shutdown kind)) h.course;
+      calm = λ up awake. refl;
       creds = h.creds;
-      count = counted_on c.sources ledger.creds h.count;
+      creation = h.creation;
+      uses = uses_on c.sources c.single.link h.uses;
       renewal = renewal_alike ledger (record ledger { heard = silence }) conn.renewal conn.life refl refl refl h.renewal;
       setup = setup_on ledger ledger.asked ledger.up ledger.end ledger.taken ledger.offer ledger.rest silence conn.info started conn.life h.setup;
       link = λ alive. told_tied (carried conn.life conn.requests) ledger (whole_link conn.life) ledger.asked ledger.up silence (h.link alive);
@@ -469,6 +573,8 @@ still_tied b c started word kind timeout q same h tame =
       told = h.told;
       waits = h.waits;
       permits = subst (λ k. TiedPermits b.story k conn.requests c.single.link conn.limit conn.free []) (let none = q.none in omega arith) h.permits;
+      rounds = h.rounds;
+      early = h.early;
       late = h.late;
     }))
 
@@ -497,11 +603,14 @@ gone_tied b c started word p n h tame o named =
     subst (λ m. Tied (entered b (turn_of c word (event.Cancel m))) (seen (turned c (event.Cancel m)) [] (record (closed_conn conn p) { life = cancelled_in conn.life p }) [] started)) named
     (record {
       numbers = silent_numbers b c started word (event.Cancel own) c.timeout after free (cancelled_in conn.life p) requests [] (leave_silent b c word own started h) h;
-      others = λ m other. let u = h.others m other in record { asked = u.asked; up = u.up; end = u.end; starts = u.starts; notices = u.notices };
-      notices = renoticed tame h.notices;
+      others = λ m other. aside_silent (b.link m) c.turns (h.others m other);
+      notices = left_notices conn.life p ledger.hearing (renoticed tame h.notices);
       life = left_life ledger b.created conn.life p h.life;
+      course = left_course conn.life p ledger.last ledger.end c.links c.single.link c.shut (c.shut || false) c.manager conn.last conn.opened conn.info conn.address (or_left c.shut false) h.course;
+      calm = λ up awake. refl;
       creds = left_creds ledger.creds conn.renewal.wanted conn.life p h.creds;
-      count = counted_on c.sources ledger.creds h.count;
+      creation = h.creation;
+      uses = uses_on c.sources c.single.link h.uses;
       renewal = left_renewal (record ledger { heard = silence }) conn.renewal conn.life p (renewal_alike ledger (record ledger { heard = silence }) conn.renewal conn.life refl refl refl h.renewal);
       setup = left_setup ledger conn.info started conn.life p h.setup;
       link = λ alive. left_link requests ledger conn.life p (λ up. carried_tied conn.life conn.requests requests ledger (sym (owners_with conn.requests p progress.Closed 0)) (h.link up)) alive;
@@ -509,11 +618,13 @@ gone_tied b c started word p n h tame o named =
       story = λ m. story_closed b.story c.table conn.requests c.single.link p closed m h.names l (leave_frees (b.story own) asked) (k m) (h.story m);
       tries = tries_closed (record ledger { heard = silence }) b.story conn.requests c.single.link p closed started k (record { owners = h.tries.owners; greeted = h.tries.greeted; shapes = h.tries.shapes; tried = h.tries.tried; untried = h.tries.untried });
       lines = left_lines_in c.table b.story conn.requests conn.life conn.waiting conn.admitted p started closed h.names l (request_not b (inner c started) p h l) asked k (λ up. row_in_line b (inner c started) h up) h.lines;
-      told = left_told b.story conn.requests conn.life p asked h.told;
-      waits = waits_closed c.table b.story conn.requests p closed conn.life (cancelled_in conn.life p) conn.fresh conn.moved h.names l (still_dials conn.life p) (was_wanting conn.life p) (was_setting conn.life p) (was_ready conn.life p) (left_others conn.requests conn.life (kept_ids conn.admitted conn.waiting) p 0 line) h.waits;
+      told = left_told b.story conn.requests c.single.link conn.life p asked h.told;
+      waits = waits_closed c.table b.story conn.requests p closed conn.life (cancelled_in conn.life p) conn.fresh conn.moved h.names l (still_rests conn.life p) (still_dials conn.life p) (was_wanting conn.life p) (was_setting conn.life p) (was_ready conn.life p) (left_others conn.requests conn.life (kept_ids conn.admitted conn.waiting) p 0 line) h.waits;
       permits = subst (λ m. TiedPermits after m requests c.single.link conn.limit free []) (none_more b.submissions)
-          (permits_closed b.story after c.table b.submissions conn.requests c.single.link conn.limit conn.free [] p h.names l known r.on r.permits_is (λ m other. closed_other b.story conn.requests p closed m other)
-          (ap (λ (s : Story). s.permits) is ∙ leave_frees (b.story own) asked) (ap (λ (s : Story). s.link) is ∙ leave_link (b.story own) ∙ r.on) h.permits);
+          (permits_closed b.story after c.table b.submissions conn.requests c.single.link conn.limit conn.free [] p h.names l known (r.on o) r.permits_is (λ m other. closed_other b.story conn.requests p closed m other)
+          (ap (λ (s : Story). s.permits) is ∙ leave_frees (b.story own) asked) (ap (λ (s : Story). s.link) is ∙ leave_link (b.story own) ∙ r.on o) h.permits);
+      rounds = subst (λ x. TiedRounds (has_generations b) after requests x conn.fresh conn.rounds) (sym (ready_cancelled conn.life p)) (rounds_closed b.story conn.requests conn.fresh p closed l k h.rounds);
+      early = early_cancelled requests conn.life p (early_closed conn.requests conn.life p l h.early);
       late = late_closed c.table b.story conn.requests p closed [] [] h.names l (λ q other i. i) h.late;
     })
 
@@ -531,7 +642,7 @@ cancel_applied before c started word n h good = by_entry (slice_get c.table n) r
     b = book before
 
     still : is_open (b.story n) ≡ false → HasApplied (before ++ turn_of c word (event.Cancel n) ∷ []) (with_work (record { core = turned c (event.Cancel n); acts = [] }) (record { conn = c.single.connection; acts = [] })) started
-    still f = silent_applied before c started word (event.Cancel n) (turned c (event.Cancel n)) c.single.connection h good (λ m. silent_no_end (b.link m) c.turns (still_none before c started h m)) (λ z. absurd (omega arith)) h.moved h.fit
+    still f = silent_applied before c started word (event.Cancel n) (turned c (event.Cancel n)) c.single.connection h good (λ m. silent_no_end (b.link m) c.turns (still_none before c started h m)) (λ z. absurd (omega arith)) h.moved h.fit (hushed_still c (event.Cancel n) refl h.hushed)
         (still_tied b c started word (event.Cancel n) c.timeout (leave_silent b c word n started h.sound.tied) (stays_left b n f) h.sound.tied (tame_between before c started h))
 
     by_entry : (x : Option (Option Pending)) → slice_get c.table n ≡ x → TiedStory (b.story n) c.single.connection.requests c.single.link x → HasApplied (before ++ turn_of c word (event.Cancel n) ∷ []) (left_by (heard (counted c) (event.Cancel n)) x) started
@@ -545,5 +656,6 @@ cancel_applied before c started word n h good = by_entry (slice_get c.table n) r
         (is_open_at conn.requests p.number) (record (closed_conn conn p.number) { life = cancelled_in conn.life p.number }) conn
         (λ t. silent_applied before c started word (event.Cancel n) (turned c (event.Cancel n)) (record (closed_conn conn p.number) { life = cancelled_in conn.life p.number }) h good
         (λ m. silent_no_end (b.link m) c.turns (still_none before c started h m)) (λ z. absurd (omega arith)) h.moved (left_fit conn (given_back conn.limit conn.free (permits_at conn.requests p.number)) (with_permits conn.requests p.number progress.Closed 0) conn.life p.number refl h.fit)
+        (λ over. left_stopped conn.life p.number conn.waiting (hushed_still c (event.Cancel n) refl h.hushed over))
         (gone_tied b c started word p.number n h.sound.tied (tame_between before c started h) t named))
         (λ f. still (s.open_is ∙ f))

@@ -1,7 +1,7 @@
 -- A request is closed, and with it its submission, by an outcome or by the leave of its caller.
 use Rattle.std.proofs.Common.{◌≡◌, ◌≢◌, ◌⊎◌, inl, inr, ℕ, ◌<◌, ◌==◌, Bool, false, true, List, [], ◌∷◌, length, Option, Some, None, slice_get, refl, sym, ap, ◌∙◌, subst}
 use Rattle.std.specs.List.{AllByRecursion}
-use Rattle.containers.proofs.Choices.{chosen, left_if, eq_from, ne_from, ne_test}
+use Rattle.containers.proofs.Choices.{chosen, left_if, eq_from, ne_from, ne_test, not_both}
 use Rattle.containers.proofs.Places.{get_within}
 use Rattle.driver_model.specs.declared.action.WaitKind.{WaitKind}
 use Rattle.driver_model.specs.declared.action.WaitKind.TheVariants as wait
@@ -11,19 +11,20 @@ use Rattle.link_core.specs.Link.{LinkState}
 use Rattle.link_laws.specs.Settles.{awaited_ids}
 use Rattle.mux_conn.specs.declared.life.Greeting.{Greeting}
 use Rattle.mux_conn.specs.declared.life.Life.{Life}
-use Rattle.mux_conn.specs.declared.life.Life.TheVariants.{Dialing, Wanting, SettingUp, Ready}
+use Rattle.mux_conn.specs.declared.life.Life.TheVariants.{Resting, Dialing, Wanting, SettingUp, Ready}
 use Rattle.mux_conn.specs.declared.request.Pending.{Pending}
 use Rattle.mux_conn.specs.declared.request.Progress.TheVariants as progress
 use Rattle.mux_conn.specs.declared.request.Request.{Request}
 use Rattle.mux_conn.specs.declared.request.Waiting.{Waiting}
 use Rattle.mux_conn.specs.declared.request.Progress.{Progress}
-use Rattle.mux_conn.specs.Requests.{is_open as is_open_progress, is_waiting, is_admitted, is_placed, is_waiting_at, is_admitted_at, name_at, with_permits}
+use Rattle.mux_conn.specs.Requests.{is_open as is_open_progress, is_waiting, is_admitted, is_placed, is_waiting_at, is_admitted_at, name_at, with_permits, is_open_at}
 use Rattle.legal_trace.specs.Ledger.{Ledger}
 use Rattle.legal_trace.specs.Story.{Story, is_open, is_told, shape, packed_in, shape_in, awaited_in}
 use Rattle.legal_trace.specs.Book.{if_own}
 use Rattle.session_laws.proofs.Numbers.{IsIn, Rising}
 use Rattle.legal_trace.specs.Ledger.{setup_count}
-use Rattle.session_laws.proofs.Tied.{link_in, owners_each, setup_owners, queue_ids, IsRefused, IsRequest, TiedStory, TiedTries, TiedNames, IsOf, IsQueued, IsPacked, IsKept, AreQueued, shown_wait, TiedWaits, AreLate}
+use Rattle.session_laws.proofs.Server.{setup_owners}
+use Rattle.session_laws.proofs.Tied.{link_in, owners_each, queue_ids, IsRefused, IsRequest, TiedStory, TiedTries, TiedNames, IsOf, IsQueued, IsPacked, IsKept, AreQueued, shown_wait, TiedWaits, AreLate}
 use Rattle.session_laws.proofs.Names.{name_placed, permits_other, permits_with, same_name, name_of_some, name_with, owners_with, length_with, was_with, there_within, with_same, with_other, with_then}
 
 -- a story that closes: what was handed in and tried stays
@@ -34,6 +35,7 @@ pub record Closes (s c : Story) : Type 0 where
   pub link : c.link ≡ s.link
   pub time : c.timeout ≡ s.timeout
   pub tries : c.tries ≡ s.tries
+  pub rounded : c.rounded ≡ s.rounded
   pub closed : is_open c ≡ false
 
 -- the stories where that of request p closes
@@ -52,6 +54,10 @@ closed_tries story requests p closed n c = chosen (λ (s : Story). s.tries ≡ (
 pub closed_submission : (story : ℕ → Story) (requests : List Request) (p : ℕ) (closed : ℕ → Story) (n : ℕ) → Closes (story n) (closed n) → (with_closed story requests p closed n).submission ≡ (story n).submission
 closed_submission story requests p closed n c = chosen (λ (s : Story). s.submission ≡ (story n).submission) (name_at requests p == n) (closed n) (story n) (λ t. c.submission) (λ f. refl)
 
+-- and so does the link that it goes to
+closed_link : (story : ℕ → Story) (requests : List Request) (p : ℕ) (closed : ℕ → Story) (n : ℕ) → (closed n).link ≡ (story n).link → (with_closed story requests p closed n).link ≡ (story n).link
+closed_link story requests p closed n same = chosen (λ (s : Story). s.link ≡ (story n).link) (name_at requests p == n) (closed n) (story n) (λ t. same) (λ f. refl)
+
 -- and so does the time
 pub closed_time : (story : ℕ → Story) (requests : List Request) (p : ℕ) (closed : ℕ → Story) (n : ℕ) → Closes (story n) (closed n) → (with_closed story requests p closed n).timeout ≡ (story n).timeout
 closed_time story requests p closed n c = chosen (λ (s : Story). s.timeout ≡ (story n).timeout) (name_at requests p == n) (closed n) (story n) (λ t. c.time) (λ f. refl)
@@ -65,7 +71,7 @@ request_closed s c requests link p l freed k h = record {
   handed_in = k.submission ∙ h.handed_in;
   in_time = k.late ∙ h.in_time;
   spoken = k.unspoken ∙ h.spoken;
-  on = k.link ∙ h.on;
+  on = λ o. absurd (not_both (is_open_at (with_permits requests p progress.Closed 0) p) (with_same is_open_progress requests p progress.Closed 0 l) o);
   some = λ none. h.some (ap packed_in (sym k.submission) ∙ none);
   open_is = k.closed ∙ sym (with_same is_open_progress requests p progress.Closed 0 l);
   permits_is = freed ∙ sym (permits_with requests p progress.Closed 0 l);
@@ -78,7 +84,7 @@ request_other s requests link p q other h = record {
   handed_in = h.handed_in;
   in_time = h.in_time;
   spoken = h.spoken;
-  on = h.on;
+  on = λ o. h.on (sym (with_other is_open_progress requests p q progress.Closed 0 other) ∙ o);
   some = h.some;
   open_is = h.open_is ∙ sym (with_other is_open_progress requests p q progress.Closed 0 other);
   permits_is = h.permits_is ∙ sym (permits_other requests p q progress.Closed 0 other);
@@ -128,9 +134,10 @@ tries_closed l story requests link p closed started c h =
       greeted = h.greeted;
       shapes = λ k q s w i j. h.shapes k q s (subst (λ n. q < n) (length_with requests p progress.Closed 0) w) i j ∙ ap shape_in (sym (closed_submission story requests p closed (name_at requests q) (c (name_at requests q)))) ∙ ap (λ n. shape (after n)) (sym (still q));
       tried = λ k q w i. ap (λ n. (after n).tries) (still q) ∙ closed_tries story requests p closed (name_at requests q) (c (name_at requests q)) ∙ h.tried k q (subst (λ n. q < n) (length_with requests p progress.Closed 0) w) i;
-      untried = λ q r i not_started.
+      untried = λ q r i not_started on.
           let w = was_with requests p progress.Closed 0 q r i in
-          closed_tries story requests p closed r.name (c r.name) ∙ ap (λ n. (story n).tries) (sym w.2) ∙ h.untried q w.0 w.1 not_started;
+          closed_tries story requests p closed r.name (c r.name) ∙ ap (λ n. (story n).tries) (sym w.2)
+          ∙ h.untried q w.0 w.1 not_started (ap (λ n. (story n).link) w.2 ∙ sym (closed_link story requests p closed r.name (c r.name).link) ∙ on);
     }
 
 -- the lines
@@ -192,7 +199,7 @@ AreOthers requests p life after = (q : ℕ) → IsIn q (awaited_ids (link_in aft
 
 -- what is shown of a request that waits for the connection, or for a permit: nothing, or one of these
 abbrev pub IsOneOf : Option WaitKind → Type 0
-IsOneOf x = (x ≡ None) ⊎ ((x ≡ Some wait.Connect) ⊎ ((x ≡ Some wait.Creds) ⊎ ((x ≡ Some wait.Setup) ⊎ (x ≡ Some wait.Permit))))
+IsOneOf x = (x ≡ None) ⊎ ((x ≡ Some wait.Backoff) ⊎ ((x ≡ Some wait.Connect) ⊎ ((x ≡ Some wait.Creds) ⊎ ((x ≡ Some wait.Setup) ⊎ (x ≡ Some wait.Permit)))))
 
 -- with another left side
 pub one_of : (x y : Option WaitKind) → x ≡ y → IsOneOf y → IsOneOf x
@@ -212,9 +219,9 @@ WasSettingUp life after = (link : LinkState) (greeting : Greeting) → after ≡
 
 -- the waits of the others stay
 pub waits_closed : (table : List (Option Pending)) (story : ℕ → Story) (requests : List Request) (p : ℕ) (closed : ℕ → Story) (life after : Life) (fresh moved : List ℕ) → TiedNames table requests → p < length requests
-    → (after ≡ Dialing → life ≡ Dialing) → WasWanting life after → WasSettingUp life after → WasReady life after → AreOthers requests p life after → TiedWaits story requests life fresh moved
+    → (after ≡ Resting → life ≡ Resting) → (after ≡ Dialing → life ≡ Dialing) → WasWanting life after → WasSettingUp life after → WasReady life after → AreOthers requests p life after → TiedWaits story requests life fresh moved
     → TiedWaits (with_closed story requests p closed) (with_permits requests p progress.Closed 0) after fresh moved
-waits_closed table story requests p closed life after fresh moved names l dials wants sets ready others h =
+waits_closed table story requests p closed life after fresh moved names l rests dials wants sets ready others h =
     let waits : (q : ℕ) → is_waiting_at (with_permits requests p progress.Closed 0) q ≡ true → (p ≢ q) × (is_waiting_at requests q ≡ true) = λ q w. with_then is_waiting requests p q progress.Closed 0 refl l w in
     let admits : (q : ℕ) → is_admitted_at (with_permits requests p progress.Closed 0) q ≡ true → (p ≢ q) × (is_admitted_at requests q ≡ true) = λ q a. with_then is_admitted requests p q progress.Closed 0 refl l a in
     let same : (q : ℕ) → p ≢ q → q < length requests → shown_wait (with_closed story requests p closed) (with_permits requests p progress.Closed 0) q ≡ shown_wait story requests q = λ q other m. shown_closed table story requests p q closed names l m other in
@@ -222,6 +229,9 @@ waits_closed table story requests p closed life after fresh moved names l dials 
       early = λ q w.
           let k = waits q w in
           one_of (shown_wait (with_closed story requests p closed) (with_permits requests p progress.Closed 0) q) (shown_wait story requests q) (same q k.0 (there_within is_waiting requests q k.1)) (h.early q k.1);
+      backoff = λ q w d.
+          let k = waits q w in
+          elim (h.backoff q k.1 (rests d)) [ inl i ↦ inl i | inr e ↦ inr (same q k.0 (there_within is_waiting requests q k.1) ∙ e) ];
       connect = λ q w d.
           let k = waits q w in
           elim (h.connect q k.1 (dials d)) [ inl i ↦ inl i | inr e ↦ inr (same q k.0 (there_within is_waiting requests q k.1) ∙ e) ];
@@ -245,6 +255,7 @@ waits_closed table story requests p closed life after fresh moved names l dials 
           elim (h.room q k.2) [ inl j ↦ inl j | inr e ↦ inr (same q k.0 k.1 ∙ e) ];
       newer = subst (Rising 0 fresh) (sym (length_with requests p progress.Closed 0)) h.newer;
       rising = subst (Rising 0 moved) (sym (length_with requests p progress.Closed 0)) h.rising;
+      no_backoff = λ q i w d. let k = waits q w in same q k.0 (there_within is_waiting requests q k.1) ∙ h.no_backoff q i k.1 (rests d);
       no_connect = λ q i w d e. let k = waits q w in h.no_connect q i k.1 (dials d) (sym (same q k.0 (there_within is_waiting requests q k.1)) ∙ e);
       no_creds = λ q link i w c e. let k = waits q w in let x = wants link c in h.no_creds q x.0 i k.1 x.1 (sym (same q k.0 (there_within is_waiting requests q k.1)) ∙ e);
       no_setup = λ q link greeting i w s e. let k = waits q w in let x = sets link greeting s in h.no_setup q x.0 greeting i k.1 x.1 (sym (same q k.0 (there_within is_waiting requests q k.1)) ∙ e);
@@ -268,15 +279,20 @@ abbrev pub IsUntried : Story → Type 0
 IsUntried s = (is_told s ≡ true) × (s.tries ≡ [])
 
 -- who was told and has not started is in the queue still
-pub told_closed : (story : ℕ → Story) (requests : List Request) (p : ℕ) (closed : ℕ → Story) (link after : LinkState) → (let n = name_at requests p in IsUntried (closed n) → IsUntried (story n))
-    → ((q : ℕ) → is_told (story (name_at requests q)) ≡ true → IsIn q (queue_ids link.queue) → IsIn q (queue_ids after.queue)) → AreQueued story requests link
-    → AreQueued (with_closed story requests p closed) (with_permits requests p progress.Closed 0) after
-told_closed story requests p closed link after own stays h n is none =
-    let was = chosen (λ (s : Story). IsUntried s → IsUntried (story n)) (name_at requests p == n) (closed n) (story n)
-    (λ t. subst (λ m. IsUntried (closed m) → IsUntried (story m)) (eq_from (name_at requests p) n t) own)
-    (λ f u. u) (is, none) in
-    let k = h n was.0 was.1 in
-    (k.0, subst (λ m. k.0 < m) (sym (length_with requests p progress.Closed 0)) k.1, name_with requests p progress.Closed 0 k.0 ∙ k.2, stays k.0 (subst (λ m. is_told (story m) ≡ true) (sym k.2) was.0) k.3)
+pub told_closed : (story : ℕ → Story) (requests : List Request) (number p : ℕ) (closed : ℕ → Story) (link after : LinkState) → (let n = name_at requests p in IsUntried (closed n) → IsUntried (story n)) → ((n : ℕ) → (closed n).link ≡ (story n).link)
+    → ((q : ℕ) → is_told (story (name_at requests q)) ≡ true → IsIn q (queue_ids link.queue) → IsIn q (queue_ids after.queue)) → ((q : ℕ) → IsIn q (queue_ids after.queue) → IsIn q (queue_ids link.queue)) → AreQueued story requests number link
+    → AreQueued (with_closed story requests p closed) (with_permits requests p progress.Closed 0) number after
+told_closed story requests number p closed link after own same stays was_in h = record {
+  told = λ n is none on.
+      let was = chosen (λ (s : Story). IsUntried s → IsUntried (story n)) (name_at requests p == n) (closed n) (story n)
+      (λ t. subst (λ m. IsUntried (closed m) → IsUntried (story m)) (eq_from (name_at requests p) n t) own)
+      (λ f u. u) (is, none) in
+      let k = h.told n was.0 was.1 (sym (closed_link story requests p closed n (same n)) ∙ on) in
+      (k.0, subst (λ m. k.0 < m) (sym (length_with requests p progress.Closed 0)) k.1, name_with requests p progress.Closed 0 k.0 ∙ k.2, stays k.0 (subst (λ m. is_told (story m) ≡ true) (sym k.2) was.0) k.3);
+  here = λ q i.
+      let m = name_at requests q in
+      ap (λ n. (with_closed story requests p closed n).link) (name_with requests p progress.Closed 0 q) ∙ closed_link story requests p closed m (same m) ∙ h.here q (was_in q i);
+}
 
 -- who is late
 --

@@ -3,13 +3,13 @@ use Rattle.std.proofs.Common.{◌≡◌, inl, inr, ℕ, Bool, true, false, ◌&&
 use Rattle.containers.proofs.Choices.{by_test, chosen, taken_if, left_if}
 use Rattle.redis_error.specs.declared.redis_error.RedisError.TheVariants as error
 use Rattle.driver_model.specs.Setup.{says_nothing}
-use Rattle.driver_model.specs.News.{News, silence, connected, refused, overdue, took, came, failed, authorized, denied, deserted, shut, renewed, unrenewed, late, dropped}
+use Rattle.driver_model.specs.News.{News, silence, connected, refused, overdue, took, came, failed, authorized, denied, deserted, shut, renewed, unrenewed, late, unrepeated, dropped}
 use Rattle.credentials.specs.Credentials.{Credentials}
 use Rattle.link_core.specs.Link.{LinkState}
 use Rattle.mux_conn.specs.declared.life.Life.TheVariants.{Wanting}
-use Rattle.legal_trace.specs.Ledger.{Ledger, Sourced, Start, hears, noted, authorized_by, awaits_credentials, bytes_came, dials, is_over, lacks_credentials, refused_in, setup_after, setup_count, setup_result, setup_steps, source_due, is_renewal_open, is_set_up, lost_by, may_renew, renewed_by, unrenewed_by}
+use Rattle.legal_trace.specs.Ledger.{Ledger, Sourced, Start, hears, noted, authorized_by, awaits_credentials, bytes_came, dials, is_over, lacks_credentials, refused_in, setup_after, setup_count, setup_result, setup_steps, source_due, is_renewal_open, is_set_up, lost_by, may_renew, renewed_by, unrenewed_by, is_repeating, unrepeated_by}
 use Rattle.legal_trace.proofs.Setups.{IsUndecided, setup_unsaid}
-use Rattle.session_laws.proofs.Tied.{AreSought, HasCredentials}
+use Rattle.session_laws.proofs.Server.{AreSought, HasCredentials}
 use Rattle.legal_trace.proofs.Came.{holds_bytes}
 
 -- whether they are waited for
@@ -123,6 +123,7 @@ creds_hear l turn deserted other k = refl
 creds_hear l turn (renewed c) other k = ap (λ (x : Ledger). x.creds) (left_if (may_renew l) (renewed_by l c) l (down_may_renew l (other tt)))
 creds_hear l turn unrenewed other k = ap (λ (x : Ledger). x.creds) (left_if l.up (unrenewed_by l) l (other tt))
 creds_hear l turn (late m) other k = ap (λ (x : Ledger). x.creds) (left_if (l.up && is_renewal_open l m) (lost_by l) l (ap (λ u. u && is_renewal_open l m) (other tt)))
+creds_hear l turn unrepeated other k = chosen (λ (x : Ledger). x.creds ≡ l.creds) (is_repeating l) (unrepeated_by l) l (λ t. refl) (λ f. refl)
 creds_hear l turn dropped other k = refl
 creds_hear l turn shut other k = refl
 

@@ -58,40 +58,36 @@ timers_of-append l (x ∷ xs) ys = ap (λ ts. timer_of l x ++ ts) (timers_of-app
 pub timers_more : (l : ℕ) (acts : List LinkAct) (a : LinkAct) → timers_of l (acts ++ a ∷ []) ≡ timers_of l acts ++ timer_of l a
 timers_more l acts a = timers_of-append l acts (a ∷ []) ∙ ap (λ ts. timers_of l acts ++ ts) (append-nil (timer_of l a))
 
--- the sources of credentials that acts ask for, behind so many, and then others
-pub sources_of-append : (l n : ℕ) (xs ys : List LinkAct) → sources_of l n (xs ++ ys) ≡ sources_of l n xs ++ sources_of l (n + length (sources_of l n xs)) ys
-sources_of-append l n [] ys = let same : n ≡ n + 0 = omega arith in ap (λ m. sources_of l m ys) same
-sources_of-append l n (x ∷ xs) ys =
-    let next = n + length (source_of l n x) in
-    let far : next + length (sources_of l next xs) ≡ n + length (sources_of l n (x ∷ xs)) = omega (arith, length-append (source_of l n x) (sources_of l next xs)) in
-    ap (λ ss. source_of l n x ++ ss) (sources_of-append l next xs ys ∙ ap (λ m. sources_of l next xs ++ sources_of l m ys) far)
-    ∙ sym (append_assoc (source_of l n x) (sources_of l next xs) (sources_of l (n + length (sources_of l n (x ∷ xs))) ys))
+-- the sources of credentials that acts ask for, and then others
+pub sources_of-append : (l : ℕ) (xs ys : List LinkAct) → sources_of l (xs ++ ys) ≡ sources_of l xs ++ sources_of l ys
+sources_of-append l [] ys = refl
+sources_of-append l (x ∷ xs) ys = ap (λ ss. source_of l x ++ ss) (sources_of-append l xs ys) ∙ sym (append_assoc (source_of l x) (sources_of l xs) (sources_of l ys))
 
 -- one more act asks for one source more, or for none
-pub sources_more : (l n : ℕ) (acts : List LinkAct) (a : LinkAct) → sources_of l n (acts ++ a ∷ []) ≡ sources_of l n acts ++ source_of l (n + length (sources_of l n acts)) a
-sources_more l n acts a = sources_of-append l n acts (a ∷ []) ∙ ap (λ ss. sources_of l n acts ++ ss) (append-nil (source_of l (n + length (sources_of l n acts)) a))
+pub sources_more : (l : ℕ) (acts : List LinkAct) (a : LinkAct) → sources_of l (acts ++ a ∷ []) ≡ sources_of l acts ++ source_of l a
+sources_more l acts a = sources_of-append l acts (a ∷ []) ∙ ap (λ ss. sources_of l acts ++ ss) (append-nil (source_of l a))
 
 -- an act that asks for none
 pub quiet_timers : (l : ℕ) (acts : List LinkAct) (a : LinkAct) → timer_of l a ≡ [] → timers_of l (acts ++ a ∷ []) ≡ timers_of l acts
 quiet_timers l acts a e = timers_more l acts a ∙ ap (λ ts. timers_of l acts ++ ts) e ∙ append-nil (timers_of l acts)
 
 -- nor for a source
-pub quiet_sources : (l n : ℕ) (acts : List LinkAct) (a : LinkAct) → source_of l (n + length (sources_of l n acts)) a ≡ [] → sources_of l n (acts ++ a ∷ []) ≡ sources_of l n acts
-quiet_sources l n acts a e = sources_more l n acts a ∙ ap (λ ss. sources_of l n acts ++ ss) e ∙ append-nil (sources_of l n acts)
+pub quiet_sources : (l : ℕ) (acts : List LinkAct) (a : LinkAct) → source_of l a ≡ [] → sources_of l (acts ++ a ∷ []) ≡ sources_of l acts
+quiet_sources l acts a e = sources_more l acts a ∙ ap (λ ss. sources_of l acts ++ ss) e ∙ append-nil (sources_of l acts)
 
 -- the actions that acts show, and then others
-pub shown_each-append : (l t c : ℕ) (xs ys : List LinkAct) → shown_each l t c (xs ++ ys) ≡ shown_each l t c xs ++ shown_each l (t + length (timers_of l xs)) (c + length (sources_of l c xs)) ys
+pub shown_each-append : (l t c : ℕ) (xs ys : List LinkAct) → shown_each l t c (xs ++ ys) ≡ shown_each l t c xs ++ shown_each l (t + length (timers_of l xs)) (c + length (sources_of l xs)) ys
 shown_each-append l t c [] ys = let same : t ≡ t + 0 = omega arith in let still : c ≡ c + 0 = omega arith in λ i. shown_each l (same i) (still i) ys
 shown_each-append l t c (x ∷ xs) ys =
     let next = t + length (timer_of l x) in
-    let source = c + length (source_of l c x) in
+    let source = c + length (source_of l x) in
     let far : next + length (timers_of l xs) ≡ t + length (timers_of l (x ∷ xs)) = omega (arith, length-append (timer_of l x) (timers_of l xs)) in
-    let behind : source + length (sources_of l source xs) ≡ c + length (sources_of l c (x ∷ xs)) = omega (arith, length-append (source_of l c x) (sources_of l source xs)) in
+    let behind : source + length (sources_of l xs) ≡ c + length (sources_of l (x ∷ xs)) = omega (arith, length-append (source_of l x) (sources_of l xs)) in
     ap (λ more. shown l t c x ∷ more) (shown_each-append l next source xs ys ∙ (λ i. shown_each l next source xs ++ shown_each l (far i) (behind i) ys))
 
 -- one more act shows one more action
 pub shown_more : (before : List Action) (l t c : ℕ) (acts : List LinkAct) (a : LinkAct)
-    → before ++ shown_each l t c (acts ++ a ∷ []) ≡ (before ++ shown_each l t c acts) ++ shown l (t + length (timers_of l acts)) (c + length (sources_of l c acts)) a ∷ []
+    → before ++ shown_each l t c (acts ++ a ∷ []) ≡ (before ++ shown_each l t c acts) ++ shown l (t + length (timers_of l acts)) (c + length (sources_of l acts)) a ∷ []
 shown_more before l t c acts a =
     ap (λ more. before ++ more) (shown_each-append l t c acts (a ∷ []))
-    ∙ sym (append_assoc before (shown_each l t c acts) (shown l (t + length (timers_of l acts)) (c + length (sources_of l c acts)) a ∷ []))
+    ∙ sym (append_assoc before (shown_each l t c acts) (shown l (t + length (timers_of l acts)) (c + length (sources_of l acts)) a ∷ []))

@@ -13,16 +13,17 @@ use Rattle.mux_conn.specs.declared.request.Pending.{Pending}
 use Rattle.mux_conn.specs.declared.request.Progress.{Progress}
 use Rattle.mux_conn.specs.declared.request.Request.{Request}
 use Rattle.mux_conn.specs.declared.request.Waiting.{Waiting}
-use Rattle.mux_conn.specs.Requests.{is_open as is_open_progress, is_waiting, is_admitted, is_placed, is_open_at, is_waiting_at, is_admitted_at, is_placed_at, if_there, name_or_none, name_at, permits_or_none, permits_at}
+use Rattle.mux_conn.specs.Requests.{is_open as is_open_progress, is_waiting, is_admitted, is_placed, is_open_at, is_waiting_at, is_unbegun_at, is_admitted_at, is_placed_at, if_there, name_or_none, name_at, permits_or_none, permits_at}
 use Rattle.mux_conn.specs.declared.life.Life.{Life}
-use Rattle.mux_conn.specs.declared.life.Life.TheVariants.{Dialing, Ended, Ready, Wanting, SettingUp}
+use Rattle.mux_conn.specs.declared.life.Life.TheVariants.{Resting, Dialing, Ended, Ready, Wanting, SettingUp}
 use Rattle.link_core.specs.Link.{LinkState}
 use Rattle.link_laws.specs.Settles.{awaited_ids}
 use Rattle.legal_trace.specs.Ledger.{Ledger, setup_count}
 use Rattle.legal_trace.specs.Story.{Story, is_told, shape}
 use Rattle.mux_conn.specs.Renewals.{renewal_id}
 use Rattle.session_laws.proofs.Numbers.{IsIn, Rising}
-use Rattle.session_laws.proofs.Tied.{carried, link_in, no_link, owner_of, owners_each, queue_ids, setup_owners, waiting_ids, whole_link, IsRequest, TiedStory, TiedTries, TiedNames, IsOf, IsQueued, IsEntry, IsPacked, AreQueued, AreLate, shown_wait, TiedWaits, TiedPermits}
+use Rattle.session_laws.proofs.Server.{setup_owners}
+use Rattle.session_laws.proofs.Tied.{carried, link_in, no_link, owner_of, owners_each, queue_ids, waiting_ids, whole_link, IsRequest, TiedStory, TiedTries, TiedNames, IsOf, IsQueued, IsEntry, IsPacked, AreQueued, AreLate, shown_wait, TiedWaits, TiedPermits}
 use Rattle.session_laws.proofs.Permits.{held_same}
 use Rattle.legal_trace.specs.Steps.{is_let_in, permits_held, permits_on}
 use Rattle.driver_model.specs.declared.action.WaitKind.{WaitKind}
@@ -83,7 +84,7 @@ request_longer s requests more link p longer l h = record {
   handed_in = h.handed_in;
   in_time = h.in_time;
   spoken = h.spoken;
-  on = h.on;
+  on = λ o. h.on (sym (there_longer is_open_progress requests more p longer l) ∙ o);
   some = h.some;
   open_is = h.open_is ∙ sym (there_longer is_open_progress requests more p longer l);
   permits_is = h.permits_is ∙ sym (permits_at_longer requests more p longer l);
@@ -139,11 +140,12 @@ tries_longer table l story after requests more link started names same longer fe
   greeted = h.greeted;
   shapes = λ k p s inside i j. let was = at k p (numbered p inside) i in h.shapes k p s was i j ∙ ap shape (sym (story_at table story after requests more p names same longer was));
   tried = λ k p inside i. let was = at k p (numbered p inside) i in ap (λ (s : Story). s.tries) (story_at table story after requests more p names same longer was) ∙ h.tried k p was i;
-  untried = λ p r i out. before_or_new requests more p ((after r.name).tries ≡ [])
+  untried = λ p r i out on. before_or_new requests more p ((after r.name).tries ≡ [])
       (λ old.
       let was : slice_get requests p ≡ Some r = sym (longer.same p old) ∙ i in
       let in_table = get_within table r.name (Some (record { number = p })) (names.named p r was) in
-      ap (λ (s : Story). s.tries) (same r.name (λ e. absurd (omega arith))) ∙ h.untried p r was out)
+      let still = same r.name (λ e. absurd (omega arith)) in
+      ap (λ (s : Story). s.tries) still ∙ h.untried p r was out (sym (ap (λ (s : Story). s.link) still) ∙ on))
       (λ past. new p r i past);
 }
   where
@@ -202,6 +204,7 @@ owners_of_row requests more (e ∷ es) longer all = (sym (owner_longer requests 
 
 -- so the link is tied
 pub link_longer : (l : Ledger) (requests more : List Request) (life : Life) → IsLonger requests more → AllByRecursion (IsEntry requests) (link_in life).row → TiedLink (carried life requests) l (whole_link life) → TiedLink (carried life more) l (whole_link life)
+link_longer l requests more Resting longer all h = named_tied (owner_of requests) (owner_of more) l no_link tt h
 link_longer l requests more Dialing longer all h = named_tied (owner_of requests) (owner_of more) l no_link tt h
 link_longer l requests more (Wanting link) longer all h = h
 link_longer l requests more (SettingUp link greeting) longer all h = h
@@ -209,15 +212,17 @@ link_longer l requests more (Ready link) longer all h = named_tied (owner_of req
 link_longer l requests more (Ended e) longer all h = named_tied (owner_of requests) (owner_of more) l no_link tt h
 
 -- who was told and has not started is in the queue still
-pub told_longer : (table : List (Option Pending)) (story after : ℕ → Story) (requests more : List Request) (link : LinkState) → SameBefore story after (length table) → IsLonger requests more → (IsUntried (after (length table)) → ⊥) → AreQueued story requests link
-    → AreQueued after more link
-told_longer table story after requests more link same longer new h n is none =
-    by_test (n == length table) _
-    (λ t. absurd (new (subst (λ m. IsUntried (after m)) (eq_from n (length table) t) (is, none))))
-    (λ f.
-    let e = same n (ne_from n (length table) f) in
-    let k = h n (ap is_told (sym e) ∙ is) (ap (λ (s : Story). s.tries) (sym e) ∙ none) in
-    (k.0, (let l = k.1 in let m = longer.long in omega arith), name_longer requests more k.0 longer k.1 ∙ k.2, k.3))
+pub told_longer : (table : List (Option Pending)) (story after : ℕ → Story) (requests more : List Request) (number : ℕ) (link : LinkState) → TiedNames table requests → SameBefore story after (length table) → IsLonger requests more → (IsUntried (after (length table)) → ⊥)
+    → ((p : ℕ) → IsIn p (queue_ids link.queue) → p < length requests) → AreQueued story requests number link → AreQueued after more number link
+told_longer table story after requests more number link names same longer new within h = record {
+  told = λ n is none on. by_test (n == length table) _
+      (λ t. absurd (new (subst (λ m. IsUntried (after m)) (eq_from n (length table) t) (is, none))))
+      (λ f.
+      let e = same n (ne_from n (length table) f) in
+      let k = h.told n (ap is_told (sym e) ∙ is) (ap (λ (s : Story). s.tries) (sym e) ∙ none) (ap (λ (s : Story). s.link) (sym e) ∙ on) in
+      (k.0, (let l = k.1 in let m = longer.long in omega arith), name_longer requests more k.0 longer k.1 ∙ k.2, k.3));
+  here = λ p i. ap (λ (s : Story). s.link) (story_at table story after requests more p names same longer (within p i)) ∙ h.here p i;
+}
 
 -- the waits
 --
@@ -232,7 +237,7 @@ pub shown_longer : (table : List (Option Pending)) (story after : ℕ → Story)
 shown_longer table story after requests more p names same longer l = ap (λ (s : Story). s.waiting) (story_at table story after requests more p names same longer l)
 
 -- a request more waits for the connection, and is the one of this turn; nothing is shown of its wait, it holds no
--- permits and has no timer, and its time isn't over
+-- permits and has no timer, its time isn't over, and its round has not begun
 pub record IsNext (after : ℕ → Story) (requests more : List Request) (later : List ℕ) : Type 0 where
   pub newer : Rising 0 later (length more)
   pub only : (p : ℕ) → IsIn p later → length requests ≤ p
@@ -240,9 +245,11 @@ pub record IsNext (after : ℕ → Story) (requests more : List Request) (later 
   pub none : (p : ℕ) → (is_admitted_at more p ≡ true) ⊎ (is_placed_at more p ≡ true) → length requests ≤ p → ⊥
   pub free : (p : ℕ) → is_waiting_at more p ≡ true → length requests ≤ p → (permits_at more p ≡ 0) × ((after (name_at more p)).clock ≡ None)
   pub early : (p : ℕ) → is_open_at more p ≡ true → length requests ≤ p → (after (name_at more p)).overdue ≡ false
+  pub unbegun : (p : ℕ) → is_unbegun_at more p ≡ true → length requests ≤ p → ((after (name_at more p)).rounded ≡ false) × IsIn p later
+  pub begun : (p : ℕ) → is_open_at more p ≡ true → is_unbegun_at more p ≡ false → length requests ≤ p → ⊥
 
 -- nothing is no wait
-no_wait : (x : Option WaitKind) (kind : WaitKind) → x ≡ None → x ≢ Some kind
+pub no_wait : (x : Option WaitKind) (kind : WaitKind) → x ≡ None → x ≢ Some kind
 no_wait x kind none e = let no : ◌≡◌ {A = Option WaitKind} None (Some kind) = sym none ∙ e in cc
 
 -- so the waits stay
@@ -256,6 +263,9 @@ waits_longer table story after requests more life fresh later moved names same l
       early = λ p w. before_or_new requests more p _
           (λ old. one_of (shown_wait after more p) (shown_wait story requests p) (still p old) (h.early p (was p old w)))
           (λ past. inl (next.shown p w past).0);
+      backoff = λ p w d. before_or_new requests more p _
+          (λ old. elim (h.backoff p (was p old w) d) [ inl i ↦ absurd (old_one p i) | inr e ↦ inr (still p old ∙ e) ])
+          (λ past. inl (next.shown p w past).1);
       connect = λ p w d. before_or_new requests more p _
           (λ old. elim (h.connect p (was p old w) d) [ inl i ↦ absurd (old_one p i) | inr e ↦ inr (still p old ∙ e) ])
           (λ past. inl (next.shown p w past).1);
@@ -274,6 +284,7 @@ waits_longer table story after requests more life fresh later moved names same l
       room = λ p i. elim (h.room p i) [ inl j ↦ inl j | inr e ↦ inr (still p (within p i) ∙ e) ];
       newer = next.newer;
       rising = rising_below 0 (length requests) (length more) moved longer.long h.rising;
+      no_backoff = λ p i w d. (next.shown p w (next.only p i)).0;
       no_connect = λ p i w d. no_wait (shown_wait after more p) wait.Connect (next.shown p w (next.only p i)).0;
       no_creds = λ p link i w r. no_wait (shown_wait after more p) wait.Creds (next.shown p w (next.only p i)).0;
       no_setup = λ p link u i w r. no_wait (shown_wait after more p) wait.Setup (next.shown p w (next.only p i)).0;

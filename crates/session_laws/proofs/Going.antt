@@ -1,29 +1,29 @@
 -- A session whose event has had its own effect, while requests are moved.
 use Rattle.std.proofs.Common.{◌+◌, ◌≤◌, List, None, Option, Some, [], ap, arith, false, inl, inr, length, refl, subst, sym, true, ℕ, ◌++◌, ◌<◌, ◌∙◌, ◌∷◌, ◌≡◌, ◌⊎◌}
-use Rattle.std.specs.Prelude.{if◌then◌else◌, is_some, ◌==◌}
+use Rattle.std.specs.Prelude.{if◌then◌else◌, is_some, ◌==◌, Bool, not, ◌&&◌}
 use Rattle.containers.proofs.Choices.{by_test, chosen, eq_from, left_if, ne_from, not_both}
-use Rattle.redis_error.specs.declared.redis_error.RedisError.{RedisError}
 use Rattle.credentials.specs.Credentials.{Credentials}
 use Rattle.driver_model.specs.declared.action.Action.{Action}
 use Rattle.driver_model.specs.declared.action.WaitKind.TheVariants as wait
 use Rattle.link_core.specs.Link.{LinkState, holds_back, is_full_beside}
 use Rattle.link_laws.proofs.TiedLink.{TiedLink}
-use Rattle.mux_conn.specs.Connection.{has_no_permit, in_front, is_due as is_renewal_due, is_ready}
+use Rattle.mux_conn.specs.Connection.{has_no_permit, in_front, is_due as is_renewal_due, is_ready, is_resting}
 use Rattle.mux_conn.specs.Effects.{setup_queued, setup_id}
-use Rattle.mux_conn.specs.Requests.{name_at}
+use Rattle.mux_conn.specs.Requests.{is_unbegun_at, name_at}
 use Rattle.mux_conn.specs.declared.renewal.Renewal.{Renewal}
 use Rattle.mux_conn.specs.declared.life.Greeting.{Greeting}
 use Rattle.mux_conn.specs.declared.life.Life.{Life}
-use Rattle.mux_conn.specs.declared.life.Life.TheVariants.{Dialing, Ended, Ready, SettingUp, Wanting}
+use Rattle.mux_conn.specs.declared.life.Life.TheVariants.{Resting, Dialing, Ended, Ready, SettingUp, Wanting}
 use Rattle.legal_trace.specs.Book.{Book, blank_book, book, entered, if_mine}
 use Rattle.legal_trace.specs.Ledger.{Ledger, Line, dials, ending, is_set_up, lacks_credentials, noted, noted_each, renewal_count, renewal_due, renewals_asked, setup_count, setup_due, setup_steps, monitor_due, is_greeted, setup_result}
-use Rattle.legal_trace.specs.Legal.{AllStand, CanMove, IsApplied, IsBegun, IsFirstToMove, IsMoved, MayStand, NoneEnds, RenewalsAreStarted, RenewalsAreTimed, SetupsAreStarted, MonitorsAreStarted}
-use Rattle.legal_trace.specs.Steps.{Step, is_due, is_held_back, next_step, nothing, starts_or_waits, step_ready, unready_wait, waits}
+use Rattle.legal_trace.specs.Legal.{AllStand, CanMove, IsApplied, IsBegun, IsFirstToMove, IsMoved, MayStand, NoneEnds, RenewalsAreStarted, RenewalsAreTimed, SetupsAreStarted, MonitorsAreStarted, IsShown}
+use Rattle.legal_trace.specs.Steps.{Step, is_due, is_held_back, next_step, starts_or_waits, step_down, step_ready, unready_wait, waits}
 use Rattle.session_laws.proofs.Ahead.{HasSeats, IsRunning, creds_step, full_step, held_by, permit_step, queue_step, ready_alive, running_of, setup_step}
 use Rattle.session_laws.proofs.Behind.{alive_behind}
+use Rattle.session_laws.proofs.Comes.{NoneComes, live_comes, none_rests}
 use Rattle.session_laws.proofs.Creds.{lacking_undue, wanting_lacks, lacking_undecided}
 use Rattle.session_laws.proofs.Entered.{book_more, sound_more}
-use Rattle.session_laws.proofs.InLine.{first_is_least, kept_ids, kept_in}
+use Rattle.session_laws.proofs.InLine.{first_is_least, kept_ids, kept_in, line_of}
 use Rattle.session_laws.proofs.Moves.{IsLater, later_of, unstarted_alive}
 use Rattle.session_laws.proofs.Names.{earlier_name}
 use Rattle.session_laws.proofs.Numbers.{IsIn, Rising, in_left, in_right, rising_in, rising_right, requests_in}
@@ -31,8 +31,10 @@ use Rattle.session_laws.proofs.Owes.{created_is, ends_told, none_open, none_owed
 use Rattle.session_laws.proofs.Renewals.{all_timed, down_renewed_due, due_is, none_renewed_due}
 use Rattle.session_laws.proofs.Said.{sources_asked}
 use Rattle.session_laws.proofs.SetUp.{down_undue, none_due, sent_undue, set_up_undue, setting_undecided}
-use Rattle.session_laws.proofs.States.{IsFit}
-use Rattle.session_laws.proofs.Tied.{AreSought, HasSaid, Inner, IsSetUp, Sound, Tied, TiedLife, TiedRenewal, carried, has_ended, link_in, owner_of, queue_ids, AreRenewed, waiting_ids, whole_link, IsToldIn, greeter, IsGreeting, watch_queued}
+use Rattle.session_laws.proofs.States.{AreBegun, IsFit}
+use Rattle.session_laws.proofs.Unrepeated.{repeats_started, repeats_timed}
+use Rattle.session_laws.proofs.Server.{AreSought, HasSaid, IsSetUp, TiedRenewal, AreRenewed, IsGreeting, watch_queued}
+use Rattle.session_laws.proofs.Tied.{Inner, Sound, Tied, TiedLife, carried, has_ended, link_in, owner_of, queue_ids, waiting_ids, whole_link, IsToldIn, greeter}
 use Rattle.mux_conn.specs.declared.life.Greeting.TheVariants as greet
 use Rattle.legal_trace.proofs.Setups.{IsUndecided, greeted_is_undue}
 use Rattle.legal_trace.proofs.Watching.{watch_is_up, watch_is_greeted, watch_is_new, watch_is_unset}
@@ -40,6 +42,18 @@ use Rattle.legal_trace.proofs.Watching.{watch_is_up, watch_is_greeted, watch_is_
 -- where new credentials are to be told on a link that is set up, their timer was asked for, and the link is held back
 abbrev pub HasRenewed : Renewal → Life → Type 0
 HasRenewed r life = (link : LinkState) → life ≡ Ready link → is_renewal_due r ≡ true → (r.pending ≡ true) × (holds_back link ≡ true)
+
+-- its link goes on
+abbrev pub goes_on : Life → Bool
+goes_on life = not (is_resting life) && not (has_ended life)
+
+-- where it doesn't, no generation begins, and no link is asked for
+abbrev pub StaysPut : Book → Life → Type 0
+StaysPut b life = goes_on life ≡ false → NoneComes b
+
+-- where everything was shut down while it has none, nobody waits for one
+abbrev pub IsHushedIn : Inner → Type 0
+IsHushedIn t = t.shut ≡ true → is_resting t.life ≡ true → t.waiting ≡ []
 
 -- nothing must end, and all new credentials are told that may be
 pub record IsGoing (trace : List Action) (t : Inner) : Type 0 where
@@ -55,20 +69,30 @@ going_more trace a t stands may tied none renewed = record {
   renewed = renewed;
 }
 
--- the event has had its effect, while nothing is to be answered and the link has not ended
-pub applied_up : (b : Book) (t : Inner) → Tied b t → t.pending ≡ [] → IsToldIn t → has_ended t.life ≡ false → NoneEnds b → IsApplied b
-applied_up b t h none told up ended = record { answered = none_owed b t h none up; ended = ended; created = created_is b t h; pushed = notices_told b t h told.0; parted = ends_told b t h told.1; sourced = sources_asked b t h; timed = h.numbers.timed }
+-- what is shown is all that the event does, where no generation begins, and no link is to be asked for
+shown_applied : (b : Book) (t : Inner) → Tied b t → NoneComes b → IsShown b → IsApplied b
+shown_applied b t h comes shown = record { shown = shown; rested = none_rests b t h; generated = comes.0; linked = comes.1; timed = h.numbers.timed }
+
+-- while nothing is to be answered and the link goes on, all that the event does is shown
+pub shown_up : (b : Book) (t : Inner) → Tied b t → t.pending ≡ [] → IsToldIn t → is_resting t.life ≡ false → has_ended t.life ≡ false → NoneEnds b → IsShown b
+shown_up b t h none told there up ended =
+    record { answered = none_owed b t h (λ rests. absurd (not_both (is_resting t.life) there rests)) none up; ended = ended; created = created_is b t h; pushed = notices_told b t h told.0; parted = ends_told b t h told.1; sourced = sources_asked b t h }
+
+-- so the event has had its effect
+pub applied_up : (b : Book) (t : Inner) → Tied b t → t.pending ≡ [] → IsToldIn t → is_resting t.life ≡ false → has_ended t.life ≡ false → NoneEnds b → IsApplied b
+applied_up b t h none told there up ended = shown_applied b t h (live_comes b t h there up) (shown_up b t h none told there up ended)
 
 -- each setup has started that is to start, but where its link is held back, where it is so of the link of the session
 pub setups_started : (b : Book) (t : Inner) → Tied b t → ((link : LinkState) (greeting : Greeting) → t.life ≡ SettingUp link greeting → (setup_due (b.link t.link) ≡ None) ⊎ (is_held_back b (b.link t.link) ≡ true)) → SetupsAreStarted b
 setups_started b t h mine m k due = by_test (m == t.link) _
     (λ same. subst (λ n. is_held_back b (b.link n) ≡ true) (sym (eq_from m t.link same)) (by_life t.life refl (subst (λ n. setup_due (b.link n) ≡ Some k) (eq_from m t.link same) due)))
-    (λ other. absurd (undue (b.link m) (down_undue (b.link m) (h.others m (ne_from m t.link other)).up) due))
+    (λ other. absurd (undue (b.link m) (down_undue (b.link m) (h.others m (ne_from m t.link other)).down) due))
   where
     undue : (l : Ledger) → setup_due l ≡ None → setup_due l ≡ Some k → ⊥
     undue l none some = let no : ◌≡◌ {A = Option ℕ} None (Some k) = sym none ∙ some in cc
 
     by_life : (life : Life) → t.life ≡ life → setup_due (b.link t.link) ≡ Some k → is_held_back b (b.link t.link) ≡ true
+    by_life Resting e d = absurd (undue (b.link t.link) (down_undue (b.link t.link) (subst (TiedLife (b.link t.link) b.created) e h.life).1) d)
     by_life Dialing e d = absurd (undue (b.link t.link) (down_undue (b.link t.link) (subst (TiedLife (b.link t.link) b.created) e h.life).1) d)
     by_life (Wanting link) e d =
         let l = b.link t.link in
@@ -85,12 +109,13 @@ setups_started b t h mine m k due = by_test (m == t.link) _
 pub monitors_started : (b : Book) (t : Inner) → Tied b t → ((link : LinkState) → t.life ≡ SettingUp link greet.Monitor → (monitor_due (b.link t.link) ≡ true → ⊥) ⊎ (is_held_back b (b.link t.link) ≡ true)) → MonitorsAreStarted b
 monitors_started b t h mine m due = by_test (m == t.link) _
     (λ same. subst (λ n. is_held_back b (b.link n) ≡ true) (sym (eq_from m t.link same)) (by_life t.life refl (subst (λ n. monitor_due (b.link n) ≡ true) (eq_from m t.link same) due)))
-    (λ other. absurd (not_both (b.link m).up (h.others m (ne_from m t.link other)).up (watch_is_up (b.link m) due)))
+    (λ other. absurd (not_both (b.link m).up (h.others m (ne_from m t.link other)).down (watch_is_up (b.link m) due)))
   where
     ungreeted : (l : Ledger) → IsUndecided (setup_result l) → monitor_due l ≡ true → ⊥
     ungreeted l open_is d = not_both (is_greeted l) open_is.unwell (watch_is_greeted l d)
 
     by_life : (life : Life) → t.life ≡ life → monitor_due (b.link t.link) ≡ true → is_held_back b (b.link t.link) ≡ true
+    by_life Resting e d = absurd (not_both (b.link t.link).up (subst (TiedLife (b.link t.link) b.created) e h.life).1 (watch_is_up (b.link t.link) d))
     by_life Dialing e d = absurd (not_both (b.link t.link).up (subst (TiedLife (b.link t.link) b.created) e h.life).1 (watch_is_up (b.link t.link) d))
     by_life (Wanting link) e d = let l = b.link t.link in absurd (ungreeted l (lacking_undecided l (wanting_lacks l.creds link (subst (AreSought l.creds) e h.creds.sought))) d)
     by_life (SettingUp link greet.WithUser) e d = let l = b.link t.link in absurd (ungreeted l (setting_undecided l link greet.WithUser (subst (HasSaid l t.started) e h.setup.said).1) d)
@@ -115,11 +140,7 @@ undue_asked l none =
 pub renewals_timed : (b : Book) (t : Inner) → Tied b t → ((link : LinkState) → t.life ≡ Ready link → is_renewal_due t.renewal ≡ true → t.renewal.pending ≡ true) → RenewalsAreTimed b
 renewals_timed b t h asked m some = by_test (m == t.link) _
     (λ same. subst (λ n. renewals_asked (b.link n) ≤ (b.link n).creds.timed) (sym (eq_from m t.link same)) (by_life t.life refl))
-    (λ other.
-    let u = h.others m (ne_from m t.link other) in
-    let k = undue_asked (b.link m) (down_renewed_due (b.link m) u.up) in
-    let none : renewal_count (b.link m).starts ≡ 0 = ap renewal_count u.starts in
-    omega arith)
+    (λ other. (h.others m (ne_from m t.link other)).timed (λ none. some (h.numbers.within ∙ none)))
   where
     l : Ledger
     l = b.link t.link
@@ -129,6 +150,10 @@ renewals_timed b t h asked m some = by_test (m == t.link) _
     by_within (Some ms) e r up link life = all_timed l t.renewal ms up r e (asked link life)
 
     by_life : (life : Life) → t.life ≡ life → renewals_asked l ≤ l.creds.timed
+    by_life Resting e =
+        let k = undue_asked l (down_renewed_due l (subst (TiedLife l b.created) e h.life).1) in
+        let none : renewal_count l.starts ≡ 0 = ap renewal_count (subst (HasSaid l t.started) e h.setup.said).0 in
+        omega arith
     by_life Dialing e =
         let k = undue_asked l (down_renewed_due l (subst (TiedLife l b.created) e h.life).1) in
         let none : renewal_count l.starts ≡ 0 = ap renewal_count (subst (HasSaid l t.started) e h.setup.said).0 in
@@ -154,12 +179,13 @@ renewals_timed b t h asked m some = by_test (m == t.link) _
 renewals_started : (b : Book) (t : Inner) → Tied b t → ((link : LinkState) → t.life ≡ Ready link → link.boundary ≡ t.bound) → HasRenewed t.renewal t.life → RenewalsAreStarted b
 renewals_started b t h bound renewed m c due = by_test (m == t.link) _
     (λ same. subst (λ n. is_held_back b (b.link n) ≡ true) (sym (eq_from m t.link same)) (by_life t.life refl (subst (λ n. renewal_due (b.link n) ≡ Some c) (eq_from m t.link same) due)))
-    (λ other. absurd (no_due (b.link m) (down_renewed_due (b.link m) (h.others m (ne_from m t.link other)).up) due))
+    (λ other. absurd (no_due (b.link m) (down_renewed_due (b.link m) (h.others m (ne_from m t.link other)).down) due))
   where
     no_due : (l : Ledger) → renewal_due l ≡ None → renewal_due l ≡ Some c → ⊥
     no_due l none some = let no : ◌≡◌ {A = Option Credentials} None (Some c) = sym none ∙ some in cc
 
     by_life : (life : Life) → t.life ≡ life → renewal_due (b.link t.link) ≡ Some c → is_held_back b (b.link t.link) ≡ true
+    by_life Resting e d = absurd (no_due (b.link t.link) (down_renewed_due (b.link t.link) (subst (TiedLife (b.link t.link) b.created) e h.life).1) d)
     by_life Dialing e d = absurd (no_due (b.link t.link) (down_renewed_due (b.link t.link) (subst (TiedLife (b.link t.link) b.created) e h.life).1) d)
     by_life (Wanting link) e d = let r = subst (TiedRenewal (b.link t.link) t.renewal) e h.renewal in absurd (no_due (b.link t.link) (none_renewed_due (b.link t.link) t.renewal r) d)
     by_life (SettingUp link greeting) e d = let r = subst (TiedRenewal (b.link t.link) t.renewal) e h.renewal in absurd (no_due (b.link t.link) (none_renewed_due (b.link t.link) t.renewal r) d)
@@ -171,27 +197,56 @@ renewals_started b t h bound renewed m c due = by_test (m == t.link) _
         held_by b t (owner_of t.requests) link h.numbers (bound link e) tied ∙ (renewed link e is).1
     by_life (Ended x) e d = absurd (no_due (b.link t.link) (down_renewed_due (b.link t.link) (subst (TiedLife (b.link t.link) b.created) e h.life).0) d)
 
+-- what is ready has a link
+ready_there : (life : Life) → is_ready life ≡ true → is_resting life ≡ false
+ready_there Resting r = cc
+ready_there Dialing r = refl
+ready_there (Wanting link) r = refl
+ready_there (SettingUp link greeting) r = refl
+ready_there (Ready link) r = refl
+ready_there (Ended e) r = refl
+
 -- so on a link that is up requests may be moved
 pub begun_up : (b : Book) (t : Inner) → Tied b t → IsRunning t → IsToldIn t → NoneEnds b → HasRenewed t.renewal t.life → IsBegun b
 begun_up b t h r told ended renewed = record {
-  applied = applied_up b t h r.settled told (ready_alive t.life r.up) ended;
+  applied = applied_up b t h r.settled told (ready_there t.life r.up) (ready_alive t.life r.up) ended;
   setups = setups_started b t h (λ link greeting e. absurd (ready_not_setting t.life link greeting r.up e));
   monitors = monitors_started b t h (λ link e. absurd (ready_not_setting t.life link greet.Monitor r.up e));
+  repeats_timed = repeats_timed b h.numbers.unrepeated;
+  repeated = repeats_started b h.numbers.unrepeated;
   timed = renewals_timed b t h (λ link e due. (renewed link e due).0);
   renewed = renewals_started b t h (λ link e. ap (λ (x : Life). (link_in x).boundary) (sym e) ∙ r.fit.bound_is) renewed;
 }
 
 -- or none waits
-pub applied_over : (b : Book) (t : Inner) (e : RedisError) → Tied b t → t.pending ≡ [] → IsToldIn t → t.life ≡ Ended e → kept_ids t.admitted t.waiting ≡ [] → NoneEnds b → IsApplied b
-applied_over b t e h none told over empty ended = record {
-  answered = λ n o. absurd (none_open b t e n h none over empty o);
+pub shown_over : (b : Book) (t : Inner) (life : Life) → line_of (link_in life) t.admitted t.waiting ≡ kept_ids t.admitted t.waiting → Tied b t → t.pending ≡ [] → IsToldIn t → t.life ≡ life → kept_ids t.admitted t.waiting ≡ [] → NoneEnds b → IsShown b
+shown_over b t life bare h none told over empty ended = record {
+  answered = λ n o. absurd (none_open b t life n bare h none over empty o);
   ended = ended;
   created = created_is b t h;
   pushed = notices_told b t h told.0;
   parted = ends_told b t h told.1;
   sourced = sources_asked b t h;
-  timed = h.numbers.timed;
 }
+
+pub applied_over : (b : Book) (t : Inner) (life : Life) → line_of (link_in life) t.admitted t.waiting ≡ kept_ids t.admitted t.waiting → Tied b t → NoneComes b → t.pending ≡ [] → IsToldIn t → t.life ≡ life → kept_ids t.admitted t.waiting ≡ [] → NoneEnds b → IsApplied b
+applied_over b t life bare h comes none told over empty ended = shown_applied b t h comes (shown_over b t life bare h none told over empty ended)
+
+-- or there is no link, and where everything was shut down none waits
+pub shown_resting : (b : Book) (t : Inner) → Tied b t → IsHushedIn t → t.pending ≡ [] → IsToldIn t → t.life ≡ Resting → t.admitted ≡ [] → NoneEnds b → IsShown b
+shown_resting b t h hushed none told rests nobody ended = by_test t.shut _
+    (λ over. shown_over b t Resting refl h none told rests (λ i. kept_ids (nobody i) (hushed over (ap is_resting rests) i)) ended)
+    (λ awake. record {
+      answered = none_owed b t h (λ r. awake) none (ap has_ended rests);
+      ended = ended;
+      created = created_is b t h;
+      pushed = notices_told b t h told.0;
+      parted = ends_told b t h told.1;
+      sourced = sources_asked b t h;
+    })
+
+pub applied_resting : (b : Book) (t : Inner) → Tied b t → NoneComes b → IsHushedIn t → t.pending ≡ [] → IsToldIn t → t.life ≡ Resting → t.admitted ≡ [] → NoneEnds b → IsApplied b
+applied_resting b t h comes hushed none told rests nobody ended = shown_applied b t h comes (shown_resting b t h hushed none told rests nobody ended)
 
 -- a line of one link that ends none
 pub none_ends_kept : (b : Book) (n : ℕ) (line : Line) → ((l : Ledger) → ending l ≡ None → ending (noted l line) ≡ None) → NoneEnds b → (m : ℕ) → ending (noted_each (b.link m) (if_mine (n == m) line)) ≡ None
@@ -210,9 +265,31 @@ later_in t n l =
     let kept = kept_ids t.admitted t.waiting in
     elim l.later [ inl i ↦ in_left l.p queue kept i | inr w ↦ in_right l.p queue kept (kept_in t.requests t.waiting t.admitted l.p w) ]
 
+-- one whose link isn't up makes no step
+down_stays : (b : Book) (n : ℕ) → (b.link (b.story n).link).up ≡ false → is_due (next_step b n) ≡ false
+down_stays b n down =
+    let s = b.story n in
+    let l = b.link s.link in
+    let step : Step = if is_set_up l then step_ready b n s else waits (unready_wait l) in
+    chosen (λ (x : Step). is_due x ≡ false) (dials l) (waits wait.Connect) (if l.up then step else step_down l.asked) (λ t. refl) (λ f. ap is_due (left_if l.up step (step_down l.asked) down) ∙ none_due_down l.asked)
+  where
+    none_due_down : (asked : Bool) → is_due (step_down asked) ≡ false
+    none_due_down true = refl
+    none_due_down false = refl
+
+-- so the link of one that makes a step is up
+moves_up : (b : Book) (n : ℕ) → CanMove b n → (b.link (b.story n).link).up ≡ true
+moves_up b n m = by_test (b.link (b.story n).link).up _ (λ up. up) (λ down. absurd (not_both (is_due (next_step b n)) (down_stays b n down) m.due))
+
+-- and is the connection's
+moves_here : (b : Book) (t : Inner) (n : ℕ) → Tied b t → CanMove b n → (b.story n).link ≡ t.link
+moves_here b t n h m =
+    let l = (b.story n).link in
+    by_test (l == t.link) _ (λ same. eq_from l t.link same) (λ other. absurd (not_both (b.link l).up (h.others l (ne_from l t.link other)).down (moves_up b n m)))
+
 -- one that makes a step is still to start
 pub moves_later : (b : Book) (t : Inner) (n : ℕ) → Tied b t → IsRunning t → CanMove b n → IsLater t n
-moves_later b t n h r m = later_of b t n h r.settled (ready_alive t.life r.up) m.unstarted
+moves_later b t n h r m = later_of b t n h r.settled (ready_alive t.life r.up) (moves_here b t n h m) m.unstarted
 
 -- the first of the queue is the first that makes a step
 pub first_in_queue : (b : Book) (t : Inner) (q : ℕ) (rest : List ℕ) → Tied b t → IsRunning t → queue_ids (link_in t.life).queue ≡ q ∷ rest → IsFirstToMove b (name_at t.requests q)
@@ -252,22 +329,13 @@ first_behind b t q rest h r still first n before m =
 
 -- every step that may be made was made
 --
--- a link that isn't up moves none
-down_stays : (b : Book) (n : ℕ) → (b.link (b.story n).link).up ≡ false → is_due (next_step b n) ≡ false
-down_stays b n down =
-    let s = b.story n in
-    let l = b.link s.link in
-    let step : Step = if is_set_up l then step_ready b n s else waits (unready_wait l) in
-    chosen (λ (x : Step). is_due x ≡ false) (dials l) (waits wait.Connect) (if l.up then step else nothing) (λ t. refl) (λ f. ap is_due (left_if l.up step nothing down))
-
--- as each submission that is still to start is for it
+-- nothing of a link that isn't up does
 down_moves_none : (b : Book) (t : Inner) → Tied b t → (b.link t.link).up ≡ false → (n : ℕ) → CanMove b n → ⊥
-down_moves_none b t h down n m =
-    let a = alive_behind b t n h (unstarted_alive (b.story n) m.unstarted) in
-    not_both (is_due (next_step b n)) (down_stays b n (ap (λ l. (b.link l).up) a.is.on ∙ down)) m.due
+down_moves_none b t h down n m = not_both (b.link t.link).up down (subst (λ l. (b.link l).up ≡ true) (moves_here b t n h m) (moves_up b n m))
 
 -- a link whose connect isn't answered isn't up
 dialing_down : (l : Ledger) (created : ℕ) (life : Life) → life ≡ Dialing → TiedLife l created life → l.up ≡ false
+dialing_down l created Resting e h = h.1
 dialing_down l created Dialing e h = h.1
 dialing_down l created (Wanting link) e h = cc
 dialing_down l created (SettingUp link greeting) e h = cc
@@ -278,13 +346,13 @@ dialing_down l created (Ended x) e h = cc
 wanting_moves_none : (b : Book) (t : Inner) (link : LinkState) → Tied b t → t.life ≡ Wanting link → (n : ℕ) → CanMove b n → ⊥
 wanting_moves_none b t link h e n m =
     let a = alive_behind b t n h (unstarted_alive (b.story n) m.unstarted) in
-    not_both (is_due (next_step b n)) (ap (λ k. is_due (next_step b k)) (sym a.name) ∙ ap is_due (creds_step b t a.p link h e a.within)) m.due
+    not_both (is_due (next_step b n)) (ap (λ k. is_due (next_step b k)) (sym a.name) ∙ ap is_due (creds_step b t a.p link h e (ap (λ k. (b.story k).link) a.name ∙ moves_here b t n h m))) m.due
 
 -- nor does one on a link that isn't set up
 setting_moves_none : (b : Book) (t : Inner) (link : LinkState) (greeting : Greeting) → Tied b t → t.life ≡ SettingUp link greeting → (n : ℕ) → CanMove b n → ⊥
 setting_moves_none b t link greeting h e n m =
     let a = alive_behind b t n h (unstarted_alive (b.story n) m.unstarted) in
-    not_both (is_due (next_step b n)) (ap (λ k. is_due (next_step b k)) (sym a.name) ∙ ap is_due (setup_step b t a.p link greeting h e a.within)) m.due
+    not_both (is_due (next_step b n)) (ap (λ k. is_due (next_step b k)) (sym a.name) ∙ ap is_due (setup_step b t a.p link greeting h e (ap (λ k. (b.story k).link) a.name ∙ moves_here b t n h m))) m.due
 
 -- what gives no number is nothing
 pub none_given : (o : Option ℕ) → ((k : ℕ) → o ≡ Some k → ⊥) → o ≡ None
@@ -331,8 +399,8 @@ watching_done b t link h e fit held =
 
 -- on a link that is up what is in the queue is held back, those that wait for a place find it full, and the others no permit
 up_moves_none : (b : Book) (t : Inner) → Tied b t → IsRunning t → t.letting ≡ [] → ((link_in t.life).queue ≡ []) ⊎ (holds_back (link_in t.life) ≡ true) → (t.admitted ≡ []) ⊎ (is_full_beside (link_in t.life) (in_front t.renewal) ≡ true)
-    → (t.waiting ≡ []) ⊎ (has_no_permit t.limit t.free ≡ true) → (n : ℕ) → CanMove b n → ⊥
-up_moves_none b t h r nobody still full none n m =
+    → (t.waiting ≡ []) ⊎ (has_no_permit t.limit t.free ≡ true) → AreBegun t.rounds t.life t.requests → (n : ℕ) → CanMove b n → ⊥
+up_moves_none b t h r nobody still full none begun n m =
     let l = moves_later b t n h r m in
     let stays : is_due (next_step b (name_at t.requests l.p)) ≡ false → ⊥ = λ e. not_both (is_due (next_step b n)) (ap (λ x. is_due (next_step b x)) (sym l.name) ∙ e) m.due in
     elim l.later [
@@ -344,18 +412,39 @@ up_moves_none b t h r nobody still full none n m =
         ]
         | inr w ↦ elim none [
           | inl empty ↦ absurd (subst (λ ws. IsIn l.p (waiting_ids ws)) empty w.1)
-          | inr held ↦ stays (ap is_due (permit_step b t l.p h r w.0 (λ i. subst (IsIn l.p) nobody i) held))
+          | inr held ↦ stays (ap is_due (permit_step b t l.p h r w.0 (λ shows. begun shows r.up l.p) (λ i. subst (IsIn l.p) nobody i) held))
         ]
       ]
     ]
 
--- where nothing is to be answered, nothing must end, and nothing moves
+-- and where the rounds of all before it have begun, that of a request may begin
+pub first_round : (b : Book) (t : Inner) (p : ℕ) → Tied b t → IsRunning t → t.letting ≡ [] → ((link_in t.life).queue ≡ []) ⊎ (holds_back (link_in t.life) ≡ true) → (t.admitted ≡ []) ⊎ (is_full_beside (link_in t.life) (in_front t.renewal) ≡ true)
+    → (t.waiting ≡ []) ⊎ (has_no_permit t.limit t.free ≡ true) → p < length t.requests → ((m : ℕ) → m < p → is_unbegun_at t.requests m ≡ false) → IsFirstToMove b (name_at t.requests p)
+first_round b t p h r nobody still full none within begun n before m =
+    let l = moves_later b t n h r m in
+    let earlier = earlier_name t.table t.requests l.p p h.names l.within within (subst (λ x. x < name_at t.requests p) (sym l.name) before) in
+    let stays : is_due (next_step b (name_at t.requests l.p)) ≡ false → ⊥ = λ e. not_both (is_due (next_step b n)) (ap (λ x. is_due (next_step b x)) (sym l.name) ∙ e) m.due in
+    elim l.later [
+      | inl i ↦ stays (queue_stays b t l.p h r still i)
+      | inr k ↦ elim k [
+        | inl a ↦ elim full [
+          | inl empty ↦ absurd (subst (λ ws. IsIn l.p (waiting_ids ws)) empty a.1)
+          | inr filled ↦ stays (ap is_due (full_step b t l.p h r filled a.0 a.1))
+        ]
+        | inr w ↦ elim none [
+          | inl empty ↦ absurd (subst (λ ws. IsIn l.p (waiting_ids ws)) empty w.1)
+          | inr held ↦ stays (ap is_due (permit_step b t l.p h r w.0 (λ shows. begun l.p earlier) (λ i. subst (IsIn l.p) nobody i) held))
+        ]
+      ]
+    ]
+
+-- where nothing is to be answered, nothing must end, nothing moves, and no generation begins
 pub is_moved : (b : Book) (t : Inner) → Tied b t → t.pending ≡ [] → IsToldIn t → t.letting ≡ [] → NoneEnds b → ((link : LinkState) → t.life ≡ Ready link → IsFit t.size t.bound link) → (((link : LinkState) → t.life ≡ Ready link → ⊥) → t.admitted ≡ [])
     → ((link : LinkState) → t.life ≡ Ready link → (link.queue ≡ []) ⊎ (holds_back link ≡ true)) → ((link : LinkState) → t.life ≡ Ready link → (t.admitted ≡ []) ⊎ (is_full_beside link (in_front t.renewal) ≡ true))
-    → ((link : LinkState) → t.life ≡ Ready link → (t.waiting ≡ []) ⊎ (has_no_permit t.limit t.free ≡ true)) → (has_ended t.life ≡ true → t.waiting ≡ [])
+    → ((link : LinkState) → t.life ≡ Ready link → (t.waiting ≡ []) ⊎ (has_no_permit t.limit t.free ≡ true)) → (has_ended t.life ≡ true → t.waiting ≡ []) → IsHushedIn t → StaysPut b t.life
     → ((link : LinkState) (greeting : Greeting) → t.life ≡ SettingUp link greeting → IsFit t.size t.bound link) → ((link : LinkState) (greeting : Greeting) → t.life ≡ SettingUp link greeting → (link.queue ≡ []) ⊎ (holds_back link ≡ true))
-    → HasSeats t.moved (in_front t.renewal) (link_in t.life) t.size → HasRenewed t.renewal t.life → IsMoved b
-is_moved b t h none told alone ends fit nobody held full stuck gone setup_fit setup_held seats renewed = by_life t.life refl
+    → HasSeats t.moved (in_front t.renewal) (link_in t.life) t.size → HasRenewed t.renewal t.life → AreBegun t.rounds t.life t.requests → IsMoved b
+is_moved b t h none told alone ends fit nobody held full stuck gone hushed comes setup_fit setup_held seats renewed rounded = by_life t.life refl
   where
     setups : SetupsAreStarted b
     setups = setups_started b t h (λ link greeting e. setting_done b t link greeting h e (setup_fit link greeting e) (setup_held link greeting e))
@@ -370,32 +459,38 @@ is_moved b t h none told alone ends fit nobody held full stuck gone setup_fit se
     told_all = renewals_started b t h (λ link e. (fit link e).bound_is) renewed
 
     by_life : (life : Life) → t.life ≡ life → IsMoved b
+    by_life Resting e = record {
+      begun = record { applied = applied_resting b t h (comes (ap goes_on e)) hushed none told e (nobody (λ link r. (let no : Resting ≡ Ready link = sym e ∙ r in cc))) ends; setups = setups; monitors = monitors; repeats_timed = repeats_timed b h.numbers.unrepeated; repeated = repeats_started b h.numbers.unrepeated; timed = timed; renewed = told_all };
+      moved = down_moves_none b t h (subst (TiedLife (b.link t.link) b.created) e h.life).1;
+    }
     by_life Dialing e = record {
-      begun = record { applied = applied_up b t h none told (ap has_ended e) ends; setups = setups; monitors = monitors; timed = timed; renewed = told_all };
+      begun = record { applied = applied_up b t h none told (ap is_resting e) (ap has_ended e) ends; setups = setups; monitors = monitors; repeats_timed = repeats_timed b h.numbers.unrepeated; repeated = repeats_started b h.numbers.unrepeated; timed = timed; renewed = told_all };
       moved = down_moves_none b t h (dialing_down (b.link t.link) b.created t.life e h.life);
     }
     by_life (Wanting link) e = record {
-      begun = record { applied = applied_up b t h none told (ap has_ended e) ends; setups = setups; monitors = monitors; timed = timed; renewed = told_all };
+      begun = record { applied = applied_up b t h none told (ap is_resting e) (ap has_ended e) ends; setups = setups; monitors = monitors; repeats_timed = repeats_timed b h.numbers.unrepeated; repeated = repeats_started b h.numbers.unrepeated; timed = timed; renewed = told_all };
       moved = wanting_moves_none b t link h e;
     }
     by_life (SettingUp link greeting) e = record {
-      begun = record { applied = applied_up b t h none told (ap has_ended e) ends; setups = setups; monitors = monitors; timed = timed; renewed = told_all };
+      begun = record { applied = applied_up b t h none told (ap is_resting e) (ap has_ended e) ends; setups = setups; monitors = monitors; repeats_timed = repeats_timed b h.numbers.unrepeated; repeated = repeats_started b h.numbers.unrepeated; timed = timed; renewed = told_all };
       moved = setting_moves_none b t link greeting h e;
     }
     by_life (Ready link) e =
         let here : link_in t.life ≡ link = ap link_in e in
         record {
-          begun = record { applied = applied_up b t h none told (ap has_ended e) ends; setups = setups; monitors = monitors; timed = timed; renewed = told_all };
+          begun = record { applied = applied_up b t h none told (ap is_resting e) (ap has_ended e) ends; setups = setups; monitors = monitors; repeats_timed = repeats_timed b h.numbers.unrepeated; repeated = repeats_started b h.numbers.unrepeated; timed = timed; renewed = told_all };
           moved = up_moves_none b t h (running_of t link none e (fit link e) (subst (λ (x : LinkState). HasSeats t.moved (in_front t.renewal) x t.size) here seats)) alone
               (subst (λ (x : LinkState). (x.queue ≡ []) ⊎ (holds_back x ≡ true)) (sym here) (held link e))
               (subst (λ (x : LinkState). (t.admitted ≡ []) ⊎ (is_full_beside x (in_front t.renewal) ≡ true)) (sym here) (full link e))
-              (stuck link e);
+              (stuck link e) rounded;
         }
     by_life (Ended x) e = record {
       begun = record {
-        applied = applied_over b t x h none told e (λ i. kept_ids (nobody (λ link r. (let no : Ended x ≡ Ready link = sym e ∙ r in cc)) i) (gone (ap has_ended e) i)) ends;
+        applied = applied_over b t (Ended x) refl h (comes (ap goes_on e)) none told e (λ i. kept_ids (nobody (λ link r. (let no : Ended x ≡ Ready link = sym e ∙ r in cc)) i) (gone (ap has_ended e) i)) ends;
         setups = setups;
         monitors = monitors;
+        repeats_timed = repeats_timed b h.numbers.unrepeated;
+        repeated = repeats_started b h.numbers.unrepeated;
         timed = timed;
         renewed = told_all;
       };

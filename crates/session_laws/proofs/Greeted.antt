@@ -42,7 +42,7 @@ use Rattle.session_laws.proofs.More.{after_came, after_is, full_still}
 use Rattle.session_laws.proofs.New.{read_new}
 use Rattle.session_laws.proofs.SameSaid.{SameSaid}
 use Rattle.session_laws.proofs.SetUp.{alone_unwatched, count_length}
-use Rattle.session_laws.proofs.Tied.{AreSetups, AreSetupsAlone, IsSettingUp, IsSetupSent, IsWatching, IsWatchSent, greeting_at}
+use Rattle.session_laws.proofs.Server.{AreSetups, AreSetupsAlone, IsSettingUp, IsSetupSent, IsWatching, IsWatchSent, greeting_at}
 
 -- the rows of such a link
 --

@@ -1,6 +1,6 @@
 -- For how many new credentials a connection was asked: its effects leave it, and where a turn's moves ask for more, these are told,
 -- or wait on a link that is ready.
-use Rattle.std.proofs.Common.{◌≡◌, ◌⊎◌, inl, inr, ℕ, ◌+◌, ◌==◌, nat_le, Bool, true, false, ◌&&◌, List, [], ◌∷◌, length, Option, Some, None, slice_get, if◌then◌else◌, refl, ap, ◌∙◌, ◌||◌}
+use Rattle.std.proofs.Common.{◌≡◌, ◌≤◌, ◌⊎◌, inl, inr, ℕ, subst, sym, arith, ◌+◌, ◌==◌, nat_le, Bool, true, false, ◌&&◌, List, [], ◌∷◌, length, Option, Some, None, slice_get, if◌then◌else◌, refl, ap, ◌||◌, is_some, ◌∙◌}
 use Rattle.containers.proofs.Choices.{chosen, not_both, both_left, both_right}
 use Rattle.credentials.specs.Credentials.{Credentials}
 use Rattle.redis_error.specs.declared.redis_error.RedisError.{RedisError}
@@ -22,7 +22,7 @@ use Rattle.driver_model.specs.declared.news.LinkFault.{LinkFault}
 use Rattle.driver_model.specs.declared.news.LinkFault.TheVariants as fault
 use Rattle.driver_model.specs.declared.outcome.Outcome.{Outcome}
 use Rattle.driver_model.specs.declared.outcome.Outcome.TheVariants as outcome
-use Rattle.driver_model.specs.News.{News, silence, connected, refused, overdue, took, came, failed, authorized, denied, deserted, renewed, unrenewed, late, shut, news_of, dropped}
+use Rattle.driver_model.specs.News.{News, silence, connected, refused, overdue, took, came, failed, authorized, denied, deserted, renewed, unrenewed, late, unrepeated, shut, news_of, dropped}
 use Rattle.link_core.specs.declared.message.NoticeAt.{NoticeAt}
 use Rattle.link_core.specs.declared.message.Settled.{Settled}
 use Rattle.link_core.specs.declared.message.Started.{Started}
@@ -32,28 +32,32 @@ use Rattle.mux_conn.specs.declared.act.LinkAct.TheVariants as act
 use Rattle.mux_conn.specs.declared.connection.MultiplexedConnection.{MultiplexedConnection}
 use Rattle.mux_conn.specs.declared.life.Greeting.{Greeting}
 use Rattle.mux_conn.specs.declared.life.Life.{Life}
-use Rattle.mux_conn.specs.declared.life.Life.TheVariants.{Dialing, Wanting, SettingUp, Ready, Ended}
+use Rattle.mux_conn.specs.declared.life.Life.TheVariants.{Resting, Dialing, Wanting, SettingUp, Ready, Ended}
 use Rattle.mux_conn.specs.declared.request.Pending.{Pending}
+use Rattle.mux_conn.specs.declared.request.Progress.TheVariants as progress
 use Rattle.mux_conn.specs.declared.request.Waiting.{Waiting}
-use Rattle.mux_conn.specs.Connection.{Work, acted, admits_none, at_life, has_room, is_due, is_ready, with_link, with_setup, with_wanting}
-use Rattle.mux_conn.specs.Requests.{answered, is_admitted_at, is_open_at, is_waiting_at, name_at}
+use Rattle.mux_conn.specs.Connection.{Work, acted, admits_none, at_life, has_room, is_due, is_ready, with_link, with_setup, with_wanting, work_with}
+use Rattle.mux_conn.specs.Requests.{answered, is_admitted_at, is_open_at, is_waiting_at, name_at, is_unbegun_at, progressed}
 use Rattle.mux_conn.specs.Renewals.{is_done, renewal_asked, renewal_id, renewal_moved, renewing, replied, takes_more, is_unanswered, asked_next, renewal_timed}
 use Rattle.mux_conn.specs.Renewals.{renewed as auth_told}
-use Rattle.mux_conn.specs.Effects.{all_answered, all_fresh, answered_setup, applied, authorized_at, behind_first, broken_at, cancelled_in, come_up, comes_to_want, connected_at, cut_short, failed_at, failed_each, heard_on, judged_by, made_ready, new_link, nobody_waits, opening_failed, overdue_at, parted, read_at, refused_at, set_up_by, sets_up, settled_each, settled_one, shut_at, steps_of, taken_at, timed_out, told_each, unauthorized_at, waiting_failed, with_credentials, dropped_at, dropped_by, ended_by, greeted, greeted_by, greeting_error, is_unreadable, noticed, noticed_each}
-use Rattle.mux_conn.specs.Passes.{admitted, admitted_at, admitted_each, let_in, moved_up, moved_up_all, moved_up_each, passed, permits_taken, placed_at, put_behind, seated, greeted_each, greeting_act, shown_each, started, started_at, still_admitted, still_waiting, timer_asked, told_at_place, took_shown}
+use Rattle.mux_conn.specs.Effects.{all_answered, all_fresh, answered_setup, creation_told, given_up, applied, authorized_at, behind_first, broken_at, cancelled_in, come_up, comes_to_want, connected_at, cut_short, failed_at, failed_each, heard_on, judged_by, made_ready, new_link, nobody_waits, opening_failed, overdue_at, parted, read_at, refused_at, set_up_by, sets_up, settled_each, settled_one, shut_at, steps_of, taken_at, timed_out, told_each, unauthorized_at, waiting_failed, with_credentials, dropped_at, dropped_by, ended_by, greeted, greeted_by, greeting_error, is_unreadable, noticed, noticed_each}
+use Rattle.mux_conn.specs.Passes.{admitted, admitted_at, admitted_each, let_in, moved_up, moved_up_all, moved_up_each, passed, permits_taken, placed_at, put_behind, seated, greeted_each, greeting_act, shown_each, started, started_at, still_admitted, still_waiting, timer_asked, told_at_place, took_shown, moved_all, round_begun, rounds_begun, rounds_of}
 use Rattle.mux_conn.specs.Passes.{took as took_permits}
 use Rattle.mux_conn.specs.Turn.{flushed, fresh_each_shown, fresh_wait, moved_each_shown, moved_shown, moved_wait, wait_shown, written, written_at}
 use Rattle.shared_session.specs.declared.core_state.Core.{Core}
-use Rattle.shared_session.specs.Turn.{Turning, asked_for, counted, effect, fired_by, heard, late_by, left_by, moved_on, refused_with, requested, submitted, work_of}
+use Rattle.shared_session.specs.Turn.{Turning, asked_for, counted, effect, fired_by, heard, late_by, left_by, refused_with, requested, submitted, work_of, next_turn, numbered, passed_by, ended_apart, flushed_on, come_back_behind, own_part}
 use Rattle.session_laws.proofs.ComeUp.{made_conn}
 use Rattle.driver_model.specs.Hearing.{hears_pushes, hears_messages, is_watching, felt}
-use Rattle.driver_model.specs.Kind.{is_single}
+use Rattle.driver_model.specs.Kind.{has_timeouts}
 use Rattle.mux_conn.specs.declared.life.Greeting.TheVariants as greet
 use Rattle.driver_model.specs.declared.hearing.Hearing.TheVariants as hearing
+use Rattle.shared_session.specs.Generations.{came_back, has_ended, heeding}
+use Rattle.shared_session.specs.declared.generations.Comeback.{Comeback}
+use Rattle.shared_session.specs.declared.generations.Comeback.TheVariants as comeback
 
--- so many were asked for
+-- no more than so many were asked for
 abbrev HasAsked : ℕ → Work → Type 0
-HasAsked n w = w.conn.renewal.asked ≡ n
+HasAsked n w = w.conn.renewal.asked ≤ n
 
 -- the effects of news
 --
@@ -101,11 +105,11 @@ parted_asked n w h = chosen (HasAsked n) (hears_pushes w.conn.hears) _ w (λ t. 
 
 -- an opening that fails
 opening_asked : (n : ℕ) (w : Work) (e : RedisError) → HasAsked n w → HasAsked n (opening_failed w e)
-opening_asked n w e h = waiting_asked n (acted (at_life w (Ended e)) (act.Created (Some e))) e h
+opening_asked n w e h = chosen (HasAsked n) w.conn.last (given_up w e) _ (λ t. waiting_asked n (creation_told (at_life w (Ended e)) (Some e)) e h) (λ f. omega arith)
 
 -- a link that becomes ready
 made_asked : (n : ℕ) (w : Work) (link : LinkState) → HasAsked n w → HasAsked n (made_ready w link)
-made_asked n w link h = ap (λ (c : MultiplexedConnection). c.renewal.asked) (made_conn w link) ∙ h
+made_asked n w link h = subst (λ (c : MultiplexedConnection). c.renewal.asked ≤ n) (sym (made_conn w link)) h
 
 -- or whose server is put into monitor mode first
 greeted_asked : (n : ℕ) (w : Work) (link : LinkState) → HasAsked n w → HasAsked n (greeted w link)
@@ -117,6 +121,7 @@ come_asked n w link h = chosen (HasAsked n) (says_nothing (steps_of w.conn greet
 
 -- a connect that succeeds
 connected_asked : (n : ℕ) (w : Work) (life : Life) → HasAsked n w → HasAsked n (connected_at w life)
+connected_asked n w Resting h = h
 connected_asked n w Dialing h = chosen (HasAsked n) w.conn.renewal.wanted (comes_to_want w (new_link w.conn)) (come_up w (new_link w.conn)) (λ t. h) (λ f. come_asked n w (new_link w.conn) h)
 connected_asked n w (Wanting link) h = h
 connected_asked n w (SettingUp link greeting) h = h
@@ -126,6 +131,7 @@ connected_asked n w (Ended e) h = h
 -- the first credentials
 authorized_asked : (n : ℕ) (w : Work) (c : Credentials) (life : Life) → HasAsked n w → HasAsked n (authorized_at w c life)
 authorized_asked n w c (Wanting link) h = come_asked n (with_credentials w c) link h
+authorized_asked n w c Resting h = h
 authorized_asked n w c Dialing h = h
 authorized_asked n w c (SettingUp link greeting) h = h
 authorized_asked n w c (Ready link) h = h
@@ -134,6 +140,7 @@ authorized_asked n w c (Ended e) h = h
 -- that there are none
 unauthorized_asked : (n : ℕ) (w : Work) (e : RedisError) (life : Life) → HasAsked n w → HasAsked n (unauthorized_at w e life)
 unauthorized_asked n w e (Wanting link) h = opening_asked n (acted w act.Close) e h
+unauthorized_asked n w e Resting h = h
 unauthorized_asked n w e Dialing h = h
 unauthorized_asked n w e (SettingUp link greeting) h = h
 unauthorized_asked n w e (Ready link) h = h
@@ -141,6 +148,7 @@ unauthorized_asked n w e (Ended x) h = h
 
 -- a connect that fails
 refused_asked : (n : ℕ) (w : Work) (f : FaultKind) (life : Life) → HasAsked n w → HasAsked n (refused_at w f life)
+refused_asked n w f Resting h = h
 refused_asked n w f Dialing h = opening_asked n w (error.Io f) h
 refused_asked n w f (Wanting link) h = h
 refused_asked n w f (SettingUp link greeting) h = h
@@ -149,6 +157,7 @@ refused_asked n w f (Ended e) h = h
 
 -- the time of the opening that is over
 overdue_asked : (n : ℕ) (w : Work) (life : Life) → HasAsked n w → HasAsked n (overdue_at w life)
+overdue_asked n w Resting h = h
 overdue_asked n w Dialing h = opening_asked n (acted w act.Close) _ h
 overdue_asked n w (Wanting link) h = opening_asked n (acted w act.Close) _ h
 overdue_asked n w (SettingUp link greeting) h = opening_asked n (acted w act.Close) _ h
@@ -158,6 +167,7 @@ overdue_asked n w (Ended e) h = h
 -- bytes that were taken
 taken_asked : (n : ℕ) (w : Work) (count : ℕ) (life : Life) → HasAsked n w → HasAsked n (taken_at w count life)
 taken_asked n w count (Ready link) h = h
+taken_asked n w count Resting h = h
 taken_asked n w count Dialing h = h
 taken_asked n w count (Wanting link) h = h
 taken_asked n w count (SettingUp link greeting) h = h
@@ -170,6 +180,7 @@ ended_asked n w link f h = all_asked n (parted (cut_short w)) (faulted (record {
 -- a fault
 fault_asked : (n : ℕ) (w : Work) (f : LinkFault) (life : Life) → HasAsked n w → HasAsked n (failed_at w f life)
 fault_asked n w f (Ready link) h = ended_asked n w link (felt w.conn.hears f) h
+fault_asked n w f Resting h = h
 fault_asked n w f Dialing h = h
 fault_asked n w f (Wanting link) h = opening_asked n (acted w act.Close) error.Closed h
 fault_asked n w f (SettingUp link greeting) h = opening_asked n (acted w act.Close) (greeting_error greeting link.row f) h
@@ -178,6 +189,7 @@ fault_asked n w f (Ended e) h = h
 -- the stream of messages that is dropped
 stream_asked : (n : ℕ) (w : Work) (life : Life) → HasAsked n w → HasAsked n (dropped_at w life)
 stream_asked n w (Ready link) h = ended_asked n w link fault.Ended h
+stream_asked n w Resting h = h
 stream_asked n w Dialing h = opening_asked n (acted w act.Close) error.Closed h
 stream_asked n w (Wanting link) h = opening_asked n (acted w act.Close) error.Closed h
 stream_asked n w (SettingUp link greeting) h = opening_asked n (acted w act.Close) error.Closed h
@@ -219,6 +231,7 @@ read_asked : (n : ℕ) (w : Work) (piece : List ℕ) (life : Life) → HasAsked 
 read_asked n w piece (Ready link) h =
     let r = piece_read w.conn.hears true link piece in
     broken_asked n (r.link.broken || r.strange) (told_each (with_link w r.link) 0 r.notices r.out) (told_asked n (with_link w r.link) 0 r.notices r.out h)
+read_asked n w piece Resting h = h
 read_asked n w piece Dialing h = h
 read_asked n w piece (Wanting link) h =
     let r = piece_read hearing.Nothing false link piece in
@@ -232,6 +245,7 @@ read_asked n w piece (Ended e) h = h
 -- the shutdown
 shut_asked : (n : ℕ) (w : Work) (life : Life) → HasAsked n w → HasAsked n (shut_at w life)
 shut_asked n w (Ready link) h = all_asked n (cut_short w) (closed_all (record { link = link; out = [] })).out h
+shut_asked n w Resting h = waiting_asked n w error.Closed h
 shut_asked n w Dialing h = all_asked n (cut_short w) [] h
 shut_asked n w (Wanting link) h = all_asked n (cut_short w) [] h
 shut_asked n w (SettingUp link greeting) h = all_asked n (cut_short w) [] h
@@ -249,9 +263,10 @@ applied_asked n w (failed f) h = fault_asked n w f w.conn.life h
 applied_asked n w (authorized c) h = authorized_asked n w c w.conn.life h
 applied_asked n w (denied text) h = unauthorized_asked n w (error.Credentials text) w.conn.life h
 applied_asked n w deserted h = unauthorized_asked n w (error.AuthFailed []) w.conn.life h
-applied_asked n w (renewed c) h = chosen (λ (x : MultiplexedConnection). x.renewal.asked ≡ n) (is_ready w.conn.life && takes_more w.conn.renewal) _ w.conn (λ t. h) (λ f. h)
+applied_asked n w (renewed c) h = chosen (λ (x : MultiplexedConnection). x.renewal.asked ≤ n) (is_ready w.conn.life && takes_more w.conn.renewal) _ w.conn (λ t. h) (λ f. h)
 applied_asked n w unrenewed h = h
-applied_asked n w (late k) h = chosen (λ (x : MultiplexedConnection). x.renewal.asked ≡ n) (is_unanswered w.conn.renewal k) _ w.conn (λ t. h) (λ f. h)
+applied_asked n w (late k) h = chosen (λ (x : MultiplexedConnection). x.renewal.asked ≤ n) (is_unanswered w.conn.renewal k) _ w.conn (λ t. h) (λ f. h)
+applied_asked n w unrepeated h = h
 applied_asked n w dropped h = dropped_asked n w h
 applied_asked n w shut h = shut_asked n w w.conn.life h
 
@@ -271,7 +286,7 @@ late_asked n t (Some (Some p)) h = timed_asked n (work_of t) p.number h
 left_asked : (n : ℕ) (t : Turning) (x : Option (Option Pending)) → HasAsked n (work_of t) → HasAsked n (work_of (left_by t x))
 left_asked n t None h = h
 left_asked n t (Some None) h = h
-left_asked n t (Some (Some p)) h = chosen (λ (x : MultiplexedConnection). x.renewal.asked ≡ n) (is_open_at t.core.single.connection.requests p.number) _ t.core.single.connection (λ e. h) (λ f. h)
+left_asked n t (Some (Some p)) h = chosen (λ (x : MultiplexedConnection). x.renewal.asked ≤ n) (is_open_at t.core.single.connection.requests p.number) _ t.core.single.connection (λ e. h) (λ f. h)
 
 -- a timer that fires
 fired_asked : (n : ℕ) (t : Turning) (x : Option Purpose) → HasAsked n (work_of t) → HasAsked n (work_of (fired_by t x))
@@ -279,8 +294,11 @@ fired_asked n t None h = h
 fired_asked n t (Some (purpose.Connect l)) h = h
 fired_asked n t (Some (purpose.Response owner.Setup)) h = h
 fired_asked n t (Some (purpose.Response owner.Auth)) h = h
+fired_asked n t (Some (purpose.Response owner.Resub)) h = h
 fired_asked n t (Some (purpose.Response owner.Monitor)) h = h
 fired_asked n t (Some (purpose.Renewal l k)) h = h
+fired_asked n t (Some (purpose.Backoff g)) h = h
+fired_asked n t (Some (purpose.Resubscription l)) h = h
 fired_asked n t (Some (purpose.Response (owner.Try m round))) h = late_asked n t (slice_get t.core.table m) h
 
 -- a submission
@@ -299,7 +317,7 @@ requested_asked n t (event.Cancel m) h = left_asked n t (slice_get t.core.table 
 requested_asked n t (event.Connected l) h = h
 requested_asked n t (event.Refused l f) h = h
 requested_asked n t (event.Fired m) h = fired_asked n t (slice_get t.core.timers m) h
-requested_asked n t (event.Timeout ms) h = chosen (λ (c : Core). c.single.connection.renewal.asked ≡ n) (is_single t.core.kind) _ t.core (λ s. h) (λ f. h)
+requested_asked n t (event.Timeout ms) h = chosen (λ (c : Core). c.single.connection.renewal.asked ≤ n) (has_timeouts t.core.kind) _ t.core (λ s. h) (λ f. h)
 requested_asked n t (event.Creds c auth) h = h
 requested_asked n t (event.CredsError c text) h = h
 requested_asked n t (event.CredsEnd c) h = h
@@ -312,16 +330,16 @@ requested_asked n t event.DropStream h = h
 requested_asked n t event.Shutdown h = h
 
 -- an event's effect asks for none
-effect_asked : (c : Core) (kind : EventKind) → (effect (counted c) kind).core.single.connection.renewal.asked ≡ c.single.connection.renewal.asked
+effect_asked : (c : Core) (kind : EventKind) → (effect (counted c) kind).core.single.connection.renewal.asked ≤ c.single.connection.renewal.asked
 effect_asked c kind =
     let n = c.single.connection.renewal.asked in
-    requested_asked n (heard (counted c) kind) kind (applied_asked n (work_of (counted c)) (news_of c.timers c.sources c.single.link kind) refl)
+    requested_asked n (heard (counted c) kind) kind (applied_asked n (work_of (counted c)) (news_of c.timers c.sources c.single.link kind) (omega arith))
 
 -- the moves of a turn
 --
--- so many were asked for, or the last that were wait on a link that is ready, or are told
+-- no more than so many were asked for, or the last that were wait on a link that is ready, or are told
 abbrev pub HasGrown : ℕ → MultiplexedConnection → Type 0
-HasGrown n c = (c.renewal.asked ≡ n) ⊎ ((is_ready c.life ≡ true) × ((c.renewal.pending ≡ false) ⊎ (is_due c.renewal ≡ true)))
+HasGrown n c = (c.renewal.asked ≤ n) ⊎ ((is_ready c.life ≡ true) × ((c.renewal.pending ≡ false) ⊎ (is_due c.renewal ≡ true)))
 
 -- a link that is ready then, too
 ready_grown : (n : ℕ) (c : MultiplexedConnection) (link : LinkState) → HasGrown n c → HasGrown n (record c { life = Ready link })
@@ -339,7 +357,7 @@ greetings_grown n w greeting [] h = h
 greetings_grown n w greeting (s ∷ ss) h = greetings_grown n (acted w (greeting_act greeting s)) greeting ss h
 
 -- one that isn't has asked for no more
-unready_grown : (n : ℕ) (c : MultiplexedConnection) → is_ready c.life ≡ false → HasGrown n c → c.renewal.asked ≡ n
+unready_grown : (n : ℕ) (c : MultiplexedConnection) → is_ready c.life ≡ false → HasGrown n c → c.renewal.asked ≤ n
 unready_grown n c unready (inl same) = same
 unready_grown n c unready (inr more) = absurd (not_both (is_ready c.life) unready more.0)
 
@@ -348,6 +366,7 @@ started_grown : (n : ℕ) (w : Work) → HasGrown n w.conn → HasGrown n (start
 started_grown n w h = by_life w.conn.life refl
   where
     by_life : (life : Life) → w.conn.life ≡ life → HasGrown n (started_at w life).conn
+    by_life Resting e = h
     by_life Dialing e = h
     by_life (Wanting link) e = h
     by_life (Ended x) e = h
@@ -362,6 +381,7 @@ answered_grown n w p o h = chosen (λ (x : Work). HasGrown n x.conn) (is_open_at
 placed_grown : (n : ℕ) (w : Work) (q : Waiting) (life : Life) → HasGrown n w.conn → HasGrown n (placed_at w q life).conn
 placed_grown n w q (Ready link) (inl same) = inl same
 placed_grown n w q (Ready link) (inr more) = inr (refl, more.1)
+placed_grown n w q Resting h = h
 placed_grown n w q Dialing h = h
 placed_grown n w q (Wanting link) h = h
 placed_grown n w q (SettingUp link greeting) h = h
@@ -396,10 +416,19 @@ let_in_grown n w q h =
     let count = permits_taken w.conn.limit w.conn.free q.shape in
     timer_grown n (took_permits w q.number count) q.number q.timeout (took_grown n _ q.number count w.conn.limit h)
 
+-- a round that begins
+round_grown : (n : ℕ) (w : Work) (p : ℕ) → HasGrown n w.conn → HasGrown n (round_begun w p).conn
+round_grown n w p h = chosen (λ (x : Work). HasGrown n x.conn) (w.conn.rounds && is_unbegun_at w.conn.requests p) (acted (progressed w p progress.Begun) (act.Round (name_at w.conn.requests p))) w (λ t. h) (λ f. h)
+
 -- as far as it goes
 admitted_grown : (n : ℕ) (w : Work) (q : Waiting) (life : Life) → HasGrown n w.conn → HasGrown n (admitted_at w q life).conn
-admitted_grown n w q (Ready link) h = chosen (λ (x : Work). HasGrown n x.conn) (has_room (let_in w q).conn) (seated (let_in w q) q) (put_behind (let_in w q) q) (λ t. seated_grown n (let_in w q) q (let_in_grown n w q h)) (λ f. let_in_grown n w q h)
+admitted_grown n w q (Ready link) h =
+    let u = round_begun w q.number in
+    let v = let_in u q in
+    let k = let_in_grown n u q (round_grown n w q.number h) in
+    chosen (λ (x : Work). HasGrown n x.conn) (has_room v.conn) (seated v q) (put_behind v q) (λ t. seated_grown n v q k) (λ f. k)
 admitted_grown n w q (Ended e) h = answered_grown n w q.number (outcome.Fault e) h
+admitted_grown n w q Resting h = h
 admitted_grown n w q Dialing h = h
 admitted_grown n w q (Wanting link) h = h
 admitted_grown n w q (SettingUp link greeting) h = h
@@ -411,10 +440,19 @@ each_grown n w (q ∷ qs) h = chosen (λ (x : Work). HasGrown n x.conn) (admits_
     (λ t. h)
     (λ f. each_grown n (admitted w q) qs (chosen (λ (x : Work). HasGrown n x.conn) (is_waiting_at w.conn.requests q.number) (admitted_at w q w.conn.life) w (λ a. admitted_grown n w q w.conn.life h) (λ g. h)))
 
+-- the rounds of all that go on waiting
+rounds_grown : (n : ℕ) (w : Work) (ps : List ℕ) → HasGrown n w.conn → HasGrown n (rounds_of w ps).conn
+rounds_grown n w [] h = h
+rounds_grown n w (p ∷ ps) h = rounds_grown n (round_begun w p) ps (round_grown n w p h)
+
+begun_grown : (n : ℕ) (w : Work) → HasGrown n w.conn → HasGrown n (rounds_begun w).conn
+begun_grown n w h = chosen (λ (x : Work). HasGrown n x.conn) (w.conn.rounds && is_ready w.conn.life) (rounds_of w w.conn.fresh) w (λ t. rounds_grown n w w.conn.fresh h) (λ f. h)
+
 -- new credentials are asked for, and told
 told_grown : (n : ℕ) (w : Work) (life : Life) (cs : List Credentials) → HasGrown n w.conn → HasGrown n (renewal_moved w life cs).conn
 told_grown n w (Ready link) (c ∷ cs) h = chosen (λ (x : Work). HasGrown n x.conn) (holds_back link) w _ (λ t. h) (λ f. inr (refl, inl refl))
 told_grown n w (Ready link) [] h = h
+told_grown n w Resting cs h = h
 told_grown n w Dialing cs h = h
 told_grown n w (Wanting link) cs h = h
 told_grown n w (SettingUp link greeting) cs h = h
@@ -438,6 +476,7 @@ renewal_grown n w h = chosen (λ (x : Work). HasGrown n x.conn) (is_ready w.conn
 -- bytes that are offered
 written_grown : (n : ℕ) (w : Work) (life : Life) → w.conn.life ≡ life → HasGrown n w.conn → HasGrown n (written_at w life).conn
 written_grown n w (Ready link) e h = chosen (λ (x : Work). HasGrown n x.conn) (can_offer link.outbox) _ w (λ t. ready_grown n w.conn (offered_of link) h) (λ f. h)
+written_grown n w Resting e h = h
 written_grown n w Dialing e h = h
 written_grown n w (Wanting link) e h = h
 written_grown n w (SettingUp link greeting) e h = chosen (λ (x : Work). HasGrown n x.conn) (can_offer link.outbox) _ w (λ t. inl (unready_grown n w.conn (ap is_ready e) h)) (λ f. h)
@@ -470,10 +509,55 @@ passed_grown : (n : ℕ) (w : Work) → HasAsked n w → HasGrown n (passed w).c
 passed_grown n w h =
     let v = started (auth_told w) in
     let u = moved_up_all v in
-    each_grown n (still_waiting u []) u.conn.waiting (moved_grown n (still_admitted v []) v.conn.admitted (started_grown n (auth_told w) (renewal_grown n w h)))
+    begun_grown n (moved_all w) (each_grown n (still_waiting u []) u.conn.waiting (moved_grown n (still_admitted v []) v.conn.admitted (started_grown n (auth_told w) (renewal_grown n w h))))
+
+-- behind what is done of its own
+--
+-- so it is there, or a link was just asked for
+abbrev pub IsGrown : ℕ → MultiplexedConnection → Type 0
+IsGrown n c = HasGrown n c ⊎ (c.life ≡ Dialing)
+
+came_grown : (n : ℕ) (c : Core) (what : Comeback) → HasGrown n c.single.connection → IsGrown n (came_back c what).single.connection
+came_grown n c comeback.Stays h = inl h
+came_grown n c (comeback.Rests number attempt timer) h = inl h
+came_grown n c (comeback.Dials l None timer) h = inr refl
+came_grown n c (comeback.Dials l (Some number) timer) h = inr refl
+
+-- a wait that is shown leaves the life, and so do all
+wait_lives : (w : Work) (p : ℕ) (kind : Option WaitKind) → (wait_shown w p kind).conn.life ≡ w.conn.life
+wait_lives w p None = refl
+wait_lives w p (Some kind) = refl
+
+moves_live : (w : Work) (ps : List ℕ) → (moved_each_shown w ps).conn.life ≡ w.conn.life
+moves_live w [] = refl
+moves_live w (p ∷ ps) = moves_live (wait_shown w p (moved_wait w.conn p)) ps ∙ wait_lives w p (moved_wait w.conn p)
+
+fresh_lives : (w : Work) (ps : List ℕ) → (fresh_each_shown w ps).conn.life ≡ w.conn.life
+fresh_lives w [] = refl
+fresh_lives w (p ∷ ps) = fresh_lives (wait_shown w p (fresh_wait w.conn p)) ps ∙ wait_lives w p (fresh_wait w.conn p)
+
+-- where the connect isn't answered, nothing is offered
+dialing_flushed : (w : Work) → w.conn.life ≡ Dialing → (flushed w).conn.life ≡ Dialing
+dialing_flushed w e =
+    let v = written w in
+    let m = moved_shown v in
+    fresh_lives (record m { conn = record m.conn { fresh = [] } }) m.conn.fresh ∙ moves_live (record v { conn = record v.conn { moved = [] } }) v.conn.moved ∙ ap (λ (x : Life). (written_at w x).conn.life) e ∙ e
+
+-- what the turn ends with then
+apart_grown : (n : ℕ) (w : Work) → IsGrown n w.conn → IsGrown n (flushed w).conn
+apart_grown n w (inl h) = inl (flushed_grown n w h)
+apart_grown n w (inr e) = inr (dialing_flushed w e)
 
 -- a turn
-pub turn_grown : (c : Core) (kind : EventKind) → HasGrown c.single.connection.renewal.asked (moved_on (effect (counted c) kind)).core.single.connection
+pub turn_grown : (c : Core) (kind : EventKind) → IsGrown c.single.connection.renewal.asked (next_turn c kind).core.single.connection
+unfolding next_turn
 turn_grown c kind =
-    let t = effect (counted c) kind in
-    flushed_grown c.single.connection.renewal.asked (passed (work_of t)) (passed_grown c.single.connection.renewal.asked (work_of t) (effect_asked c kind))
+    let n = c.single.connection.renewal.asked in
+    let t = passed_by (counted c) kind in
+    let u = numbered t in
+    let over = has_ended c.single.connection.life in
+    let w = work_of (effect (counted c) kind) in
+    let grown = passed_grown n w (effect_asked c kind) in
+    chosen (λ (x : Turning). IsGrown n x.core.single.connection) (is_some c.manager) (ended_apart u over kind) (numbered (flushed_on t))
+    (λ managed. let k = come_back_behind u over kind in apart_grown n (work_with k.single.connection []) (came_grown n (heeding u.core kind u.acts) (own_part u over kind) grown))
+    (λ plain. inl (flushed_grown n (passed w) grown))

@@ -1,5 +1,5 @@
 -- The turn of an event with news: how it begins, and where no act follows.
-use Rattle.std.proofs.Common.{◌≡◌, ◌≢◌, ℕ, ◌==◌, false, ◌&&◌, not, List, [], ◌∷◌, ◌++◌, Option, None, refl, sym, ap, ◌∙◌, subst, arith, Bool, true, ◌⊎◌, inr, inl}
+use Rattle.std.proofs.Common.{◌≡◌, ◌≢◌, ℕ, ◌==◌, false, ◌&&◌, not, List, [], ◌∷◌, ◌++◌, Option, None, refl, sym, ap, ◌∙◌, subst, arith, Bool, true, ◌⊎◌, inr, inl, ◌||◌}
 use Rattle.containers.proofs.Choices.{by_test, chosen, if_false, left_if, eq_from, ne_from, not_both}
 use Rattle.redis_error.specs.declared.redis_error.RedisError.TheVariants as error
 use Rattle.redis_error.specs.declared.redis_error.RedisError.{RedisError}
@@ -7,31 +7,39 @@ use Rattle.driver_model.specs.declared.action.Action.{Action}
 use Rattle.connection_info.specs.declared.address.RedisConnectionInfo.{RedisConnectionInfo}
 use Rattle.driver_model.specs.declared.action.Purpose.{Purpose}
 use Rattle.driver_model.specs.declared.event.EventKind.{EventKind}
-use Rattle.driver_model.specs.News.{News, silence, connected, took, came, failed, authorized, denied, deserted, shut, news_of, refused, overdue, renewed, unrenewed, late, dropped}
+use Rattle.driver_model.specs.declared.event.EventKind.TheVariants as event
+use Rattle.driver_model.specs.News.{News, silence, connected, took, came, failed, authorized, denied, deserted, shut, news_of, refused, overdue, renewed, unrenewed, late, unrepeated, dropped}
 use Rattle.driver_model.specs.declared.outcome.Outcome.TheVariants as outcome
 use Rattle.link_core.specs.Link.{LinkState}
 use Rattle.link_laws.proofs.TiedLink.{TiedLink, told_tied, unheard_tied}
 use Rattle.mux_conn.specs.declared.request.Request.{Request}
 use Rattle.mux_conn.specs.declared.connection.MultiplexedConnection.{MultiplexedConnection}
 use Rattle.mux_conn.specs.declared.life.Life.{Life}
-use Rattle.mux_conn.specs.declared.life.Life.TheVariants.{Dialing, Wanting, SettingUp, Ready, Ended}
+use Rattle.mux_conn.specs.declared.life.Life.TheVariants.{Resting, Dialing, Wanting, SettingUp, Ready, Ended}
 use Rattle.shared_session.specs.declared.core_state.Core.{Core}
-use Rattle.shared_session.specs.Turn.{with_work, is_bad}
-use Rattle.legal_trace.specs.Ledger.{Ledger, Ending, Sourced, hears, noted, ending, ending_alive, ending_asked, is_over, bytes_came, dials, refused_in, authorized_by, awaits_credentials, is_renewal_open, lost_by, may_renew, renewed_by, unrenewed_by, renewal_count}
-use Rattle.legal_trace.specs.Book.{Book, book, entered, hearing_in}
+use Rattle.shared_session.specs.Turn.{with_work, is_bad, is_shutdown}
+use Rattle.legal_trace.specs.Ledger.{Ledger, Ending, Sourced, hears, noted, ending, ending_alive, ending_asked, is_over, bytes_came, dials, refused_in, authorized_by, awaits_credentials, is_renewal_open, lost_by, may_renew, renewed_by, unrenewed_by, renewal_count, is_repeating, unrepeated_by}
+use Rattle.legal_trace.specs.Book.{Book, book, entered, hearing_in, has_generations}
 use Rattle.legal_trace.specs.Story.{Story}
 use Rattle.legal_trace.specs.Legal.{NoneEnds}
-use Rattle.session_laws.proofs.Said.{mild_end, setup_on, setup_unheard, BringsNothing, PushesOf, pushes_hear, IsTame, is_tame, renoticed}
+use Rattle.session_laws.proofs.Said.{mild_end, setup_on, setup_unheard, BringsNothing, pushes_hear, IsTame, is_tame, renoticed, PushesAt}
 use Rattle.session_laws.proofs.Creds.{creds_hear, down_unawaited, unawaited_is, down_may_renew, IsOfRenewals}
-use Rattle.session_laws.proofs.Tied.{Inner, inner, link_in, carried, whole_link, TiedCreds, TiedLife, TiedSetup, TiedLines, AreQueued, TiedWaits, Tied, has_ended, TiedRenewal, NoneRenewed}
-use Rattle.session_laws.proofs.States.{IsFit, IsFitIn, Between, HasApplied}
-use Rattle.session_laws.proofs.Answer.{unknown_ends, not_up_ends, over_not_asked, some_end}
+use Rattle.session_laws.proofs.Server.{TiedCreds, TiedSetup, TiedRenewal, NoneRenewed}
+use Rattle.session_laws.proofs.Tied.{Inner, inner, link_in, carried, whole_link, TiedLife, TiedLines, AreQueued, TiedWaits, Tied, has_ended, HasCourse, TiedRounds, AreEarly}
+use Rattle.session_laws.proofs.Unrepeated.{down_repeats_not}
+use Rattle.session_laws.proofs.Comes.{course_alike}
+use Rattle.session_laws.proofs.States.{IsFit, IsFitIn, IsHushed, Between, HasApplied, IsStopped}
+use Rattle.session_laws.proofs.Answer.{some_end, ended_over}
+use Rattle.session_laws.proofs.Aside.{aside_ends, not_up_ends, over_not_asked}
 use Rattle.session_laws.proofs.Settle.{seen, trace_of_acts, Holds}
-use Rattle.session_laws.proofs.Announce.{ComesTo, comes_as, turn_of, turned, IsNewsKind, heard_book, heard_is, heard_starts, heard_tied, announced_sound, holds_first, first_book}
+use Rattle.session_laws.proofs.Announce.{ComesTo, comes_as, turn_of, turned, IsNewsKind, heard_book, heard_is, heard_starts, heard_hearing, heard_tied, asked_hear, announced_sound, holds_first, first_book, far_news}
 use Rattle.session_laws.proofs.Renewals.{renewal_alike}
 use Rattle.mux_conn.specs.declared.renewal.Renewal.{Renewal}
 use Rattle.legal_trace.proofs.Came.{holds_bytes}
 use Rattle.mux_conn.specs.declared.life.Greeting.{Greeting}
+use Rattle.mux_conn.specs.Connection.{is_ready, is_resting}
+use Rattle.mux_conn.specs.declared.request.Waiting.{Waiting}
+use Rattle.driver_model.specs.declared.action.SourceUse.{SourceUse}
 
 -- what a turn of news does to the ledger of the connection's link
 abbrev pub heard_by : Book → Core → News → Ledger
@@ -45,7 +53,7 @@ lives_as c life = record c.single.connection { life = life }
 pub none_ends : (b : Book) (t : Inner) → Tied b t → ending (b.link t.link) ≡ None → NoneEnds b
 none_ends b t h e m = by_test (m == t.link) _
     (λ same. subst (λ n. ending (b.link n) ≡ None) (sym (eq_from m t.link same)) e)
-    (λ other. unknown_ends (b.link m) (h.others m (ne_from m t.link other)))
+    (λ other. aside_ends (b.link m) (h.others m (ne_from m t.link other)))
 
 -- the turn is announced, the link lives so, the stories are these, and these are to be answered
 pub record Begins (before : List Action) (f : Core) (conn : MultiplexedConnection) (l : Ledger) (story : ℕ → Story) (pending started : List ℕ) : Type 0 where
@@ -56,14 +64,17 @@ pub record Begins (before : List Action) (f : Core) (conn : MultiplexedConnectio
 -- what the turn of news needs of the life that it leads to
 pub record Leads (b : Book) (c : Core) (n : News) (life : Life) (pending started : List ℕ) : Type 0 where
   pub lived : TiedLife (heard_by b c n) b.created life
+  pub course : HasCourse (heard_by b c n).last (heard_by b c n).end c.links c.single.link c.shut c.manager c.single.connection.last c.single.connection.opened c.single.connection.info c.single.connection.address life
   pub creds : TiedCreds (heard_by b c n).creds c.single.connection.renewal.wanted life
   pub renewal_is : TiedRenewal (heard_by b c n) c.single.connection.renewal life
   pub said : TiedSetup (heard_by b c n) c.single.connection.info started life
   pub linked : has_ended life ≡ false → TiedLink (carried life c.single.connection.requests) (heard_by b c n) (whole_link life)
   pub lines : TiedLines b.story c.single.connection.requests (link_in life) c.single.connection.waiting c.single.connection.admitted pending started
-  pub told : has_ended life ≡ false → AreQueued b.story c.single.connection.requests (link_in life)
+  pub told : has_ended life ≡ false → AreQueued b.story c.single.connection.requests c.single.link (link_in life)
   pub waits : TiedWaits b.story c.single.connection.requests life c.single.connection.fresh c.single.connection.moved
-  pub notices : PushesOf (hearing_in b.config) c.single.connection.hears (heard_by b c n)
+  pub rounds : TiedRounds (has_generations b) b.story c.single.connection.requests (is_ready life) c.single.connection.fresh c.single.connection.rounds
+  pub early : AreEarly c.single.connection.requests life
+  pub notices : PushesAt life (hearing_in b.config) c.single.connection.hears (heard_by b c n)
 
 -- the news by the timers and the sources of the book
 pub book_news : (b : Book) (c : Core) (started : List ℕ) (kind : EventKind) (n : News) → Tied b (inner c started) → news_of c.timers c.sources c.single.link kind ≡ n → news_of b.timers b.sources c.single.link kind ≡ n
@@ -75,14 +86,14 @@ book_kind b c kind same k = subst (λ (ts : List Purpose). IsNewsKind ts kind) (
 
 -- the turn begins so, also with other waits to be shown, and where something else is said to the server
 pub fresh_begins : (before : List Action) (c : Core) (started : List ℕ) (word : ℕ) (kind : EventKind) (n : News) (info : RedisConnectionInfo) (life : Life) (fresh pending : List ℕ) → Between before c started → is_bad c kind ≡ false → IsNewsKind c.timers kind
-    → news_of c.timers c.sources c.single.link kind ≡ n → ComesTo (book before) c (heard_by (book before) c n) (book before).created info life fresh pending [] started
+    → news_of c.timers c.sources c.single.link kind ≡ n → ComesTo (book before) c (heard_by (book before) c n) (book before).created c.single.connection.opened info life fresh pending [] started
     → Begins (before ++ turn_of c word kind ∷ []) (turned c kind) (comes_as c info life fresh) (heard_by (book before) c n) (book before).story pending started
 fresh_begins before c started word kind n info life fresh pending h good k is g =
     let b = book before in
     let l = heard_by b c n in
     let t = seen (turned c kind) [] (comes_as c info life fresh) pending started in
     let same : noted (b.link c.single.link) (hears c.turns (news_of b.timers b.sources c.single.link kind)) ≡ l = ap (λ (x : News). heard_by b c x) (book_news b c started kind n h.sound.tied is) in
-    let tied : Tied (heard_book b c.turns word kind) t = heard_tied b c started word b.created kind info life fresh pending [] l h.sound.tied good same g in
+    let tied : Tied (heard_book b c.turns word kind) t = heard_tied b c started word b.created b.failed c.single.connection.told c.single.connection.opened kind info life fresh pending [] l h.sound.tied h.sound.tied.creation good (λ some. some) same g in
     let book_is : entered b (turn_of c word kind) ≡ heard_book b c.turns word kind = heard_is b c.turns word kind (book_kind b c kind h.sound.tied.numbers.timers k) in
     record {
       holds = holds_first (before ++ turn_of c word kind ∷ []) (turned c kind) (comes_as c info life fresh) pending started (announced_sound before c started word kind t h good (subst (λ (x : Book). Tied x t) (sym book_is) tied));
@@ -95,14 +106,75 @@ pub heard_begins : (before : List Action) (c : Core) (started : List ℕ) (word 
     → Leads (book before) c n life pending started → Begins (before ++ turn_of c word kind ∷ []) (turned c kind) (lives_as c life) (heard_by (book before) c n) (book before).story pending started
 heard_begins before c started word kind n life pending h good k is g =
     let s = fresh_begins before c started word kind n c.single.connection.info life c.single.connection.fresh pending h good k is
-    (record { starts = heard_starts ((book before).link c.single.link) c.turns n; lived = g.lived; creds = g.creds; renewal_is = g.renewal_is; said = g.said; linked = g.linked; lines = g.lines; told = g.told; waits = g.waits; notices = g.notices }) in
+    (record { starts = heard_starts ((book before).link c.single.link) c.turns n; hearing_kept = heard_hearing ((book before).link c.single.link) c.turns n; spoken = refl; lived = g.lived; course = g.course; creds = g.creds; renewal_is = g.renewal_is; said = g.said; linked = g.linked; lines = g.lines; told = g.told; waits = g.waits; rounds = g.rounds; early = g.early; notices = g.notices }) in
     record { holds = s.holds; ledger = s.ledger; stories = s.stories }
+
+-- where everything is shut down, no link goes on, and without one nobody waits
+abbrev pub StaysHushed : Core → EventKind → Life → Type 0
+StaysHushed c kind life = (c.shut || is_shutdown kind) ≡ true → IsStopped life c.single.connection.waiting
+
+-- it was so, and the event doesn't shut it down
+pub hushed_still : (c : Core) (kind : EventKind) → is_shutdown kind ≡ false → IsHushed c → StaysHushed c kind c.single.connection.life
+hushed_still c kind awake h over = h (or_true c.shut (is_shutdown kind) awake over)
+  where
+    or_true : (x y : Bool) → y ≡ false → (x || y) ≡ true → x ≡ true
+    or_true true y e f = refl
+    or_true false y e f = sym (sym f ∙ e)
+
+-- nothing else than the shutdown is heard as one
+shut_down : (timers : List Purpose) (sources : List SourceUse) (l : ℕ) (kind : EventKind) (n : News) → news_of timers sources l kind ≡ n → n ≢ shut → is_shutdown kind ≡ false
+shut_down timers sources l (event.Submit what) n is other = refl
+shut_down timers sources l (event.Cancel m) n is other = refl
+shut_down timers sources l (event.Connected m) n is other = refl
+shut_down timers sources l (event.Refused m f) n is other = refl
+shut_down timers sources l (event.Fired m) n is other = refl
+shut_down timers sources l (event.Creds m auth) n is other = refl
+shut_down timers sources l (event.CredsError m text) n is other = refl
+shut_down timers sources l (event.CredsEnd m) n is other = refl
+shut_down timers sources l (event.Timeout ms) n is other = refl
+shut_down timers sources l (event.Wrote m count) n is other = refl
+shut_down timers sources l (event.Bytes m piece) n is other = refl
+shut_down timers sources l (event.Ended m) n is other = refl
+shut_down timers sources l (event.ReadFault m f) n is other = refl
+shut_down timers sources l (event.WriteFault m f) n is other = refl
+shut_down timers sources l event.DropStream n is other = refl
+shut_down timers sources l event.Shutdown n is other = absurd (other (sym is))
+
+-- so it is in a turn of other news
+pub hushed_news : (c : Core) (kind : EventKind) (n : News) → news_of c.timers c.sources c.single.link kind ≡ n → n ≢ shut → IsHushed c → StaysHushed c kind c.single.connection.life
+hushed_news c kind n is other h = hushed_still c kind (shut_down c.timers c.sources c.single.link kind n is other) h
+
+-- a link that has ended is over
+pub hushed_over : (c : Core) (kind : EventKind) (life : Life) → has_ended life ≡ true → StaysHushed c kind life
+hushed_over c kind Resting ended over = cc
+hushed_over c kind Dialing ended over = cc
+hushed_over c kind (Wanting link) ended over = cc
+hushed_over c kind (SettingUp link greeting) ended over = cc
+hushed_over c kind (Ready link) ended over = cc
+hushed_over c kind (Ended e) ended over = tt
+
+-- what goes on isn't stopped
+pub not_stopped : (life : Life) (waiting : List Waiting) → is_resting life ≡ false → has_ended life ≡ false → IsStopped life waiting → ⊥
+not_stopped Resting waiting there alive h = cc
+not_stopped Dialing waiting there alive h = h
+not_stopped (Wanting link) waiting there alive h = h
+not_stopped (SettingUp link greeting) waiting there alive h = h
+not_stopped (Ready link) waiting there alive h = h
+not_stopped (Ended e) waiting there alive h = cc
+
+-- a link that goes on was not shut down, so it may go on otherwise
+pub hushed_there : (c : Core) (kind : EventKind) (n : News) (life : Life) → news_of c.timers c.sources c.single.link kind ≡ n → n ≢ shut → is_resting c.single.connection.life ≡ false → has_ended c.single.connection.life ≡ false → IsHushed c → StaysHushed c kind life
+hushed_there c kind n life is other there alive h over = absurd (not_stopped c.single.connection.life c.single.connection.waiting there alive (hushed_news c kind n is other h over))
+
+-- nor is it
+pub going_awake : (c : Core) (kind : EventKind) (n : News) → news_of c.timers c.sources c.single.link kind ≡ n → n ≢ shut → is_resting c.single.connection.life ≡ false → has_ended c.single.connection.life ≡ false → IsHushed c → (c.shut || is_shutdown kind) ≡ false
+going_awake c kind n is other there alive h = by_test (c.shut || is_shutdown kind) _ (λ over. absurd (not_stopped c.single.connection.life c.single.connection.waiting there alive (hushed_news c kind n is other h over))) (λ awake. awake)
 
 -- where the link need not end then, and no act follows, the event has had its effect
 pub fresh_applied : (before : List Action) (c : Core) (started : List ℕ) (word : ℕ) (kind : EventKind) (n : News) (info : RedisConnectionInfo) (life : Life) (fresh : List ℕ) → Between before c started → is_bad c kind ≡ false → IsNewsKind c.timers kind
-    → news_of c.timers c.sources c.single.link kind ≡ n → ComesTo (book before) c (heard_by (book before) c n) (book before).created info life fresh [] [] started → ending (heard_by (book before) c n) ≡ None → IsFitIn (comes_as c info life fresh)
+    → news_of c.timers c.sources c.single.link kind ≡ n → ComesTo (book before) c (heard_by (book before) c n) (book before).created c.single.connection.opened info life fresh [] [] started → ending (heard_by (book before) c n) ≡ None → IsFitIn (comes_as c info life fresh) → StaysHushed c kind life
     → HasApplied (before ++ turn_of c word kind ∷ []) (with_work (record { core = turned c kind; acts = [] }) (record { conn = comes_as c info life fresh; acts = [] })) started
-fresh_applied before c started word kind n info life fresh h good k is g no_end fit =
+fresh_applied before c started word kind n info life fresh h good k is g no_end fit hushed =
     let s = fresh_begins before c started word kind n info life fresh [] h good k is g in
     record {
       sound = s.holds;
@@ -110,13 +182,14 @@ fresh_applied before c started word kind n info life fresh h good k is g no_end 
       began = λ e. omega arith;
       moved = h.moved;
       fit = fit;
+      hushed = hushed;
     }
 
 -- where the same waits are to be shown
 pub quiet_applied : (before : List Action) (c : Core) (started : List ℕ) (word : ℕ) (kind : EventKind) (n : News) (life : Life) → Between before c started → is_bad c kind ≡ false → IsNewsKind c.timers kind → news_of c.timers c.sources c.single.link kind ≡ n
-    → Leads (book before) c n life [] started → ending (heard_by (book before) c n) ≡ None → IsFitIn (lives_as c life)
+    → Leads (book before) c n life [] started → ending (heard_by (book before) c n) ≡ None → IsFitIn (lives_as c life) → StaysHushed c kind life
     → HasApplied (before ++ turn_of c word kind ∷ []) (with_work (record { core = turned c kind; acts = [] }) (record { conn = lives_as c life; acts = [] })) started
-quiet_applied before c started word kind n life h good k is g no_end fit =
+quiet_applied before c started word kind n life h good k is g no_end fit hushed =
     let s = heard_begins before c started word kind n life [] h good k is g in
     record {
       sound = s.holds;
@@ -124,19 +197,20 @@ quiet_applied before c started word kind n life h good k is g no_end fit =
       began = λ e. omega arith;
       moved = h.moved;
       fit = fit;
+      hushed = hushed;
     }
 
 -- between two turns no link must end
 pub still_none : (before : List Action) (c : Core) (started : List ℕ) → Between before c started → NoneEnds (book before)
-still_none before c started h = h.settled.written.moved.begun.applied.ended
+still_none before c started h = h.settled.written.moved.begun.applied.shown.ended
 
 -- no value came that ends the link
 pub tame_between : (before : List Action) (c : Core) (started : List ℕ) → Between before c started → IsTame ((book before).link c.single.link)
 tame_between before c started h = is_tame (book before) (inner c started) h.sound.tied (still_none before c started h c.single.link)
 
 -- what is still to be told of the notices
-pub pushes_still : (before : List Action) (c : Core) (started : List ℕ) (n : News) → Between before c started → BringsNothing n ⊎ (((book before).link c.single.link).up ≡ false) → PushesOf (hearing_in (book before).config) c.single.connection.hears (heard_by (book before) c n)
-pushes_still before c started n h k = pushes_hear ((book before).link c.single.link) c.turns n (hearing_in (book before).config) c.single.connection.hears (tame_between before c started h) k h.sound.tied.notices
+pub pushes_still : (before : List Action) (c : Core) (started : List ℕ) (n : News) → Between before c started → BringsNothing n ⊎ (((book before).link c.single.link).up ≡ false) → PushesAt c.single.connection.life (hearing_in (book before).config) c.single.connection.hears (heard_by (book before) c n)
+pushes_still before c started n h k = pushes_hear c.single.connection.life ((book before).link c.single.link) c.turns n (hearing_in (book before).config) c.single.connection.hears (tame_between before c started h) k h.sound.tied.notices
 
 -- such news bring no new credentials, and deal nothing
 --
@@ -155,6 +229,7 @@ creds_still l turn deserted (inl k) = refl
 creds_still l turn (renewed c) (inl k) = absurd k
 creds_still l turn unrenewed (inl k) = absurd k
 creds_still l turn (late m) (inl k) = absurd k
+creds_still l turn unrepeated (inl k) = chosen (λ (x : Ledger). x.creds ≡ l.creds) (is_repeating l) (unrepeated_by l) l (λ t. refl) (λ f. refl)
 creds_still l turn dropped (inl k) = refl
 creds_still l turn shut (inl k) = refl
 
@@ -173,6 +248,7 @@ dealt_still l turn deserted k = refl
 dealt_still l turn (renewed c) k = chosen (λ (x : Ledger). x.dealt ≡ l.dealt) (may_renew l) (renewed_by l c) l (λ t. refl) (λ f. refl)
 dealt_still l turn unrenewed k = chosen (λ (x : Ledger). x.dealt ≡ l.dealt) l.up (unrenewed_by l) l (λ t. refl) (λ f. refl)
 dealt_still l turn (late m) k = chosen (λ (x : Ledger). x.dealt ≡ l.dealt) (l.up && is_renewal_open l m) (lost_by l) l (λ t. refl) (λ f. refl)
+dealt_still l turn unrepeated k = chosen (λ (x : Ledger). x.dealt ≡ l.dealt) (is_repeating l) (unrepeated_by l) l (λ t. refl) (λ f. refl)
 dealt_still l turn dropped k = refl
 dealt_still l turn shut k = refl
 
@@ -197,6 +273,8 @@ none_new l turn deserted other = (refl, refl, refl, refl)
 none_new l turn (renewed c) other = absurd (other tt)
 none_new l turn unrenewed other = absurd (other tt)
 none_new l turn (late m) other = absurd (other tt)
+none_new l turn unrepeated other =
+    chosen (λ (x : Ledger). (x.creds.over ≡ l.creds.over) × (x.creds.renewals ≡ l.creds.renewals) × (x.creds.timed ≡ l.creds.timed) × (x.creds.lost ≡ l.creds.lost)) (is_repeating l) (unrepeated_by l) l (λ t. (refl, refl, refl, refl)) (λ f. (refl, refl, refl, refl))
 none_new l turn dropped other = (refl, refl, refl, refl)
 none_new l turn shut other = (refl, refl, refl, refl)
 
@@ -217,14 +295,52 @@ none_hears l turn n r other h =
       found = h.found;
     }
 
+-- what is over isn't dialling
+over_dials : (l : Ledger) → is_over l ≡ true → dials l ≡ false
+over_dials l over = ap (λ o. l.asked && not l.up && not o) over ∙ none_of l.asked l.up
+  where
+    none_of : (a b : Bool) → (a && not b && false) ≡ false
+    none_of true true = refl
+    none_of true false = refl
+    none_of false b = refl
+
+-- news leave the end of a link that is over
+end_hear : (l : Ledger) (turn : ℕ) (n : News) → is_over l ≡ true → (noted l (hears turn n)).end ≡ l.end
+end_hear l turn silence over = refl
+end_hear l turn overdue over = refl
+end_hear l turn connected over = chosen (λ (x : Ledger). x.end ≡ l.end) (is_over l) l (record l { up = true }) (λ t. refl) (λ f. refl)
+end_hear l turn (refused f) over = chosen (λ (x : Ledger). x.end ≡ l.end) (dials l) (refused_in l turn (error.Io f)) l (λ t. absurd (not_both (dials l) (over_dials l over) t)) (λ d. refl)
+end_hear l turn (took count) over = chosen (λ (x : Ledger). x.end ≡ l.end) l.up _ l (λ t. refl) (λ f. refl)
+end_hear l turn (came piece) over = chosen (λ (x : Ledger). x.end ≡ l.end) l.up (bytes_came l piece) l (λ t. holds_bytes (λ (x : Ledger). x.end ≡ l.end) l piece (λ rest strange told more. refl)) (λ f. refl)
+end_hear l turn (failed f) over = refl
+end_hear l turn (authorized c) over = chosen (λ (x : Ledger). x.end ≡ l.end) (awaits_credentials l) (authorized_by l c) l (λ t. refl) (λ f. refl)
+end_hear l turn (denied text) over = refl
+end_hear l turn deserted over = refl
+end_hear l turn (renewed c) over = chosen (λ (x : Ledger). x.end ≡ l.end) (may_renew l) (renewed_by l c) l (λ t. refl) (λ f. refl)
+end_hear l turn unrenewed over = chosen (λ (x : Ledger). x.end ≡ l.end) l.up (unrenewed_by l) l (λ t. refl) (λ f. refl)
+end_hear l turn (late m) over = chosen (λ (x : Ledger). x.end ≡ l.end) (l.up && is_renewal_open l m) (lost_by l) l (λ t. refl) (λ f. refl)
+end_hear l turn unrepeated over = chosen (λ (x : Ledger). x.end ≡ l.end) (is_repeating l) (unrepeated_by l) l (λ t. refl) (λ f. refl)
+end_hear l turn dropped over = refl
+end_hear l turn shut over = refl
+
+-- so the connection has come as far as it had, where its life is the same
+pub course_hears : (b : Book) (c : Core) (started : List ℕ) (n : News) → Tied b (inner c started)
+    → (let l = heard_by b c n in let conn = c.single.connection in HasCourse l.last l.end c.links c.single.link c.shut c.manager conn.last conn.opened conn.info conn.address conn.life)
+course_hears b c started n h =
+    let l = b.link c.single.link in
+    let conn = c.single.connection in
+    course_alike conn.life l.last (heard_by b c n).last l.end (heard_by b c n).end c.links c.single.link c.shut c.manager conn.last conn.opened conn.info conn.address (asked_hear l c.turns n).last
+    (λ over. end_hear l c.turns n (ended_over l b.created conn.life over h.life)) h.course
+
 -- what is alike of any life
 pub leads_on : (before : List Action) (c : Core) (started : List ℕ) (n : News) → Between before c started → BringsNothing n ⊎ (((book before).link c.single.link).up ≡ false) → (let l = heard_by (book before) c n in let life = c.single.connection.life in
     TiedLife l (book before).created life × TiedCreds l.creds c.single.connection.renewal.wanted life × TiedSetup l c.single.connection.info started life × (has_ended life ≡ false → TiedLink (carried life c.single.connection.requests) l (whole_link life)))
     → Leads (book before) c n c.single.connection.life [] started
-leads_on before c started n h k g = record { lived = g.0; creds = g.1; renewal_is = renewal_still ((book before).link c.single.link) c.turns n c.single.connection.renewal c.single.connection.life k h.sound.tied.renewal; said = g.2; linked = g.3; lines = h.sound.tied.lines; told = h.sound.tied.told; waits = h.sound.tied.waits; notices = pushes_still before c started n h k }
+leads_on before c started n h k g = record { lived = g.0; course = course_hears (book before) c started n h.sound.tied; creds = g.1; renewal_is = renewal_still ((book before).link c.single.link) c.turns n c.single.connection.renewal c.single.connection.life k h.sound.tied.renewal; said = g.2; linked = g.3; lines = h.sound.tied.lines; told = h.sound.tied.told; waits = h.sound.tied.waits; rounds = h.sound.tied.rounds; early = h.sound.tied.early; notices = pushes_still before c started n h k }
 
 -- what the news are is of no account for how far a link has come
 pub told_life : (l : Ledger) (created : ℕ) (life : Life) (n : News) → TiedLife l created life → TiedLife (record l { heard = n }) created life
+told_life l created Resting n h = (h.0, h.1, h.2, h.3)
 told_life l created Dialing n h = h
 told_life l created (Wanting link) n h = h
 told_life l created (SettingUp link greeting) n h = h
@@ -241,6 +357,7 @@ leads_still before c started n h stays =
     let name = carried conn.life conn.requests in
     record {
       lived = subst (λ (x : Ledger). TiedLife x b.created conn.life) (sym stays) (told_life l b.created conn.life n t.life);
+      course = course_hears b c started n t;
       creds = subst (λ (x : Ledger). TiedCreds x.creds conn.renewal.wanted conn.life) (sym stays) t.creds;
       renewal_is = subst (λ (x : Ledger). TiedRenewal x conn.renewal conn.life) (sym stays) (renewal_alike l (record l { heard = n }) conn.renewal conn.life refl refl refl t.renewal);
       said = subst (λ (x : Ledger). TiedSetup x conn.info started conn.life) (sym stays) (setup_on l l.asked l.up l.end l.taken l.offer l.rest n conn.info started conn.life t.setup);
@@ -248,19 +365,13 @@ leads_still before c started n h stays =
       lines = t.lines;
       told = t.told;
       waits = t.waits;
-      notices = subst (λ (x : Ledger). PushesOf (hearing_in b.config) conn.hears x) (sym stays) (renoticed (tame_between before c started h) t.notices);
+      rounds = t.rounds;
+      early = t.early;
+      notices = subst (λ (x : Ledger). PushesAt conn.life (hearing_in b.config) conn.hears x) (sym stays) (renoticed (tame_between before c started h) t.notices);
     }
 
 -- a link that has ended hears nothing
 --
--- what is over isn't dialling
-over_dials : (l : Ledger) → is_over l ≡ true → dials l ≡ false
-over_dials l over = ap (λ o. l.asked && not l.up && not o) over ∙ none_of l.asked l.up
-  where
-    none_of : (a b : Bool) → (a && not b && false) ≡ false
-    none_of true true = refl
-    none_of true false = refl
-    none_of false b = refl
 
 -- a link that has ended stays as it is
 ended_hears : (l : Ledger) (created : ℕ) (e : RedisError) (turn : ℕ) (n : News) → TiedLife l created (Ended e) → TiedLife (noted l (hears turn n)) created (Ended e)
@@ -275,6 +386,7 @@ ended_hears l created e turn (authorized c) h = subst (λ (x : Ledger). TiedLife
 ended_hears l created e turn (renewed c) h = if_false (λ (x : Ledger). TiedLife x created (Ended e)) (may_renew l) (renewed_by l c) l (down_may_renew l h.0) h
 ended_hears l created e turn unrenewed h = if_false (λ (x : Ledger). TiedLife x created (Ended e)) l.up (unrenewed_by l) l h.0 h
 ended_hears l created e turn (late m) h = if_false (λ (x : Ledger). TiedLife x created (Ended e)) (l.up && is_renewal_open l m) (lost_by l) l (ap (λ u. u && is_renewal_open l m) h.0) h
+ended_hears l created e turn unrepeated h = if_false (λ (x : Ledger). TiedLife x created (Ended e)) (is_repeating l) (unrepeated_by l) l (down_repeats_not l h.0) h
 ended_hears l created e turn (denied text) h = h
 ended_hears l created e turn deserted h = h
 ended_hears l created e turn dropped h = h
@@ -303,7 +415,7 @@ ended_quiet before c started word kind n error h good k is over =
       setup_unheard l c.turns n c.single.connection.info started c.single.connection.life life.0 h.sound.tied.setup,
       λ alive. absurd (not_both (has_ended c.single.connection.life) alive (ap has_ended over)),
     ))
-    (over_no_end (noted l (hears c.turns n)) b.created error after) h.fit
+    (over_no_end (noted l (hears c.turns n)) b.created error after) h.fit (hushed_over c kind c.single.connection.life (ap has_ended over))
 
 -- a link whose connect isn't answered hears but of that, of the end of its time, and of the shutdown
 --
@@ -318,12 +430,32 @@ IsOfAnother deserted = Unit {0}
 IsOfAnother (renewed c) = ⊥
 IsOfAnother unrenewed = ⊥
 IsOfAnother (late m) = ⊥
+IsOfAnother unrepeated = ⊥
 IsOfAnother silence = ⊥
 IsOfAnother (refused f) = ⊥
 IsOfAnother overdue = ⊥
 IsOfAnother connected = ⊥
 IsOfAnother dropped = ⊥
 IsOfAnother shut = ⊥
+
+-- such news aren't the shutdown
+another_open : (n : News) → IsOfAnother n → n ≢ shut
+another_open silence k e = cc
+another_open (refused f) k e = cc
+another_open overdue k e = cc
+another_open connected k e = cc
+another_open (took count) k e = cc
+another_open (came piece) k e = cc
+another_open (failed f) k e = cc
+another_open (authorized c) k e = cc
+another_open (renewed c) k e = cc
+another_open unrenewed k e = cc
+another_open (late m) k e = cc
+another_open unrepeated k e = cc
+another_open (denied text) k e = cc
+another_open deserted k e = cc
+another_open dropped k e = cc
+another_open shut k e = absurd k
 
 -- a link whose connect is not answered stays as it is
 dialing_hears : (l : Ledger) (created turn : ℕ) (n : News) → IsOfAnother n → TiedLife l created Dialing → TiedLife (noted l (hears turn n)) created Dialing
@@ -338,6 +470,7 @@ dialing_hears l created turn (authorized c) k h = subst (λ (x : Ledger). TiedLi
 dialing_hears l created turn (renewed c) k h = absurd k
 dialing_hears l created turn unrenewed k h = absurd k
 dialing_hears l created turn (late m) k h = absurd k
+dialing_hears l created turn unrepeated k h = absurd k
 dialing_hears l created turn (denied text) k h = h
 dialing_hears l created turn deserted k h = h
 dialing_hears l created turn dropped k h = absurd k
@@ -356,6 +489,7 @@ asked_on l (authorized c) k = refl
 asked_on l (renewed c) k = refl
 asked_on l unrenewed k = refl
 asked_on l (late m) k = refl
+asked_on l unrepeated k = refl
 asked_on l (denied text) k = refl
 asked_on l deserted k = refl
 asked_on l dropped k = absurd k
@@ -382,7 +516,51 @@ dialing_quiet before c started word kind n o h good k is dialing =
       setup_unheard l c.turns n c.single.connection.info started c.single.connection.life life.1 h.sound.tied.setup,
       λ alive. unheard_tied (carried c.single.connection.life c.single.connection.requests) l (whole_link c.single.connection.life) c.turns n life.1 (h.sound.tied.link alive),
     ))
-    (dialing_no_end l b.created c.turns n o life) h.fit
+    (dialing_no_end l b.created c.turns n o life) h.fit (hushed_news c kind n is (another_open n o) h.hushed)
+
+-- without a link
+--
+-- a link that was never asked for hears nothing but that its connect succeeded
+resting_is : (l : Ledger) (turn : ℕ) (n : News) → l.asked ≡ false → l.up ≡ false → n ≢ connected → noted l (hears turn n) ≡ record l { heard = n }
+resting_is l turn silence none down other = refl
+resting_is l turn overdue none down other = refl
+resting_is l turn connected none down other = absurd (other refl)
+resting_is l turn (refused f) none down other = ap (λ (x : Ledger). record x { heard = refused f }) (left_if (dials l) (refused_in l turn (error.Io f)) l (ap (λ a. a && not l.up && not (is_over l)) none))
+resting_is l turn (took count) none down other = ap (λ (x : Ledger). record x { heard = took count }) (left_if l.up _ l down)
+resting_is l turn (came piece) none down other = ap (λ (x : Ledger). record x { heard = came piece }) (left_if l.up (bytes_came l piece) l down)
+resting_is l turn (failed f) none down other = refl
+resting_is l turn (authorized c) none down other = unawaited_is l turn c (down_unawaited l down)
+resting_is l turn (renewed c) none down other = ap (λ (x : Ledger). record x { heard = renewed c }) (left_if (may_renew l) (renewed_by l c) l (down_may_renew l down))
+resting_is l turn unrenewed none down other = ap (λ (x : Ledger). record x { heard = unrenewed }) (left_if l.up (unrenewed_by l) l down)
+resting_is l turn (late m) none down other = ap (λ (x : Ledger). record x { heard = late m }) (left_if (l.up && is_renewal_open l m) (lost_by l) l (ap (λ u. u && is_renewal_open l m) down))
+resting_is l turn unrepeated none down other = ap (λ (x : Ledger). record x { heard = unrepeated }) (left_if (is_repeating l) (unrepeated_by l) l (down_repeats_not l down))
+resting_is l turn (denied text) none down other = refl
+resting_is l turn deserted none down other = refl
+resting_is l turn dropped none down other = refl
+resting_is l turn shut none down other = refl
+
+-- nothing was heard of its connect
+resting_unconnected : (c : Core) (kind : EventKind) (n : News) → is_bad c kind ≡ false → news_of c.timers c.sources c.single.link kind ≡ n → c.links ≡ c.single.link → n ≢ connected
+resting_unconnected c kind n good is none same = far_news c c.single.link kind good (omega arith) (is ∙ same)
+
+-- so where the connection has none, the turn leads nowhere
+pub resting_leads : (before : List Action) (c : Core) (started : List ℕ) (kind : EventKind) (n : News) → Between before c started → is_bad c kind ≡ false → news_of c.timers c.sources c.single.link kind ≡ n → c.single.connection.life ≡ Resting
+    → Leads (book before) c n c.single.connection.life [] started × (ending (heard_by (book before) c n) ≡ None)
+resting_leads before c started kind n h good is rests =
+    let b = book before in
+    let l = b.link c.single.link in
+    let life = subst (λ (x : Life). TiedLife l b.created x) rests h.sound.tied.life in
+    let conn = c.single.connection in
+    let none : c.links ≡ c.single.link = (subst (λ (x : Life). HasCourse l.last l.end c.links c.single.link c.shut c.manager conn.last conn.opened conn.info conn.address x) rests h.sound.tied.course).0 in
+    let stays = resting_is l c.turns n life.0 life.1 (resting_unconnected c kind n good is none) in
+    (leads_still before c started n h stays, ap ending stays ∙ not_up_ends (record l { heard = n }) life.1 (ap (λ a. a && not (is_over l)) life.0))
+
+-- and the event has no effect
+pub resting_quiet : (before : List Action) (c : Core) (started : List ℕ) (word : ℕ) (kind : EventKind) (n : News) → n ≢ shut → Between before c started → is_bad c kind ≡ false → IsNewsKind c.timers kind → news_of c.timers c.sources c.single.link kind ≡ n → c.single.connection.life ≡ Resting
+    → HasApplied (before ++ turn_of c word kind ∷ []) (with_work (record { core = turned c kind; acts = [] }) (record { conn = c.single.connection; acts = [] })) started
+resting_quiet before c started word kind n other h good k is rests =
+    let g = resting_leads before c started kind n h good is rests in
+    quiet_applied before c started word kind n c.single.connection.life h good k is g.0 g.1 h.fit (hushed_news c kind n is other h.hushed)
 
 -- a link that hears nothing need not end, where it need not before
 pub silent_no_end : (l : Ledger) (turn : ℕ) → ending l ≡ None → ending (noted l (hears turn silence)) ≡ None
@@ -390,9 +568,9 @@ silent_no_end l turn none = mild_end l l.taken l.offer silence tt none
 
 -- a turn in which nothing is heard, and no act follows
 pub silent_applied : (before : List Action) (c : Core) (started : List ℕ) (word : ℕ) (kind : EventKind) (f : Core) (conn : MultiplexedConnection) → Between before c started → is_bad c kind ≡ false → ((m : ℕ) → ending ((entered (book before) (turn_of c word kind)).link m) ≡ None)
-    → f.turns ≢ 0 → conn.moved ≡ [] → IsFitIn conn → Tied (entered (book before) (turn_of c word kind)) (seen f [] conn [] started)
+    → f.turns ≢ 0 → conn.moved ≡ [] → IsFitIn conn → (f.shut ≡ true → IsStopped conn.life conn.waiting) → Tied (entered (book before) (turn_of c word kind)) (seen f [] conn [] started)
     → HasApplied (before ++ turn_of c word kind ∷ []) (with_work (record { core = f; acts = [] }) (record { conn = conn; acts = [] })) started
-silent_applied before c started word kind f conn h good no_end began none_moved fit tied =
+silent_applied before c started word kind f conn h good no_end began none_moved fit hushed tied =
     let front = before ++ turn_of c word kind ∷ [] in
     record {
       sound = holds_first front f conn [] started (announced_sound before c started word kind (seen f [] conn [] started) h good tied);
@@ -400,6 +578,7 @@ silent_applied before c started word kind f conn h good no_end began none_moved 
       began = began;
       moved = none_moved;
       fit = fit;
+      hushed = hushed;
     }
 
 -- a link that is set up
@@ -417,6 +596,7 @@ setting_fit c link after was greeting fresh e h k = record {
 pub setting_waits : (story : ℕ → Story) (requests : List Request) (link after : LinkState) (was greeting : Greeting) (fresh moved : List ℕ) → TiedWaits story requests (SettingUp link was) fresh moved → TiedWaits story requests (SettingUp after greeting) fresh moved
 setting_waits story requests link after was greeting fresh moved h = record {
   early = h.early;
+  backoff = λ p w d. cc;
   connect = λ p w d. cc;
   creds = λ p x w s. cc;
   setup = λ p x u w s. h.setup p link was w refl;
@@ -425,6 +605,7 @@ setting_waits story requests link after was greeting fresh moved h = record {
   room = λ p i. absurd i;
   newer = h.newer;
   rising = h.rising;
+  no_backoff = λ p i w d. cc;
   no_connect = λ p i w d. cc;
   no_creds = λ p x i w s. cc;
   no_setup = λ p x u i w s. h.no_setup p link was i w refl;
@@ -449,6 +630,7 @@ wanting_fit c link after e h k = record {
 pub wanting_waits : (story : ℕ → Story) (requests : List Request) (link after : LinkState) (fresh moved : List ℕ) → TiedWaits story requests (Wanting link) fresh moved → TiedWaits story requests (Wanting after) fresh moved
 wanting_waits story requests link after fresh moved h = record {
   early = h.early;
+  backoff = λ p w d. cc;
   connect = λ p w d. cc;
   creds = λ p x w s. h.creds p link w refl;
   setup = λ p x u w s. cc;
@@ -457,6 +639,7 @@ wanting_waits story requests link after fresh moved h = record {
   room = λ p i. absurd i;
   newer = h.newer;
   rising = h.rising;
+  no_backoff = λ p i w d. cc;
   no_connect = λ p i w d. cc;
   no_creds = λ p x i w s. h.no_creds p link i w refl;
   no_setup = λ p x u i w s. cc;

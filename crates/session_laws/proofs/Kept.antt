@@ -1,29 +1,35 @@
 -- What one action of a turn leaves as it is.
-use Rattle.std.proofs.Common.{Bool, List, [], ap, length, refl, slice_get, subst, sym, ℕ, ◌<◌, ◌∙◌, ◌∷◌, ◌≡◌, ◌≢◌, false}
+use Rattle.std.proofs.Common.{Bool, List, Option, [], ap, length, refl, slice_get, subst, sym, ℕ, ◌<◌, ◌∙◌, ◌∷◌, ◌≡◌, false}
 use Rattle.std.specs.List.{AllByRecursion}
 use Rattle.std.specs.Prelude.{◌==◌}
 use Rattle.containers.proofs.Choices.{chosen, eq_from, eq_test, if_false, ne_test, taken_if}
+use Rattle.driver_model.specs.declared.hearing.Hearing.{Hearing}
 use Rattle.driver_model.specs.declared.outcome.Shape.{Shape}
 use Rattle.link_core.specs.declared.message.Queued.{Queued}
 use Rattle.link_laws.proofs.TiedLink.{TiedLink}
+use Rattle.mux_conn.specs.Connection.{is_ready}
 use Rattle.mux_conn.specs.Requests.{name_at}
 use Rattle.mux_conn.specs.declared.request.Request.{Request}
 use Rattle.mux_conn.specs.declared.request.Waiting.{Waiting}
-use Rattle.legal_trace.specs.Book.{Book, if_mine, if_own, hearing_in}
+use Rattle.legal_trace.specs.Book.{Book, has_generations, if_mine, if_own, hearing_in}
 use Rattle.legal_trace.specs.Ledger.{Ledger, Line, noted, noted_each}
 use Rattle.legal_trace.specs.Story.{Story, awaited_in, packed_in, shape_in, tried}
 use Rattle.session_laws.proofs.Names.{name_placed}
 use Rattle.session_laws.proofs.Owes.{request_story}
-use Rattle.session_laws.proofs.Tied.{AreLate, AreQueued, Inner, IsOf, IsPacked, IsQueued, IsRequest, IsUnknown, Tied, TiedCreds, TiedLife, TiedLines, TiedNames, TiedNumbers, TiedPermits, TiedNotices, TiedSetup, TiedStory, TiedTries, TiedWaits, carried, has_ended, link_in, whole_link, TiedRenewal, sources_asked_in, is_reading}
+use Rattle.session_laws.proofs.Server.{TiedCreds, TiedSetup, hearing_at, TiedRenewal}
+use Rattle.session_laws.proofs.Tied.{AreAside, AreLate, AreQueued, Inner, IsAside, IsOf, IsPacked, IsQueued, IsRequest, StaysCalm, Tied, TiedCourse, TiedCreation, TiedLife, TiedLines, TiedNames, TiedNumbers, TiedPermits, TiedNotices, TiedRounds, TiedStory, TiedTries, TiedWaits, carried, has_ended, link_in, whole_link, is_reading, AreUses, AreEarly}
 
 -- a session and the ledger of its link, which is that of the book
 pub record TiedBy (b : Book) (t : Inner) (l : Ledger) : Type 0 where
   pub numbers : TiedNumbers b t
-  pub others : (m : ℕ) → m ≢ t.link → IsUnknown (b.link m)
-  pub notices : TiedNotices (hearing_in b.config) t.hears l.hearing l.notices l.told l.end l.parted l.strange (is_reading l) t.untold t.parting
+  pub others : AreAside t.link t.links b.link t.hears t.renewal.within b.created
+  pub notices : TiedNotices (hearing_in b.config) t.hears (hearing_at t.life t.hears l.hearing) l.notices l.told l.end l.parted l.strange (is_reading l) t.untold t.parting
   pub life : TiedLife l b.created t.life
+  pub course : TiedCourse l.last l.end t
+  pub calm : StaysCalm b.errors t.shut t.life
+  pub creation : TiedCreation b.created t.told
   pub creds : TiedCreds l.creds t.renewal.wanted t.life
-  pub count : length t.sources ≡ sources_asked_in l.creds
+  pub uses : AreUses t.sources t.link l.creds.asked l.creds.renews
   pub renewal : TiedRenewal l t.renewal t.life
   pub setup : TiedSetup l t.info t.started t.life
   pub link : has_ended t.life ≡ false → TiedLink (carried t.life t.requests) l (whole_link t.life)
@@ -31,9 +37,11 @@ pub record TiedBy (b : Book) (t : Inner) (l : Ledger) : Type 0 where
   pub story : (n : ℕ) → TiedStory (b.story n) t.requests t.link (slice_get t.table n)
   pub tries : TiedTries l b.story t.requests t.link t.started
   pub lines : TiedLines b.story t.requests (link_in t.life) t.waiting t.admitted t.pending t.started
-  pub told : has_ended t.life ≡ false → AreQueued b.story t.requests (link_in t.life)
+  pub told : has_ended t.life ≡ false → AreQueued b.story t.requests t.link (link_in t.life)
   pub waits : TiedWaits b.story t.requests t.life t.fresh t.moved
   pub permits : TiedPermits b.story b.submissions t.requests t.link t.limit t.free t.letting
+  pub rounds : TiedRounds (has_generations b) b.story t.requests (is_ready t.life) t.fresh t.rounds
+  pub early : AreEarly t.requests t.life
   pub late : AreLate b.story t.requests t.pending
 
 -- so the session is tied to the book
@@ -41,10 +49,13 @@ pub tied_by : (b : Book) (t : Inner) (l : Ledger) → b.link t.link ≡ l → Ti
 tied_by b t l e h = record {
   numbers = h.numbers;
   others = h.others;
-  notices = subst (λ (x : Ledger). TiedNotices (hearing_in b.config) t.hears x.hearing x.notices x.told x.end x.parted x.strange (is_reading x) t.untold t.parting) (sym e) h.notices;
+  notices = subst (λ (x : Ledger). TiedNotices (hearing_in b.config) t.hears (hearing_at t.life t.hears x.hearing) x.notices x.told x.end x.parted x.strange (is_reading x) t.untold t.parting) (sym e) h.notices;
   life = subst (λ (x : Ledger). TiedLife x b.created t.life) (sym e) h.life;
+  course = subst (λ (x : Ledger). TiedCourse x.last x.end t) (sym e) h.course;
+  calm = h.calm;
+  creation = h.creation;
   creds = subst (λ (x : Ledger). TiedCreds x.creds t.renewal.wanted t.life) (sym e) h.creds;
-  count = h.count ∙ ap (λ (x : Ledger). sources_asked_in x.creds) (sym e);
+  uses = subst (λ (x : Ledger). AreUses t.sources t.link x.creds.asked x.creds.renews) (sym e) h.uses;
   renewal = subst (λ (x : Ledger). TiedRenewal x t.renewal t.life) (sym e) h.renewal;
   setup = subst (λ (x : Ledger). TiedSetup x t.info t.started t.life) (sym e) h.setup;
   link = λ up. subst (λ (x : Ledger). TiedLink (carried t.life t.requests) x (whole_link t.life)) (sym e) (h.link up);
@@ -55,6 +66,8 @@ tied_by b t l e h = record {
   told = h.told;
   waits = h.waits;
   permits = h.permits;
+  rounds = h.rounds;
+  early = h.early;
   late = h.late;
 }
 
@@ -63,8 +76,9 @@ pub mine_noted : (l : Ledger) (n : ℕ) (line : Line) → noted_each l (if_mine 
 mine_noted l n line = ap (noted_each l) (taken_if (n == n) (line ∷ []) [] (eq_test n n refl))
 
 -- all other links stay as they are
-pub others_kept : (b : Book) (n : ℕ) (line : Line) → ((m : ℕ) → m ≢ n → IsUnknown (b.link m)) → (m : ℕ) → m ≢ n → IsUnknown (noted_each (b.link m) (if_mine (n == m) line))
-others_kept b n line h m other = if_false (λ (ls : List Line). IsUnknown (noted_each (b.link m) ls)) (n == m) (line ∷ []) [] (ne_test n m (λ e. other (sym e))) (h m other)
+pub others_kept : {links created : ℕ} {heard : Hearing} {within : Option ℕ} (b : Book) (n : ℕ) (line : Line) → AreAside n links b.link heard within created → AreAside n links (λ m. noted_each (b.link m) (if_mine (n == m) line)) heard within created
+others_kept {links = links} {created = created} {heard = heard} {within = within} b n line h m other =
+    if_false (λ (ls : List Line). IsAside links m (noted_each (b.link m) ls) heard within created) (n == m) (line ∷ []) [] (ne_test n m (λ e. other (sym e))) (h m other)
 
 -- one request's story changes
 pub one_changed : (b : Book) (t : Inner) (p : ℕ) (g : Story → Story) → Tied b t → p < length t.requests
@@ -122,11 +136,11 @@ queued_same f g requests (q ∷ qs) same told all = (
 )
 
 -- of the same tries, by the same places
-pub tries_same : (l : Ledger) (f g : ℕ → Story) (requests : List Request) (link : ℕ) (started : List ℕ) → SameSubmissions f g → ((n : ℕ) → (f n).tries ≡ (g n).tries) → TiedTries l f requests link started → TiedTries l g requests link started
-tries_same l f g requests link started same tried h = record {
+pub tries_same : (l : Ledger) (f g : ℕ → Story) (requests : List Request) (link : ℕ) (started : List ℕ) → SameSubmissions f g → ((n : ℕ) → (f n).tries ≡ (g n).tries) → ((n : ℕ) → (f n).link ≡ (g n).link) → TiedTries l f requests link started → TiedTries l g requests link started
+tries_same l f g requests link started same tried linked h = record {
   owners = h.owners;
   greeted = h.greeted;
   shapes = λ k p s l i j. h.shapes k p s l i j ∙ ap shape_in (same (name_at requests p));
   tried = λ k p l i. sym (tried (name_at requests p)) ∙ h.tried k p l i;
-  untried = λ p r i out. sym (tried r.name) ∙ h.untried p r i out;
+  untried = λ p r i out on. sym (tried r.name) ∙ h.untried p r i out (linked r.name ∙ on);
 }

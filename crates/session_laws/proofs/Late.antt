@@ -1,7 +1,7 @@
 -- A response timer fires: where its request is open, its time is over. And the event that sets a time.
 use Rattle.std.proofs.Common.{◌≡◌, ◌≢◌, inl, inr, ℕ, ◌<◌, ◌==◌, true, false, ◌&&◌, ◌||◌, not, is_some, List, [], ◌∷◌, ◌++◌, length, Option, Some, None, slice_get, suc, if◌then◌else◌, refl, sym, ap, ◌∙◌, subst, arith}
 use Rattle.std.specs.List.{AllByRecursion}
-use Rattle.containers.proofs.Choices.{by_test, both_left, chosen, left_if, taken_if, eq_from, eq_test, if_false, if_true, ne_from, ne_test, not_both}
+use Rattle.containers.proofs.Choices.{by_test, both_left, chosen, left_if, taken_if, eq_from, eq_test, if_false, if_true, ne_from, ne_test, not_both, or_left}
 use Rattle.redis_error.specs.declared.fault_kind.FaultKind.TheVariants as kinds
 use Rattle.redis_error.specs.declared.redis_error.RedisError.TheVariants as error
 use Rattle.driver_model.specs.declared.action.Action.{Action}
@@ -21,11 +21,11 @@ use Rattle.link_laws.specs.Settles.{wanted, awaited_ids}
 use Rattle.mux_conn.specs.declared.act.LinkAct.TheVariants as act
 use Rattle.mux_conn.specs.declared.connection.MultiplexedConnection.{MultiplexedConnection}
 use Rattle.mux_conn.specs.declared.life.Life.{Life}
-use Rattle.mux_conn.specs.declared.life.Life.TheVariants.{Dialing, Wanting, SettingUp, Ready, Ended}
+use Rattle.mux_conn.specs.declared.life.Life.TheVariants.{Resting, Dialing, Wanting, SettingUp, Ready, Ended}
 use Rattle.mux_conn.specs.declared.request.Pending.{Pending}
 use Rattle.mux_conn.specs.declared.request.Request.{Request}
 use Rattle.mux_conn.specs.declared.request.Waiting.{Waiting}
-use Rattle.mux_conn.specs.Connection.{Work, acted, at_life}
+use Rattle.mux_conn.specs.Connection.{Work, acted, at_life, is_resting}
 use Rattle.mux_conn.specs.Requests.{is_open_at, name_at, permits_at, given_back, with_permits, closed, answered as answered_in}
 use Rattle.mux_conn.specs.declared.request.Progress.TheVariants as progress
 use Rattle.mux_conn.specs.Effects.{cancelled_in, timed_out}
@@ -34,29 +34,31 @@ use Rattle.shared_session.specs.Turn.{with_work, late_by, effect, counted, is_ba
 use Rattle.legal_trace.specs.Ledger.{hears, is_over, noted}
 use Rattle.legal_trace.specs.Owed.{owed, owed_to_try}
 use Rattle.legal_trace.specs.Story.{Story, answered, awaited_in, bytes_of, fires, is_no_error, is_open, is_told, last_of}
-use Rattle.legal_trace.specs.Book.{Book, after_event, book, entered, if_own, is_clock_of, kind_in, timeout_after}
+use Rattle.legal_trace.specs.Book.{Book, after_event, book, entered, if_own, is_clock_of, kind_in, timeout_after, has_generations}
 use Rattle.legal_trace.specs.Legal.{NoneEnds}
 use Rattle.mux_conn.specs.Renewals.{renewal_id}
+use Rattle.session_laws.proofs.Rounded.{rounds_same}
 use Rattle.session_laws.proofs.Renewals.{renewal_alike}
 use Rattle.session_laws.proofs.Numbers.{IsIn, in_left, in_right, in_either, Rising, rising_in, rising_right, rising_tail, requests_in, request_in, request_of, request_other}
-use Rattle.session_laws.proofs.Tied.{Inner, inner, no_link, link_in, queue_ids, IsEntry, IsQueued, IsRequest, AreQueued, TiedLines, TiedPermits, TiedStory, TiedWaits, Tied, has_ended, shown_wait}
-use Rattle.session_laws.proofs.States.{Between, HasApplied}
+use Rattle.session_laws.proofs.Tied.{Inner, inner, no_link, link_in, queue_ids, IsEntry, IsQueued, IsRequest, AreQueued, TiedLines, TiedPermits, TiedStory, TiedWaits, Tied, has_ended, shown_wait, TiedRounds}
+use Rattle.session_laws.proofs.States.{Between, HasApplied, IsStopped}
 use Rattle.session_laws.proofs.Behind.{open_untold}
 use Rattle.session_laws.proofs.Names.{name_of_some, open_within, same_name, request_not}
 use Rattle.session_laws.proofs.InLine.{row_ids, chosen_in, kept_ids, line_of, open_in_line}
-use Rattle.session_laws.proofs.Owes.{answered_closed, in_time, line_unowed, lives, none_open, not_empty, request_story, row_in_line}
+use Rattle.session_laws.proofs.Owes.{answered_closed, in_time, line_unowed, lives, none_open, not_empty, request_story, row_in_line, IsAwake}
 use Rattle.session_laws.proofs.Permits.{IsHolding, permits_same}
 use Rattle.session_laws.proofs.Kept.{one_changed, packed_same, queued_same, tied_by, tries_same}
 use Rattle.session_laws.proofs.Closing.{one_of, told_closed}
 use Rattle.session_laws.proofs.Answer.{answer_apart, may_answer, owed_untold, none_before}
 use Rattle.session_laws.proofs.Settle.{book_of_more, holds_more, seen, trace_of_acts}
-use Rattle.session_laws.proofs.Announce.{announced_sound, first_book, holds_first, turn_of, turned, counted_on, time_still}
-use Rattle.session_laws.proofs.Heard.{silent_applied, still_none, tame_between}
-use Rattle.session_laws.proofs.Cancel.{IsSilent, left_creds, left_fit, left_life, left_link, left_others, left_setup, none_more, queued_apart, silenced_wanted, silent_core, silent_ends, silent_numbers, silent_others, still_dials, still_tied, was_ready, was_setting, was_wanting, without_awaited, without_others, without_rises, apart_behind, rising_behind, left_renewal}
+use Rattle.session_laws.proofs.Announce.{announced_sound, first_book, holds_first, turn_of, turned, uses_on, time_still}
+use Rattle.session_laws.proofs.Heard.{silent_applied, still_none, tame_between, hushed_still}
+use Rattle.session_laws.proofs.Cancel.{IsSilent, left_creds, left_fit, left_life, left_link, left_others, left_setup, none_more, queued_apart, silenced_wanted, silent_core, silent_ends, silent_numbers, silent_others, still_dials, still_tied, was_ready, was_setting, was_wanting, without_awaited, without_in, without_others, without_rises, apart_behind, rising_behind, left_renewal, ready_cancelled, left_course, left_notices, early_cancelled, left_stopped, resting_cancelled, still_rests}
 use Rattle.driver_model.specs.declared.kind.SessionKind.{SessionKind}
 use Rattle.driver_model.specs.declared.kind.SessionKind.TheVariants as session
-use Rattle.driver_model.specs.Kind.{is_single}
+use Rattle.driver_model.specs.Kind.{has_timeouts}
 use Rattle.session_laws.proofs.Said.{IsTame, renoticed}
+use Rattle.session_laws.proofs.Submit.{or_none}
 
 -- a story whose timer fires
 --
@@ -84,6 +86,12 @@ fired_at : (m : ℕ) (story : ℕ → Story) (n : ℕ) → IsFired (story n) (fi
 fired_at m story n = chosen (IsFired (story n)) (m == n) (fires (story n)) (story n)
     (λ t. fires_same (story n))
     (λ f. record { submission = refl; timeout = refl; tries = refl; waiting = refl; outcomes = refl; holds = record { link = refl; permits = refl; timeout = refl; clock = refl } })
+
+-- its round is as it was
+fires_rounds : (m : ℕ) (story : ℕ → Story) (n : ℕ) → (fires_at m story n).rounded ≡ (story n).rounded
+fires_rounds m story n = chosen (λ (x : Story). x.rounded ≡ (story n).rounded) (m == n) (fires (story n)) (story n)
+    (λ t. chosen (λ (x : Story). x.rounded ≡ (story n).rounded) (is_open (story n)) (record (story n) { overdue = true }) (story n) (λ o. refl) (λ f. refl))
+    (λ f. refl)
 
 -- a request is one still
 fires_request : (s : Story) (requests : List Request) (link p : ℕ) → IsRequest s requests link p → IsRequest (fires s) requests link p
@@ -178,6 +186,9 @@ late_lines m story requests link waiting admitted p started apart h =
 late_lines_in : (m : ℕ) (story : ℕ → Story) (requests : List Request) (life : Life) (waiting admitted : List Waiting) (p : ℕ) (started : List ℕ) → p ≢ renewal_id → TiedLines story requests (link_in life) waiting admitted [] started
     → TiedLines (fires_at m story) requests (link_in (cancelled_in life p)) waiting admitted (p ∷ []) started
 late_lines_in m story requests (Ready link) waiting admitted p started apart h = late_lines m story requests link waiting admitted p started apart h
+late_lines_in m story requests Resting waiting admitted p started apart h =
+    let k = late_lines m story requests no_link waiting admitted p started apart h in
+    record { line = k.line; queued = k.queued; entries = k.entries; packs = k.packs; packed_in = k.packed_in; there = k.there }
 late_lines_in m story requests Dialing waiting admitted p started apart h =
     let k = late_lines m story requests no_link waiting admitted p started apart h in
     record { line = k.line; queued = k.queued; entries = k.entries; packs = k.packs; packed_in = k.packed_in; there = k.there }
@@ -192,27 +203,35 @@ late_lines_in m story requests (Ended e) waiting admitted p started apart h =
     record { line = k.line; queued = k.queued; entries = k.entries; packs = k.packs; packed_in = k.packed_in; there = k.there }
 
 -- who was told is in the queue still
-late_told : (story : ℕ → Story) (requests : List Request) (life : Life) (p : ℕ) → is_open (story (name_at requests p)) ≡ true → (has_ended life ≡ false → AreQueued story requests (link_in life)) → has_ended (cancelled_in life p) ≡ false
-    → AreQueued (fires_at (name_at requests p) story) requests (link_in (cancelled_in life p))
-late_told story requests life p o h up n is none = by_life life h up
+late_told : (story : ℕ → Story) (requests : List Request) (number : ℕ) (life : Life) (p : ℕ) → is_open (story (name_at requests p)) ≡ true → (has_ended life ≡ false → AreQueued story requests number (link_in life)) → has_ended (cancelled_in life p) ≡ false
+    → AreQueued (fires_at (name_at requests p) story) requests number (link_in (cancelled_in life p))
+late_told story requests number life p o h up = by_life life h up
   where
     m : ℕ
     m = name_at requests p
 
-    was : is_told (story n) ≡ true
-    was = sym (fired_told m story n) ∙ is
+    same : (n : ℕ) → (fires_at m story n).link ≡ (story n).link
+    same n = (fired_at m story n).holds.link
 
-    untried : (story n).tries ≡ []
-    untried = (fired_at m story n).tries ∙ none
+    other : (n q : ℕ) → is_told (story n) ≡ true → name_at requests q ≡ n → p ≢ q
+    other n q was named apart = not_both (is_told (story n)) (subst (λ k. is_told (story k) ≡ false) (ap (name_at requests) apart ∙ named) (open_untold (story m) o)) was
 
-    other : (q : ℕ) → name_at requests q ≡ n → p ≢ q
-    other q named same = not_both (is_told (story n)) (subst (λ k. is_told (story k) ≡ false) (ap (name_at requests) same ∙ named) (open_untold (story m) o)) was
+    kept : (link after : LinkState) → ((n q : ℕ) → is_told (story n) ≡ true → name_at requests q ≡ n → IsIn q (queue_ids link.queue) → IsIn q (queue_ids after.queue)) → ((q : ℕ) → IsIn q (queue_ids after.queue) → IsIn q (queue_ids link.queue)) → AreQueued story requests number link
+        → AreQueued (fires_at m story) requests number after
+    kept link after stays was_in g = record {
+      told = λ n is none on.
+          let was = sym (fired_told m story n) ∙ is in
+          let k = g.told n was ((fired_at m story n).tries ∙ none) (sym (same n) ∙ on) in
+          (k.0, k.1, k.2, stays n k.0 was k.2 k.3);
+      here = λ q i. same (name_at requests q) ∙ g.here q (was_in q i);
+    }
 
-    by_life : (x : Life) → (has_ended x ≡ false → AreQueued story requests (link_in x)) → has_ended (cancelled_in x p) ≡ false → (q : ℕ) × (q < length requests) × (name_at requests q ≡ n) × IsIn q (queue_ids (link_in (cancelled_in x p)).queue)
-    by_life (Ready link) g f = let k = g refl n was untried in (k.0, k.1, k.2, without_others link.queue p k.0 (other k.0 k.2) k.3)
-    by_life Dialing g f = g refl n was untried
-    by_life (Wanting link) g f = g refl n was untried
-    by_life (SettingUp link greeting) g f = g refl n was untried
+    by_life : (x : Life) → (has_ended x ≡ false → AreQueued story requests number (link_in x)) → has_ended (cancelled_in x p) ≡ false → AreQueued (fires_at m story) requests number (link_in (cancelled_in x p))
+    by_life (Ready link) g f = kept link (cancelled link p) (λ n q was named i. without_others link.queue p q (other n q was named) i) (λ q i. without_in link.queue p q i) (g refl)
+    by_life Resting g f = kept no_link no_link (λ n q was named i. i) (λ q i. i) (g refl)
+    by_life Dialing g f = kept no_link no_link (λ n q was named i. i) (λ q i. i) (g refl)
+    by_life (Wanting link) g f = kept no_link no_link (λ n q was named i. i) (λ q i. i) (g refl)
+    by_life (SettingUp link greeting) g f = kept no_link no_link (λ n q was named i. i) (λ q i. i) (g refl)
     by_life (Ended e) g f = cc
 
 -- the waits that were shown
@@ -225,9 +244,11 @@ late_waits story requests m life p ys fresh moved line h =
     let wants = was_wanting life p in
     let sets = was_setting life p in
     let ready = was_ready life p in
+    let rests = still_rests life p in
     let others = left_others requests life ys p 0 line in
     record {
       early = λ q w. one_of (shown_wait after requests q) (shown_wait story requests q) (same q) (h.early q w);
+      backoff = λ q w d. elim (h.backoff q w (rests d)) [ inl i ↦ inl i | inr e ↦ inr (same q ∙ e) ];
       connect = λ q w d. elim (h.connect q w (dials d)) [ inl i ↦ inl i | inr e ↦ inr (same q ∙ e) ];
       creds = λ q link w r. let x = wants link r in elim (h.creds q x.0 w x.1) [ inl i ↦ inl i | inr e ↦ inr (same q ∙ e) ];
       setup = λ q link u w r. let x = sets link u r in elim (h.setup q x.0 u w x.1) [ inl i ↦ inl i | inr e ↦ inr (same q ∙ e) ];
@@ -236,6 +257,7 @@ late_waits story requests m life p ys fresh moved line h =
       room = λ q r. elim (h.room q (others q r).2) [ inl i ↦ inl i | inr e ↦ inr (same q ∙ e) ];
       newer = h.newer;
       rising = h.rising;
+      no_backoff = λ q i w d. same q ∙ h.no_backoff q i w (rests d);
       no_connect = λ q i w d e. h.no_connect q i w (dials d) (sym (same q) ∙ e);
       no_creds = λ q link i w r e. let x = wants link r in h.no_creds q x.0 i w x.1 (sym (same q) ∙ e);
       no_setup = λ q link u i w r e. let x = sets link u r in h.no_setup q x.0 u i w x.1 (sym (same q) ∙ e);
@@ -286,21 +308,26 @@ late_tied b c started word n p h tame is o =
     (tied_by (record now { story = after }) t (record ledger { heard = silence }) heard (record {
       numbers = silent_numbers b c started word (event.Fired n) c.timeout after conn.free (cancelled_in conn.life p) conn.requests (p ∷ []) q h;
       others = λ k other. silent_others b c (event.Fired n) c.timeout k q (h.others k other);
-      notices = renoticed tame h.notices;
+      notices = left_notices conn.life p ledger.hearing (renoticed tame h.notices);
       life = left_life ledger b.created conn.life p h.life;
+      course = left_course conn.life p ledger.last ledger.end c.links c.single.link c.shut (c.shut || false) c.manager conn.last conn.opened conn.info conn.address (or_left c.shut false) h.course;
+      calm = λ up awake. refl;
       creds = left_creds ledger.creds conn.renewal.wanted conn.life p h.creds;
-      count = counted_on c.sources ledger.creds h.count;
+      creation = h.creation;
+      uses = uses_on c.sources c.single.link h.uses;
       renewal = left_renewal (record ledger { heard = silence }) conn.renewal conn.life p (renewal_alike ledger (record ledger { heard = silence }) conn.renewal conn.life refl refl refl h.renewal);
       setup = left_setup ledger conn.info started conn.life p h.setup;
       link = λ alive. left_link conn.requests ledger conn.life p h.link alive;
       names = h.names;
       story = one_changed b (inner c started) p fires h l (fires_request (b.story m) conn.requests c.single.link p);
-      tries = tries_same (record ledger { heard = silence }) b.story after conn.requests c.single.link started (λ k. (fired_at m b.story k).submission) (λ k. (fired_at m b.story k).tries)
+      tries = tries_same (record ledger { heard = silence }) b.story after conn.requests c.single.link started (λ k. (fired_at m b.story k).submission) (λ k. (fired_at m b.story k).tries) (λ k. sym (fired_at m b.story k).holds.link)
           (record { owners = h.tries.owners; greeted = h.tries.greeted; shapes = h.tries.shapes; tried = h.tries.tried; untried = h.tries.untried });
       lines = late_lines_in m b.story conn.requests conn.life conn.waiting conn.admitted p started (request_not b (inner c started) p h l) h.lines;
-      told = late_told b.story conn.requests conn.life p asked h.told;
+      told = late_told b.story conn.requests c.single.link conn.life p asked h.told;
       waits = late_waits b.story conn.requests m conn.life p kept conn.fresh conn.moved line h.waits;
       permits = subst (λ k. TiedPermits after k conn.requests c.single.link conn.limit conn.free []) (none_more b.submissions) (permits_same b.story after b.submissions conn.requests c.single.link conn.limit conn.free [] (λ k. (fired_at m b.story k).holds) h.permits);
+      rounds = subst (λ x. TiedRounds (has_generations b) after conn.requests x conn.fresh conn.rounds) (sym (ready_cancelled conn.life p)) (rounds_same b.story after conn.requests conn.fresh (fires_rounds m b.story) h.rounds);
+      early = early_cancelled conn.requests conn.life p h.early;
       late = λ k open_k late_k. by_test (p == k) _
           (λ e. inl (eq_from p k e))
           (λ f.
@@ -331,6 +358,7 @@ fired_overdue b c started word n p h is o =
 --
 -- the rows and the queue are without it
 late_apart : (b : Book) (t : Inner) (life : Life) (p : ℕ) → Tied b t → t.life ≡ life → has_ended life ≡ false → p ≢ renewal_id → is_open (b.story (name_at t.requests p)) ≡ true → IsIn p (wanted (link_in (cancelled_in life p)).row ++ queue_ids (link_in (cancelled_in life p)).queue) → ⊥
+late_apart b t Resting p h e up other o i = i
 late_apart b t Dialing p h e up other o i = i
 late_apart b t (Wanting link) p h e up other o i = i
 late_apart b t (SettingUp link greeting) p h e up other o i = i
@@ -347,13 +375,13 @@ late_apart b t (Ready link) p h e up other o i =
     ]
 
 -- who else is open is owed nothing
-others_unowed : (b : Book) (t : Inner) (p q : ℕ) → Tied b t → t.pending ≡ p ∷ [] → has_ended t.life ≡ false → q < p → is_open_at t.requests q ≡ true → owed b (name_at t.requests q) ≡ None
-others_unowed b t p q h is up less o =
+others_unowed : (b : Book) (t : Inner) (p q : ℕ) → Tied b t → IsAwake t → t.pending ≡ p ∷ [] → has_ended t.life ≡ false → q < p → is_open_at t.requests q ≡ true → owed b (name_at t.requests q) ≡ None
+others_unowed b t p q h awake is up less o =
     let apart : IsIn q t.pending → ⊥ = λ i. elim (subst (IsIn q) is i) [ inl same ↦ omega (arith, same) | inr none ↦ none ] in
     let link = link_in t.life in
     let i = open_in_line b.story t.requests link t.waiting t.admitted t.pending t.started q h.lines o in
     let j = elim (in_either q t.pending (line_of link t.admitted t.waiting) i) as (λ _. IsIn q (line_of link t.admitted t.waiting)) [ inl k ↦ absurd (apart k) | inr k ↦ k ] in
-    line_unowed b t q h up (open_within t.requests q o) (in_time b t q h o apart) j
+    line_unowed b t q h awake up o (in_time b t q h o apart) j
 
 -- an open request, between two turns, has a link that has not ended
 open_alive : (before : List Action) (c : Core) (started : List ℕ) (p : ℕ) → Between before c started → is_open_at c.single.connection.requests p ≡ true → has_ended c.single.connection.life ≡ false
@@ -363,6 +391,7 @@ open_alive before c started p h o = by_life c.single.connection.life refl
     conn = c.single.connection
 
     by_life : (x : Life) → conn.life ≡ x → has_ended conn.life ≡ false
+    by_life Resting e = ap has_ended e
     by_life Dialing e = ap has_ended e
     by_life (Wanting link) e = ap has_ended e
     by_life (SettingUp link greeting) e = ap has_ended e
@@ -371,10 +400,45 @@ open_alive before c started p h o = by_life c.single.connection.life refl
         let b = book before in
         let t = inner c started in
         let none : kept_ids conn.admitted conn.waiting ≡ [] = λ i. kept_ids (h.fit.none (λ link r. (let no : Ended x ≡ Ready link = sym e ∙ r in cc)) i) (h.still.none_waits (ap has_ended e) i) in
-        absurd (none_open b t x (name_at conn.requests p) h.sound.tied refl e none ((request_story b t p h.sound.tied (open_within conn.requests p o)).open_is ∙ o))
+        absurd (none_open b t (Ended x) (name_at conn.requests p) refl h.sound.tied refl e none ((request_story b t p h.sound.tied (open_within conn.requests p o)).open_is ∙ o))
+
+-- and where the connection has none, it was not shut down
+open_awake : (before : List Action) (c : Core) (started : List ℕ) (p : ℕ) → Between before c started → is_open_at c.single.connection.requests p ≡ true → is_resting c.single.connection.life ≡ true → c.shut ≡ false
+open_awake before c started p h o rests = by_test c.shut _
+    (λ over. absurd (none_open b t conn.life (name_at conn.requests p) (bare conn.life rests) h.sound.tied refl refl (λ i. kept_ids (nobody i) (stopped conn.life rests (h.hushed over) i)) ((request_story b t p h.sound.tied (open_within conn.requests p o)).open_is ∙ o)))
+    (λ awake. awake)
+  where
+    b : Book
+    b = book before
+
+    t : Inner
+    t = inner c started
+
+    conn : MultiplexedConnection
+    conn = c.single.connection
+
+    nobody : conn.admitted ≡ []
+    nobody = h.fit.none (λ link r. not_both (is_resting conn.life) (ap is_resting r) rests)
+
+    stopped : (life : Life) → is_resting life ≡ true → IsStopped life conn.waiting → conn.waiting ≡ []
+    stopped Resting z k = k
+    stopped Dialing z k = cc
+    stopped (Wanting link) z k = cc
+    stopped (SettingUp link greeting) z k = cc
+    stopped (Ready link) z k = cc
+    stopped (Ended x) z k = cc
+
+    bare : (life : Life) → is_resting life ≡ true → line_of (link_in life) conn.admitted conn.waiting ≡ kept_ids conn.admitted conn.waiting
+    bare Resting z = refl
+    bare Dialing z = refl
+    bare (Wanting link) z = refl
+    bare (SettingUp link greeting) z = refl
+    bare (Ready link) z = cc
+    bare (Ended x) z = refl
 
 -- a cancel ends no link
 still_alive : (life : Life) (p : ℕ) → has_ended life ≡ false → has_ended (cancelled_in life p) ≡ false
+still_alive Resting p e = refl
 still_alive Dialing p e = refl
 still_alive (Wanting link) p e = refl
 still_alive (SettingUp link greeting) p e = refl
@@ -404,6 +468,7 @@ late_answered before c started word n p h good is o =
     let l = open_within conn.requests p o in
     let alive = open_alive before c started p h o in
     let up = still_alive conn.life p alive in
+    let awake : IsAwake t = λ rests. or_none c.shut ∙ open_awake before c started p h o (sym (resting_cancelled conn.life p) ∙ rests) in
     let r = request_story b t p holds.tied l in
     let asked = r.open_is ∙ o in
     let late = ap (λ (x : Book). (x.story m).overdue) book_is ∙ fired_overdue b0 c started word n p h.sound.tied is o in
@@ -411,10 +476,10 @@ late_answered before c started word n p h good is o =
     let was_asked = (request_story b0 (inner c started) p h.sound.tied l).open_is ∙ o in
     let apart = late_apart b0 (inner c started) conn.life p h.sound.tied refl alive (request_not b0 (inner c started) p h.sound.tied l) was_asked in
     let lived = lives (b.link f.single.link) b.created (cancelled_in conn.life p) holds.tied.life up in
-    let may = may_answer b t p over holds.tied o owes (λ q less asked_q. others_unowed b t p q holds.tied refl up less asked_q) (none_before b t m holds.tied refl) (λ ended. absurd (not_both (is_over (b.link f.single.link)) (ap is_some lived) ended)) in
+    let may = may_answer b t p over holds.tied o owes (λ q less asked_q. others_unowed b t p q holds.tied awake refl up less asked_q) (none_before b t m holds.tied refl) (λ ended. absurd (not_both (is_over (b.link f.single.link)) (ap is_some lived) ended)) in
     let link = link_in (cancelled_in conn.life p) in
-    let told = λ (x : has_ended (cancelled_in conn.life p) ≡ false). told_closed b.story conn.requests p (λ k. answered (b.story k) over) link link (λ u. absurd (owed_untold b m over asked owes u)) (λ q told_q i. i) (holds.tied.told x) in
-    let answer = answer_apart b (seen f [] (late_conn c p) [] started) p [] over l apart told holds.tied in
+    let told = λ (x : has_ended (cancelled_in conn.life p) ≡ false). told_closed b.story conn.requests c.single.link p (λ k. answered (b.story k) over) link link (λ u. absurd (owed_untold b m over asked owes u)) (λ k. refl) (λ q told_q i. i) (λ q i. i) (holds.tied.told x) in
+    let answer = answer_apart b (seen f [] (late_conn c p) [] started) p [] over (λ going unshut. refl) o apart told holds.tied in
     let after = holds_more front f w a (closed (late_conn c p) p) (p ∷ []) [] started holds (inl may) answer in
     let q = late_silent b0 c started n (Some (purpose.Response (owner.Try m 0))) h.sound.tied is (λ k. refl) in
     record {
@@ -423,6 +488,7 @@ late_answered before c started word n p h good is o =
       began = λ z. absurd (omega arith);
       moved = h.moved;
       fit = left_fit conn (given_back conn.limit conn.free (permits_at conn.requests p)) (with_permits conn.requests p progress.Closed 0) conn.life p refl h.fit;
+      hushed = λ shut_now. left_stopped conn.life p conn.waiting (hushed_still c kind refl h.hushed shut_now);
     }
 
 -- a response timer fires
@@ -453,7 +519,7 @@ late_applied before c started word n m h good is = by_entry (slice_get c.table m
     still f =
         let timer = ap (λ (ts : List Purpose). slice_get ts n) h.sound.tied.numbers.timers ∙ is in
         let q = late_silent b c started n (Some (purpose.Response (owner.Try m 0))) h.sound.tied is (λ k. refl) in
-        silent_applied before c started word (event.Fired n) (turned c (event.Fired n)) conn h good (silent_ends b c (event.Fired n) c.timeout q (still_none before c started h)) (λ z. absurd (omega arith)) h.moved h.fit
+        silent_applied before c started word (event.Fired n) (turned c (event.Fired n)) conn h good (silent_ends b c (event.Fired n) c.timeout q (still_none before c started h)) (λ z. absurd (omega arith)) h.moved h.fit (hushed_still c (event.Fired n) refl h.hushed)
         (still_tied b c started word (event.Fired n) c.timeout q (stays_fired b n m timer f) h.sound.tied (tame_between before c started h))
 
     by_entry : (x : Option (Option Pending)) → slice_get c.table m ≡ x → TiedStory (b.story m) conn.requests c.single.link x
@@ -484,18 +550,20 @@ time_applied before c started word ms h good =
     let kind_is = h.sound.tied.numbers.kind_is in
     let shut = ap (λ s. s || false) h.sound.tied.numbers.shut in
     let set = λ (time : Option ℕ) (q : IsSilent b c (event.Timeout ms) time).
-    silent_applied before c started word (event.Timeout ms) (silent_core c (event.Timeout ms) time) c.single.connection h good (silent_ends b c (event.Timeout ms) time q (still_none before c started h)) (λ z. absurd (omega arith)) h.moved h.fit
+    silent_applied before c started word (event.Timeout ms) (silent_core c (event.Timeout ms) time) c.single.connection h good (silent_ends b c (event.Timeout ms) time q (still_none before c started h)) (λ z. absurd (omega arith)) h.moved h.fit (hushed_still c (event.Timeout ms) refl h.hushed)
     (still_tied b c started word (event.Timeout ms) time q (λ m. refl) h.sound.tied (tame_between before c started h)) in
-    chosen (λ (x : Core). HasApplied (before ++ turn_of c word (event.Timeout ms) ∷ []) (record { core = x; acts = [] }) started) (is_single c.kind) (silent_core c (event.Timeout ms) ms) (turned c (event.Timeout ms))
-    (λ single. set ms (record { silent = λ m. refl; none = refl; time = single_time (kind_in b.config) b.timeout ms (ap is_single kind_is ∙ single); shut = shut }))
-    (λ other. set c.timeout (record { silent = λ m. refl; none = refl; time = other_time (kind_in b.config) b.timeout ms (ap is_single kind_is ∙ other) ∙ h.sound.tied.numbers.timeout; shut = shut }))
+    chosen (λ (x : Core). HasApplied (before ++ turn_of c word (event.Timeout ms) ∷ []) (record { core = x; acts = [] }) started) (has_timeouts c.kind) (silent_core c (event.Timeout ms) ms) (turned c (event.Timeout ms))
+    (λ single. set ms (record { silent = λ m. refl; none = refl; time = single_time (kind_in b.config) b.timeout ms (ap has_timeouts kind_is ∙ single); shut = shut }))
+    (λ other. set c.timeout (record { silent = λ m. refl; none = refl; time = other_time (kind_in b.config) b.timeout ms (ap has_timeouts kind_is ∙ other) ∙ h.sound.tied.numbers.timeout; shut = shut }))
   where
-    single_time : (is : SessionKind) (old new : Option ℕ) → is_single is ≡ true → timeout_after is old (event.Timeout new) ≡ new
+    single_time : (is : SessionKind) (old new : Option ℕ) → has_timeouts is ≡ true → timeout_after is old (event.Timeout new) ≡ new
     single_time session.Single old new e = refl
+    single_time (session.Manager lazy) old new e = cc
     single_time session.PubSub old new e = cc
     single_time session.Monitor old new e = cc
 
-    other_time : (is : SessionKind) (old new : Option ℕ) → is_single is ≡ false → timeout_after is old (event.Timeout new) ≡ old
+    other_time : (is : SessionKind) (old new : Option ℕ) → has_timeouts is ≡ false → timeout_after is old (event.Timeout new) ≡ old
     other_time session.Single old new e = cc
+    other_time (session.Manager lazy) old new e = refl
     other_time session.PubSub old new e = refl
     other_time session.Monitor old new e = refl

@@ -16,7 +16,7 @@ use Rattle.driver_model.specs.declared.outcome.Shape.TheVariants.{Single, Pipeli
 use Rattle.link_core.specs.Link.{LinkState, holds_back, is_full_beside}
 use Rattle.link_core.specs.declared.message.Entry.{Entry}
 use Rattle.link_core.specs.declared.message.Queued.{Queued}
-use Rattle.mux_conn.specs.Connection.{Work, has_no_permit, in_front}
+use Rattle.mux_conn.specs.Connection.{Work, has_no_permit, in_front, is_ready}
 use Rattle.mux_conn.specs.Passes.{holding, let_in, permits_taken, timer_asked, took_shown}
 use Rattle.mux_conn.specs.declared.act.LinkAct.{LinkAct}
 use Rattle.mux_conn.specs.declared.act.LinkAct.TheVariants as act
@@ -25,7 +25,7 @@ use Rattle.shared_session.specs.declared.core_state.Core.{Core}
 use Rattle.shared_session.specs.Turn.{sources_of, timers_of}
 use Rattle.session_laws.proofs.Entered.{quiet_sources, quiet_timers, shown_more, timers_more}
 use Rattle.session_laws.proofs.Settle.{book_of_more, seen, trace_of_acts}
-use Rattle.mux_conn.specs.Requests.{if_there, is_admitted, is_admitted_at, is_open as is_open_progress, is_placed, is_waiting, is_waiting_at, name_at, permits_at, with_permits}
+use Rattle.mux_conn.specs.Requests.{if_there, is_admitted, is_admitted_at, is_open as is_open_progress, is_placed, is_unbegun, is_waiting, is_waiting_at, name_at, permits_at, with_permits}
 use Rattle.mux_conn.specs.declared.life.Life.{Life}
 use Rattle.mux_conn.specs.declared.life.Life.TheVariants.{Ready}
 use Rattle.mux_conn.specs.declared.request.Pending.{Pending}
@@ -33,49 +33,51 @@ use Rattle.mux_conn.specs.declared.request.Progress.{Progress}
 use Rattle.mux_conn.specs.declared.request.Progress.TheVariants as progress
 use Rattle.mux_conn.specs.declared.request.Request.{Request}
 use Rattle.mux_conn.specs.declared.request.Waiting.{Waiting}
-use Rattle.legal_trace.specs.Book.{Book, book, entered, if_own}
+use Rattle.legal_trace.specs.Book.{Book, book, entered, has_generations, if_own}
 use Rattle.legal_trace.specs.Ledger.{Ledger, setup_count}
 use Rattle.legal_trace.specs.Legal.{IsFirstToMove, MayTake, MayTime, NoneEnds}
 use Rattle.legal_trace.specs.Steps.{is_due, is_let_in, next_step, permits_held, permits_on, takes}
 use Rattle.legal_trace.specs.Story.{Story, awaited_in, clocked, holds, is_no_error, is_open, is_told, is_unstarted, packed_in, shape}
-use Rattle.session_laws.proofs.Ahead.{HasSeats, IsRunning, ask_step, full_step, kept_unstarted, running_of, take_step, waiting_open}
+use Rattle.session_laws.proofs.Ahead.{HasBegun, HasSeats, IsRunning, ask_step, full_step, kept_unstarted, running_of, take_step, waiting_open}
 use Rattle.session_laws.proofs.Going.{HasRenewed, IsGoing, begun_up, going_more, moves_later, queue_stays}
 use Rattle.session_laws.proofs.InLine.{first_is_least, kept_ids}
 use Rattle.session_laws.proofs.Kept.{of_same, tries_same}
 use Rattle.session_laws.proofs.Names.{earlier_name, get_more, length_with, name_placed, name_of_some, name_with, name_within, names_with, owners_with, permits_other, permits_with, same_name, there_within, was_with, with_other, with_same}
 use Rattle.session_laws.proofs.Numbers.{IsIn, Rising, in_right, rising_in, rising_right, requests_in}
-use Rattle.session_laws.proofs.Owes.{request_story}
+use Rattle.session_laws.proofs.Owes.{request_story, open_on}
 use Rattle.session_laws.proofs.Permits.{held_changed, held_same, on_this}
 use Rattle.session_laws.proofs.Closing.{one_of}
+use Rattle.session_laws.proofs.Rounded.{SameRounds, rounds_with}
 use Rattle.session_laws.proofs.Said.{carried_tied}
 use Rattle.session_laws.proofs.States.{IsFit}
-use Rattle.session_laws.proofs.Tied.{IsAim, AreAimed, AreQueued, Inner, IsEntry, IsKept, IsOf, IsPacked, IsQueued, IsRequest, Tied, TiedLines, TiedNames, TiedNumbers, TiedPermits, TiedStory, TiedTries, TiedWaits, link_in, owners_each, queue_ids, setup_owners, shown_wait, waiting_ids, numbers_kept, IsToldIn}
+use Rattle.session_laws.proofs.Server.{setup_owners}
+use Rattle.session_laws.proofs.Tied.{IsAim, AreAimed, AreQueued, Inner, IsEntry, IsKept, IsOf, IsPacked, IsQueued, IsRequest, Tied, TiedLines, TiedNames, TiedNumbers, TiedPermits, TiedRounds, TiedStory, TiedTries, TiedWaits, link_in, owners_each, queue_ids, shown_wait, waiting_ids, numbers_kept, IsToldIn}
 use Rattle.session_laws.proofs.Moves.{or_true}
-use Rattle.session_laws.proofs.Behind.{some_more}
 
 -- requests of which one holds other permits, and waits still
 --
--- what is tested of one that waits
-waiting_test : (test : Progress → Bool) (x : Option Request) → if_there is_waiting x ≡ true → if_there test x ≡ test progress.Waiting
-waiting_test test None e = cc
-waiting_test test (Some r) e = by_progress r.progress e
+-- what is tested of one that waits, whether its round has begun or not
+waiting_test : (test : Progress → Bool) (x : Option Request) → test progress.Waiting ≡ test progress.Begun → if_there is_waiting x ≡ true → if_there test x ≡ test progress.Begun
+waiting_test test None blind e = cc
+waiting_test test (Some r) blind e = by_progress r.progress e
   where
-    by_progress : (r : Progress) → is_waiting r ≡ true → test r ≡ test progress.Waiting
-    by_progress progress.Waiting e = refl
+    by_progress : (r : Progress) → is_waiting r ≡ true → test r ≡ test progress.Begun
+    by_progress progress.Waiting e = blind
+    by_progress progress.Begun e = refl
     by_progress progress.Admitted e = cc
     by_progress progress.Placed e = cc
     by_progress progress.Closed e = cc
 
--- all tests of progress are as they were
-test_kept : (test : Progress → Bool) (requests : List Request) (p count m : ℕ) → is_waiting_at requests p ≡ true → if_there test (slice_get (with_permits requests p progress.Waiting count) m) ≡ if_there test (slice_get requests m)
-test_kept test requests p count m w =
+-- all tests of progress are as they were, but whether its round has begun
+pub test_kept : (test : Progress → Bool) (requests : List Request) (p count m : ℕ) → test progress.Waiting ≡ test progress.Begun → is_waiting_at requests p ≡ true → if_there test (slice_get (with_permits requests p progress.Begun count) m) ≡ if_there test (slice_get requests m)
+test_kept test requests p count m blind w =
     by_test (p == m) _
     (λ t.
-    subst (λ k. if_there test (slice_get (with_permits requests p progress.Waiting count) k) ≡ if_there test (slice_get requests k)) (eq_from p m t)
-    (with_same test requests p progress.Waiting count (there_within is_waiting requests p w) ∙ sym (waiting_test test (slice_get requests p) w)))
-    (λ f. with_other test requests p m progress.Waiting count (ne_from p m f))
+    subst (λ k. if_there test (slice_get (with_permits requests p progress.Begun count) k) ≡ if_there test (slice_get requests k)) (eq_from p m t)
+    (with_same test requests p progress.Begun count (there_within is_waiting requests p w) ∙ sym (waiting_test test (slice_get requests p) blind w)))
+    (λ f. with_other test requests p m progress.Begun count (ne_from p m f))
 
--- stories that change in permits and timers alone
+-- stories that change in permits, timers, rounds and waits alone
 --
 pub record IsEased (s t : Story) : Type 0 where
   pub submission : t.submission ≡ s.submission
@@ -85,13 +87,12 @@ pub record IsEased (s t : Story) : Type 0 where
   pub timeout : t.timeout ≡ s.timeout
   pub overdue : t.overdue ≡ s.overdue
   pub tries : t.tries ≡ s.tries
-  pub waiting : t.waiting ≡ s.waiting
   pub outcomes : t.outcomes ≡ s.outcomes
   pub cancelled : t.cancelled ≡ s.cancelled
 
 -- nothing changes
 eased_same : (s : Story) → IsEased s s
-eased_same s = record { submission = refl; late = refl; unspoken = refl; link = refl; timeout = refl; overdue = refl; tries = refl; waiting = refl; outcomes = refl; cancelled = refl }
+eased_same s = record { submission = refl; late = refl; unspoken = refl; link = refl; timeout = refl; overdue = refl; tries = refl; outcomes = refl; cancelled = refl }
 
 -- it is open where it was
 eased_open : (s t : Story) → IsEased s t → is_open t ≡ is_open s
@@ -101,7 +102,7 @@ eased_open s t h = λ i. is_some (h.submission i) && (length (h.outcomes i) == 0
 eased_told : (s t : Story) → IsEased s t → is_told t ≡ is_told s
 eased_told s t h = λ i. not (awaited_in (h.submission i)) && is_no_error (h.outcomes i)
 
--- all stories but one are the same, and that changes in permits and timers alone
+-- all stories but one are the same, and that changes so
 pub record AreEased (f g : ℕ → Story) (n : ℕ) : Type 0 where
   pub each : (m : ℕ) → IsEased (f m) (g m)
   pub others : (m : ℕ) → n ≢ m → g m ≡ f m
@@ -112,7 +113,7 @@ none_eased f n = record { each = λ m. eased_same (f m); others = λ m o. refl }
 
 -- what a story says of the session
 story_let : (f g : ℕ → Story) (table : List (Option Pending)) (requests : List Request) (link p count n : ℕ) → TiedNames table requests → is_waiting_at requests p ≡ true → AreEased f g (name_at requests p) → (g (name_at requests p)).permits ≡ count
-    → TiedStory (f n) requests link (slice_get table n) → TiedStory (g n) (with_permits requests p progress.Waiting count) link (slice_get table n)
+    → TiedStory (f n) requests link (slice_get table n) → TiedStory (g n) (with_permits requests p progress.Begun count) link (slice_get table n)
 story_let f g table requests link p count n names w eased has h = by_entry (slice_get table n) refl h
   where
     within : p < length requests
@@ -121,22 +122,22 @@ story_let f g table requests link p count n names w eased has h = by_entry (slic
     placed : slice_get table (name_at requests p) ≡ Some (Some (record { number = p }))
     placed = name_placed table requests p names within
 
-    permits_now : (q : ℕ) → slice_get table n ≡ Some (Some (record { number = q })) → IsRequest (f n) requests link q → (g n).permits ≡ permits_at (with_permits requests p progress.Waiting count) q
+    permits_now : (q : ℕ) → slice_get table n ≡ Some (Some (record { number = q })) → IsRequest (f n) requests link q → (g n).permits ≡ permits_at (with_permits requests p progress.Begun count) q
     permits_now q e k =
         let r = names.kept n (record { number = q }) e in
         let named : name_at requests q ≡ n = name_of_some requests q r.0 r.1 ∙ r.2 in
         by_test (p == q) _
         (λ t.
         let same = eq_from p q t in
-        ap (λ m. (g m).permits) (sym named ∙ ap (name_at requests) (sym same)) ∙ has ∙ sym (permits_with requests p progress.Waiting count within) ∙ ap (permits_at (with_permits requests p progress.Waiting count)) same)
+        ap (λ m. (g m).permits) (sym named ∙ ap (name_at requests) (sym same)) ∙ has ∙ sym (permits_with requests p progress.Begun count within) ∙ ap (permits_at (with_permits requests p progress.Begun count)) same)
         (λ o.
         let apart = ne_from p q o in
-        ap (λ (s : Story). s.permits) (eased.others n (λ x. apart (same_name table requests p q names within (get_within requests q r.0 r.1) (x ∙ sym named)))) ∙ k.permits_is ∙ sym (permits_other requests p q progress.Waiting count apart))
+        ap (λ (s : Story). s.permits) (eased.others n (λ x. apart (same_name table requests p q names within (get_within requests q r.0 r.1) (x ∙ sym named)))) ∙ k.permits_is ∙ sym (permits_other requests p q progress.Begun count apart))
 
     apart_none : (x : Option (Option Pending)) → slice_get table n ≡ x → ((q : Pending) → x ≡ Some (Some q) → ⊥) → name_at requests p ≢ n
     apart_none x e out same = out (record { number = p }) (sym e ∙ ap (slice_get table) (sym same) ∙ placed)
 
-    by_entry : (x : Option (Option Pending)) → slice_get table n ≡ x → TiedStory (f n) requests link x → TiedStory (g n) (with_permits requests p progress.Waiting count) link x
+    by_entry : (x : Option (Option Pending)) → slice_get table n ≡ x → TiedStory (f n) requests link x → TiedStory (g n) (with_permits requests p progress.Begun count) link x
     by_entry None e s = eased.others n (apart_none None e (λ q i. cc)) ∙ s
     by_entry (Some None) e s = subst (λ (x : Story). TiedStory x requests link (Some None)) (sym (eased.others n (apart_none (Some None) e (λ q i. cc)))) s
     by_entry (Some (Some q)) e s =
@@ -146,88 +147,92 @@ story_let f g table requests link p count n names w eased has h = by_entry (slic
           handed_in = k.submission ∙ s.handed_in;
           in_time = k.late ∙ s.in_time;
           spoken = k.unspoken ∙ s.spoken;
-          on = k.link ∙ s.on;
+          on = λ o. k.link ∙ s.on (sym (test_kept is_open_progress requests p count q.number refl w) ∙ o);
           some = λ none. s.some (ap (λ x. packed_in x) (sym k.submission) ∙ none);
-          open_is = eased_open (f n) (g n) k ∙ s.open_is ∙ sym (test_kept is_open_progress requests p count q.number w);
+          open_is = eased_open (f n) (g n) k ∙ s.open_is ∙ sym (test_kept is_open_progress requests p count q.number refl w);
           permits_is = permits_now q.number e s;
         }
 
 -- what is of a submission is of it still
 of_let : (f g : ℕ → Story) (requests : List Request) (p count m : ℕ) (bytes : List ℕ) (of_shape : Shape) (awaited : Bool) → ((n : ℕ) → IsEased (f n) (g n)) → IsOf (f (name_at requests m)) bytes of_shape awaited
-    → IsOf (g (name_at (with_permits requests p progress.Waiting count) m)) bytes of_shape awaited
+    → IsOf (g (name_at (with_permits requests p progress.Begun count) m)) bytes of_shape awaited
 of_let f g requests p count m bytes of_shape awaited eased h =
-    subst (λ n. IsOf (g n) bytes of_shape awaited) (sym (name_with requests p progress.Waiting count m))
+    subst (λ n. IsOf (g n) bytes of_shape awaited) (sym (name_with requests p progress.Begun count m))
     (of_same (f (name_at requests m)) (g (name_at requests m)) bytes of_shape awaited (sym (eased (name_at requests m)).submission) h)
 
 -- those that wait
-packs_let : (f g : ℕ → Story) (requests : List Request) (p count : ℕ) (ws : List Waiting) → ((n : ℕ) → IsEased (f n) (g n)) → AllByRecursion (IsPacked f requests) ws → AllByRecursion (IsPacked g (with_permits requests p progress.Waiting count)) ws
+packs_let : (f g : ℕ → Story) (requests : List Request) (p count : ℕ) (ws : List Waiting) → ((n : ℕ) → IsEased (f n) (g n)) → AllByRecursion (IsPacked f requests) ws → AllByRecursion (IsPacked g (with_permits requests p progress.Begun count)) ws
 packs_let f g requests p count [] eased all = tt
 packs_let f g requests p count (w ∷ ws) eased all = (
   record {
     is_of = of_let f g requests p count w.number w.packed w.shape w.awaited eased all.0.is_of;
-    time_is = all.0.time_is ∙ sym (eased (name_at requests w.number)).timeout ∙ ap (λ n. (g n).timeout) (sym (name_with requests p progress.Waiting count w.number));
+    time_is = all.0.time_is ∙ sym (eased (name_at requests w.number)).timeout ∙ ap (λ n. (g n).timeout) (sym (name_with requests p progress.Begun count w.number));
   },
   packs_let f g requests p count ws eased all.1,
 )
 
 -- those in the queue
 queued_let : (f g : ℕ → Story) (requests : List Request) (p count : ℕ) (qs : List Queued) → is_waiting_at requests p ≡ true → ((n : ℕ) → IsEased (f n) (g n)) → AllByRecursion (IsQueued f requests) qs
-    → AllByRecursion (IsQueued g (with_permits requests p progress.Waiting count)) qs
+    → AllByRecursion (IsQueued g (with_permits requests p progress.Begun count)) qs
 queued_let f g requests p count [] w eased all = tt
 queued_let f g requests p count (q ∷ qs) w eased all = (
   record {
     is_of = of_let f g requests p count q.id q.packed q.shape q.awaited eased all.0.is_of;
-    placed_at = λ t. test_kept is_placed requests p count q.id w ∙ all.0.placed_at t;
-    told = λ e. ap (λ n. (g n).outcomes) (name_with requests p progress.Waiting count q.id) ∙ (eased (name_at requests q.id)).outcomes ∙ all.0.told e;
+    placed_at = λ t. test_kept is_placed requests p count q.id refl w ∙ all.0.placed_at t;
+    told = λ e. ap (λ n. (g n).outcomes) (name_with requests p progress.Begun count q.id) ∙ (eased (name_at requests q.id)).outcomes ∙ all.0.told e;
   },
   queued_let f g requests p count qs w eased all.1,
 )
 
 -- those in the row
-entries_let : (requests : List Request) (p count : ℕ) (row : List Entry) → is_waiting_at requests p ≡ true → AllByRecursion (IsEntry requests) row → AllByRecursion (IsEntry (with_permits requests p progress.Waiting count)) row
+entries_let : (requests : List Request) (p count : ℕ) (row : List Entry) → is_waiting_at requests p ≡ true → AllByRecursion (IsEntry requests) row → AllByRecursion (IsEntry (with_permits requests p progress.Begun count)) row
 entries_let requests p count [] w all = tt
 entries_let requests p count (e ∷ es) w all = (
   elim all.0 [
-    | inl r ↦ inl (record { below = subst (λ n. e.id < n) (sym (length_with requests p progress.Waiting count)) r.below; placed_at = λ t. test_kept is_placed requests p count e.id w ∙ r.placed_at t })
+    | inl r ↦ inl (record { below = subst (λ n. e.id < n) (sym (length_with requests p progress.Begun count)) r.below; placed_at = λ t. test_kept is_placed requests p count e.id refl w ∙ r.placed_at t })
     | inr a ↦ inr a
   ],
   entries_let requests p count es w all.1,
 )
 
 -- who waits for a place, or for the connection
-kept_let : (requests : List Request) (waiting admitted : List Waiting) (p count m : ℕ) → is_waiting_at requests p ≡ true → IsKept requests waiting admitted m → IsKept (with_permits requests p progress.Waiting count) waiting admitted m
-kept_let requests waiting admitted p count m w (inl a) = inl (test_kept is_admitted requests p count m w ∙ a.0, a.1)
-kept_let requests waiting admitted p count m w (inr v) = inr (test_kept is_waiting requests p count m w ∙ v.0, v.1)
+kept_let : (requests : List Request) (waiting admitted : List Waiting) (p count m : ℕ) → is_waiting_at requests p ≡ true → IsKept requests waiting admitted m → IsKept (with_permits requests p progress.Begun count) waiting admitted m
+kept_let requests waiting admitted p count m w (inl a) = inl (test_kept is_admitted requests p count m refl w ∙ a.0, a.1)
+kept_let requests waiting admitted p count m w (inr v) = inr (test_kept is_waiting requests p count m refl w ∙ v.0, v.1)
 
 -- the lines
 lines_let : (f g : ℕ → Story) (requests : List Request) (link : LinkState) (waiting admitted : List Waiting) (pending started : List ℕ) (p count : ℕ) → is_waiting_at requests p ≡ true → ((n : ℕ) → IsEased (f n) (g n))
-    → TiedLines f requests link waiting admitted pending started → TiedLines g (with_permits requests p progress.Waiting count) link waiting admitted pending started
+    → TiedLines f requests link waiting admitted pending started → TiedLines g (with_permits requests p progress.Begun count) link waiting admitted pending started
 lines_let f g requests link waiting admitted pending started p count w eased h = record {
-  line = subst (Rising 0 (requests_in started ++ (queue_ids link.queue ++ kept_ids admitted waiting))) (sym (length_with requests p progress.Waiting count)) h.line;
+  line = subst (Rising 0 (requests_in started ++ (queue_ids link.queue ++ kept_ids admitted waiting))) (sym (length_with requests p progress.Begun count)) h.line;
   queued = queued_let f g requests p count link.queue w eased h.queued;
   entries = entries_let requests p count link.row w h.entries;
   packs = packs_let f g requests p count waiting eased h.packs;
   packed_in = packs_let f g requests p count admitted eased h.packed_in;
-  there = λ m e. elim (h.there m (sym (test_kept is_open_progress requests p count m w) ∙ e)) [ inl i ↦ inl i | inr k ↦ inr (kept_let requests waiting admitted p count m w k) ];
+  there = λ m e. elim (h.there m (sym (test_kept is_open_progress requests p count m refl w) ∙ e)) [ inl i ↦ inl i | inr k ↦ inr (kept_let requests waiting admitted p count m w k) ];
 }
 
 -- who was told
-told_let : (f g : ℕ → Story) (requests : List Request) (link : LinkState) (p count : ℕ) → ((n : ℕ) → IsEased (f n) (g n)) → AreQueued f requests link → AreQueued g (with_permits requests p progress.Waiting count) link
-told_let f g requests link p count eased h n is none =
-    let k = h n (sym (eased_told (f n) (g n) (eased n)) ∙ is) (sym (eased n).tries ∙ none) in
-    (k.0, subst (λ m. k.0 < m) (sym (length_with requests p progress.Waiting count)) k.1, name_with requests p progress.Waiting count k.0 ∙ k.2, k.3)
+told_let : (f g : ℕ → Story) (requests : List Request) (number : ℕ) (link : LinkState) (p count : ℕ) → ((n : ℕ) → IsEased (f n) (g n)) → AreQueued f requests number link → AreQueued g (with_permits requests p progress.Begun count) number link
+told_let f g requests number link p count eased h = record {
+  told = λ n is none on.
+      let k = h.told n (sym (eased_told (f n) (g n) (eased n)) ∙ is) (sym (eased n).tries ∙ none) (sym (eased n).link ∙ on) in
+      (k.0, subst (λ m. k.0 < m) (sym (length_with requests p progress.Begun count)) k.1, name_with requests p progress.Begun count k.0 ∙ k.2, k.3);
+  here = λ q i. ap (λ n. (g n).link) (name_with requests p progress.Begun count q) ∙ (eased (name_at requests q)).link ∙ h.here q i;
+}
 
 -- what is shown of waits
-waits_let : (f g : ℕ → Story) (requests : List Request) (life : Life) (fresh moved : List ℕ) (p count : ℕ) → is_waiting_at requests p ≡ true → ((n : ℕ) → IsEased (f n) (g n)) → TiedWaits f requests life fresh moved
-    → TiedWaits g (with_permits requests p progress.Waiting count) life fresh moved
-waits_let f g requests life fresh moved p count w eased h =
-    let ss = with_permits requests p progress.Waiting count in
-    let same : (m : ℕ) → shown_wait g ss m ≡ shown_wait f requests m = λ m. ap (λ n. (g n).waiting) (name_with requests p progress.Waiting count m) ∙ (eased (name_at requests m)).waiting in
-    let waits : (m : ℕ) → is_waiting_at ss m ≡ true → is_waiting_at requests m ≡ true = λ m e. sym (test_kept is_waiting requests p count m w) ∙ e in
-    let admits : (m : ℕ) → is_admitted_at ss m ≡ true → is_admitted_at requests m ≡ true = λ m e. sym (test_kept is_admitted requests p count m w) ∙ e in
-    let long = sym (length_with requests p progress.Waiting count) in
+waits_let : (f g : ℕ → Story) (requests : List Request) (life : Life) (fresh moved : List ℕ) (p count : ℕ) → is_waiting_at requests p ≡ true → ((n : ℕ) → (g n).waiting ≡ (f n).waiting) → TiedWaits f requests life fresh moved
+    → TiedWaits g (with_permits requests p progress.Begun count) life fresh moved
+waits_let f g requests life fresh moved p count w still h =
+    let ss = with_permits requests p progress.Begun count in
+    let same : (m : ℕ) → shown_wait g ss m ≡ shown_wait f requests m = λ m. ap (λ n. (g n).waiting) (name_with requests p progress.Begun count m) ∙ still (name_at requests m) in
+    let waits : (m : ℕ) → is_waiting_at ss m ≡ true → is_waiting_at requests m ≡ true = λ m e. sym (test_kept is_waiting requests p count m refl w) ∙ e in
+    let admits : (m : ℕ) → is_admitted_at ss m ≡ true → is_admitted_at requests m ≡ true = λ m e. sym (test_kept is_admitted requests p count m refl w) ∙ e in
+    let long = sym (length_with requests p progress.Begun count) in
     record {
       early = λ m v. one_of (shown_wait g ss m) (shown_wait f requests m) (same m) (h.early m (waits m v));
+      backoff = λ m v d. elim (h.backoff m (waits m v) d) [ inl e ↦ inl e | inr e ↦ inr (same m ∙ e) ];
       connect = λ m v d. elim (h.connect m (waits m v) d) [ inl e ↦ inl e | inr e ↦ inr (same m ∙ e) ];
       creds = λ m link v d. elim (h.creds m link (waits m v) d) [ inl e ↦ inl e | inr e ↦ inr (same m ∙ e) ];
       setup = λ m link u v d. elim (h.setup m link u (waits m v) d) [ inl e ↦ inl e | inr e ↦ inr (same m ∙ e) ];
@@ -236,6 +241,7 @@ waits_let f g requests life fresh moved p count w eased h =
       room = λ m i. elim (h.room m i) [ inl j ↦ inl j | inr e ↦ inr (same m ∙ e) ];
       newer = subst (Rising 0 fresh) long h.newer;
       rising = subst (Rising 0 moved) long h.rising;
+      no_backoff = λ m i v d. same m ∙ h.no_backoff m i (waits m v) d;
       no_connect = λ m i v d e. h.no_connect m i (waits m v) d (sym (same m) ∙ e);
       no_creds = λ m link i v d e. h.no_creds m link i (waits m v) d (sym (same m) ∙ e);
       no_setup = λ m link u i v d e. h.no_setup m link u i (waits m v) d (sym (same m) ∙ e);
@@ -246,80 +252,105 @@ waits_let f g requests life fresh moved p count w eased h =
     }
 
 -- the tries
-tries_let : (l : Ledger) (f g : ℕ → Story) (requests : List Request) (link : ℕ) (started : List ℕ) (p count : ℕ) → ((n : ℕ) → IsEased (f n) (g n)) → TiedTries l f requests link started → TiedTries l g (with_permits requests p progress.Waiting count) link started
+tries_let : (l : Ledger) (f g : ℕ → Story) (requests : List Request) (link : ℕ) (started : List ℕ) (p count : ℕ) → ((n : ℕ) → IsEased (f n) (g n)) → TiedTries l f requests link started → TiedTries l g (with_permits requests p progress.Begun count) link started
 tries_let l f g requests link started p count eased before =
-    let h = tries_same l f g requests link started (λ n. sym (eased n).submission) (λ n. sym (eased n).tries) before in
-    let still = name_with requests p progress.Waiting count in
-    let within : (m : ℕ) → m < length (with_permits requests p progress.Waiting count) → m < length requests = λ m l. subst (λ x. m < x) (length_with requests p progress.Waiting count) l in
+    let h = tries_same l f g requests link started (λ n. sym (eased n).submission) (λ n. sym (eased n).tries) (λ n. sym (eased n).link) before in
+    let still = name_with requests p progress.Begun count in
+    let within : (m : ℕ) → m < length (with_permits requests p progress.Begun count) → m < length requests = λ m l. subst (λ x. m < x) (length_with requests p progress.Begun count) l in
     record {
       owners = λ plain. h.owners plain ∙ ap (setup_owners (setup_count l.starts)) (sym (owners_let started));
       greeted = h.greeted;
       shapes = λ k m s l i j. h.shapes k m s (within m l) i j ∙ ap (λ n. shape (g n)) (sym (still m));
       tried = λ k m l i. ap (λ n. (g n).tries) (still m) ∙ h.tried k m (within m l) i;
-      untried = λ m r i out. let x = was_with requests p progress.Waiting count m r i in ap (λ n. (g n).tries) (sym x.2) ∙ h.untried m x.0 x.1 out;
+      untried = λ m r i out on. let x = was_with requests p progress.Begun count m r i in ap (λ n. (g n).tries) (sym x.2) ∙ h.untried m x.0 x.1 out (ap (λ n. (g n).link) x.2 ∙ on);
     }
   where
-    owners_let : (ms : List ℕ) → owners_each (with_permits requests p progress.Waiting count) ms ≡ owners_each requests ms
+    owners_let : (ms : List ℕ) → owners_each (with_permits requests p progress.Begun count) ms ≡ owners_each requests ms
     owners_let [] = refl
-    owners_let (m ∷ ms) = λ i. owners_with requests p progress.Waiting count i m ∷ owners_let ms i
+    owners_let (m ∷ ms) = λ i. owners_with requests p progress.Begun count i m ∷ owners_let ms i
 
 -- the permits
 permits_eased : (f g : ℕ → Story) (table : List (Option Pending)) (submissions : ℕ) (requests : List Request) (link : ℕ) (limit : Option ℕ) (free now : ℕ) (letting : List ℕ) (p count : ℕ) → TiedNames table requests → is_waiting_at requests p ≡ true
     → ((m : ℕ) → IsIn m letting → p ≡ m) → AreEased f g (name_at requests p) → ((k : ℕ) → limit ≡ Some k → permits_held g link submissions + now ≡ k) → TiedPermits f submissions requests link limit free letting
-    → TiedPermits g submissions (with_permits requests p progress.Waiting count) link limit now (p ∷ [])
+    → TiedPermits g submissions (with_permits requests p progress.Begun count) link limit now (p ∷ [])
 permits_eased f g table submissions requests link limit free now letting p count names w alone eased sum h =
     let within = there_within is_waiting requests p w in
-    let ss = with_permits requests p progress.Waiting count in
+    let ss = with_permits requests p progress.Begun count in
     let own : (m : ℕ) → m < length requests → p ≢ m → g (name_at ss m) ≡ f (name_at requests m) = λ m inside o.
-    ap g (name_with requests p progress.Waiting count m) ∙ eased.others (name_at requests m) (λ e. o (same_name table requests p m names within inside e)) in
-    let apart : (test : Progress → Bool) → test progress.Waiting ≡ false → (m : ℕ) → if_there test (slice_get ss m) ≡ true → (p ≢ m) × (if_there test (slice_get requests m) ≡ true) = λ test no m e.
-    ((λ same. not_both (if_there test (slice_get ss m)) (ap (λ k. if_there test (slice_get ss k)) (sym same) ∙ with_same test requests p progress.Waiting count within ∙ no) e), sym (test_kept test requests p count m w) ∙ e) in
+    ap g (name_with requests p progress.Begun count m) ∙ eased.others (name_at requests m) (λ e. o (same_name table requests p m names within inside e)) in
+    let apart : (test : Progress → Bool) → test progress.Waiting ≡ test progress.Begun → test progress.Begun ≡ false → (m : ℕ) → if_there test (slice_get ss m) ≡ true → (p ≢ m) × (if_there test (slice_get requests m) ≡ true) = λ test blind no m e.
+    ((λ same. not_both (if_there test (slice_get ss m)) (ap (λ k. if_there test (slice_get ss k)) (sym same) ∙ with_same test requests p progress.Begun count within ∙ no) e), sym (test_kept test requests p count m blind w) ∙ e) in
     record {
       counted = sum;
       none = λ m v out.
           let other : p ≢ m = λ e. out (inl e) in
-          let was = sym (test_kept is_waiting requests p count m w) ∙ v in
+          let was = sym (test_kept is_waiting requests p count m refl w) ∙ v in
           let k = h.none m was (λ i. other (alone m i)) in
-          (permits_other requests p m progress.Waiting count other ∙ k.0, ap (λ (s : Story). s.clock) (own m (there_within is_waiting requests m was) other) ∙ k.1);
+          (permits_other requests p m progress.Begun count other ∙ k.0, ap (λ (s : Story). s.clock) (own m (there_within is_waiting requests m was) other) ∙ k.1);
       let_in = λ m e. elim e [
-        | inl a ↦ let k = apart is_admitted refl m a in ap (is_let_in limit) (own m (there_within is_admitted requests m k.1) k.0) ∙ h.let_in m (inl k.1)
-        | inr a ↦ let k = apart is_placed refl m a in ap (is_let_in limit) (own m (there_within is_placed requests m k.1) k.0) ∙ h.let_in m (inr k.1)
+        | inl a ↦ let k = apart is_admitted refl refl m a in ap (is_let_in limit) (own m (there_within is_admitted requests m k.1) k.0) ∙ h.let_in m (inl k.1)
+        | inr a ↦ let k = apart is_placed refl refl m a in ap (is_let_in limit) (own m (there_within is_placed requests m k.1) k.0) ∙ h.let_in m (inr k.1)
       ];
     }
 
--- the session with that request let in so far, and these timers
-abbrev pub lets : Inner → ℕ → ℕ → ℕ → List Purpose → Inner
-lets t p count free timers = record t { requests = with_permits t.requests p progress.Waiting count; free = free; timers = timers; letting = p ∷ [] }
+-- the session where that request waits on, its round begun, and these are let in
+abbrev pub waits_on : Inner → ℕ → ℕ → ℕ → List Purpose → List ℕ → Inner
+waits_on t p count free timers letting = record t { requests = with_permits t.requests p progress.Begun count; free = free; timers = timers; letting = letting }
 
--- it is tied to the book with these stories and timers
-let_tied : (b : Book) (t : Inner) (p count free : ℕ) (g : ℕ → Story) (noted timers : List Purpose) → is_waiting_at t.requests p ≡ true → ((m : ℕ) → IsIn m t.letting → p ≡ m) → AreEased b.story g (name_at t.requests p)
-    → (g (name_at t.requests p)).permits ≡ count → ((k : ℕ) → t.limit ≡ Some k → permits_held g t.link b.submissions + free ≡ k) → TiedNumbers (record b { story = g; timers = noted }) (lets t p count free timers) → Tied b t
-    → Tied (record b { story = g; timers = noted }) (lets t p count free timers)
-let_tied b t p count free g noted timers w alone eased has sum numbers h = record {
+-- so it is with that request let in so far
+abbrev pub lets : Inner → ℕ → ℕ → ℕ → List Purpose → Inner
+lets t p count free timers = waits_on t p count free timers (p ∷ [])
+
+-- it is tied to the book with these stories and timers, where its waits, its permits and its rounds are
+pub waits_on_tied : (b : Book) (t : Inner) (p count free : ℕ) (g : ℕ → Story) (noted timers : List Purpose) (letting : List ℕ) → is_ready t.life ≡ true → is_waiting_at t.requests p ≡ true → AreEased b.story g (name_at t.requests p) → (g (name_at t.requests p)).permits ≡ count
+    → TiedNumbers (record b { story = g; timers = noted }) (waits_on t p count free timers letting) → (let requests = with_permits t.requests p progress.Begun count in
+    TiedWaits g requests t.life t.fresh t.moved → TiedPermits g b.submissions requests t.link t.limit free letting → TiedRounds (has_generations b) g requests (is_ready t.life) t.fresh t.rounds → Tied b t
+    → Tied (record b { story = g; timers = noted }) (waits_on t p count free timers letting))
+waits_on_tied b t p count free g noted timers letting ready w eased has numbers waits permits rounds h = record {
   numbers = numbers;
   others = h.others;
   notices = h.notices;
   life = h.life;
+  course = h.course;
+  calm = h.calm;
   creds = h.creds;
-  count = h.count;
+  creation = h.creation;
+  uses = h.uses;
   renewal = h.renewal;
   setup = h.setup;
-  link = λ e. carried_tied t.life t.requests (with_permits t.requests p progress.Waiting count) (b.link t.link) (sym (owners_with t.requests p progress.Waiting count)) (h.link e);
-  names = names_with t.table t.requests p progress.Waiting count h.names;
+  link = λ e. carried_tied t.life t.requests (with_permits t.requests p progress.Begun count) (b.link t.link) (sym (owners_with t.requests p progress.Begun count)) (h.link e);
+  names = names_with t.table t.requests p progress.Begun count h.names;
   story = λ n. story_let b.story g t.table t.requests t.link p count n h.names w eased has (h.story n);
   tries = tries_let (b.link t.link) b.story g t.requests t.link t.started p count eased.each h.tries;
   lines = lines_let b.story g t.requests (link_in t.life) t.waiting t.admitted t.pending t.started p count w eased.each h.lines;
-  told = λ e. told_let b.story g t.requests (link_in t.life) p count eased.each (h.told e);
-  waits = waits_let b.story g t.requests t.life t.fresh t.moved p count w eased.each h.waits;
-  permits = permits_eased b.story g t.table b.submissions t.requests t.link t.limit t.free free t.letting p count h.names w alone eased sum h.permits;
-  late = λ m o e. h.late m (sym (test_kept is_open_progress t.requests p count m w) ∙ o)
-      (sym (eased.each (name_at t.requests m)).overdue ∙ ap (λ n. (g n).overdue) (sym (name_with t.requests p progress.Waiting count m)) ∙ e);
+  told = λ e. told_let b.story g t.requests t.link (link_in t.life) p count eased.each (h.told e);
+  waits = waits;
+  permits = permits;
+  rounds = rounds;
+  early = λ unready. absurd (not_both (is_ready t.life) unready ready);
+  late = λ m o e. h.late m (sym (test_kept is_open_progress t.requests p count m refl w) ∙ o)
+      (sym (eased.each (name_at t.requests m)).overdue ∙ ap (λ n. (g n).overdue) (sym (name_with t.requests p progress.Begun count m)) ∙ e);
 }
+
+-- of stories whose waits and rounds are as they were
+pub record AreStill (f g : ℕ → Story) : Type 0 where
+  pub waiting : (n : ℕ) → (g n).waiting ≡ (f n).waiting
+  pub rounded : SameRounds f g
+
+-- so it is while it is let in
+let_tied : (b : Book) (t : Inner) (p count free : ℕ) (g : ℕ → Story) (noted timers : List Purpose) → is_ready t.life ≡ true → is_waiting_at t.requests p ≡ true → HasBegun t p → ((m : ℕ) → IsIn m t.letting → p ≡ m) → AreEased b.story g (name_at t.requests p) → AreStill b.story g
+    → (g (name_at t.requests p)).permits ≡ count → ((k : ℕ) → t.limit ≡ Some k → permits_held g t.link b.submissions + free ≡ k) → TiedNumbers (record b { story = g; timers = noted }) (lets t p count free timers) → Tied b t
+    → Tied (record b { story = g; timers = noted }) (lets t p count free timers)
+let_tied b t p count free g noted timers ready w begun alone eased still has sum numbers h =
+    let o = waiting_open t.requests p w in
+    waits_on_tied b t p count free g noted timers (p ∷ []) ready w eased has numbers (waits_let b.story g t.requests t.life t.fresh t.moved p count w still.waiting h.waits)
+    (permits_eased b.story g t.table b.submissions t.requests t.link t.limit t.free free t.letting p count h.names w alone eased sum h.permits)
+    (rounds_with b.story g t.requests t.fresh p progress.Begun count (there_within is_waiting t.requests p w) refl still.rounded (λ shows unclosed. h.rounds.begun p shows o (begun shows)) h.rounds) h
 
 -- whose step is first
 --
 -- the first of those that wait for the connection, or for a permit, where those that wait for a place find the queue full
-first_early : (b : Book) (t : Inner) (q : ℕ) (rest : List ℕ) → Tied b t → IsRunning t → ((link_in t.life).queue ≡ []) ⊎ (holds_back (link_in t.life) ≡ true) → (t.admitted ≡ []) ⊎ (is_full_beside (link_in t.life) (in_front t.renewal) ≡ true) → waiting_ids t.waiting ≡ q ∷ rest
+pub first_early : (b : Book) (t : Inner) (q : ℕ) (rest : List ℕ) → Tied b t → IsRunning t → ((link_in t.life).queue ≡ []) ⊎ (holds_back (link_in t.life) ≡ true) → (t.admitted ≡ []) ⊎ (is_full_beside (link_in t.life) (in_front t.renewal) ≡ true) → waiting_ids t.waiting ≡ q ∷ rest
     → IsFirstToMove b (name_at t.requests q)
 first_early b t q rest h r still full first n before m =
     let ids = queue_ids (link_in t.life).queue in
@@ -354,6 +385,7 @@ pub record IsOpening (t : Inner) (link : LinkState) (q : Waiting) (qs : List Wai
   pub renewed : HasRenewed t.renewal t.life
   pub waiting : t.waiting ≡ q ∷ qs
   pub is_waiting : is_waiting_at t.requests q.number ≡ true
+  pub begun : HasBegun t q.number
 
 -- it runs
 opening_running : (t : Inner) (link : LinkState) (q : Waiting) (qs : List Waiting) → IsOpening t link q qs → IsRunning t
@@ -395,50 +427,58 @@ may_take b t link q qs k o alone e some h ends =
     record {
       begun = begun_up b t h (opening_running t link q qs o) o.told ends o.renewed;
       unstarted = opening_unstarted b t link q qs o h;
-      takes = take_step b t p k h (opening_running t link q qs o) o.is_waiting (λ i. subst (IsIn p) alone i) e some
+      takes = take_step b t p k h (opening_running t link q qs o) o.is_waiting o.begun (λ i. subst (IsIn p) alone i) e some
           ∙ ap (λ x. takes (min t.free (permits_for x k))) (sym (opening_packed b t link q qs o h).is_of.shape_is);
       in_order = opening_first b t link q qs o h;
-      on_its_link = sym (request_story b t p h within).on;
+      on_its_link = sym (open_on b t p h (waiting_open t.requests p o.is_waiting));
     }
 
 -- one story changes
-eased_at : (f : ℕ → Story) (n : ℕ) (c : Story → Story) → ((m : ℕ) → IsEased (f m) (c (f m))) → AreEased f (λ m. if_own (n == m) (c (f m)) (f m)) n
+pub eased_at : (f : ℕ → Story) (n : ℕ) (c : Story → Story) → ((m : ℕ) → IsEased (f m) (c (f m))) → AreEased f (λ m. if_own (n == m) (c (f m)) (f m)) n
 eased_at f n c eased = record {
   each = λ m. chosen (λ (x : Story). IsEased (f m) x) (n == m) (c (f m)) (f m) (λ t. eased m) (λ e. eased_same (f m));
   others = λ m o. left_if (n == m) (c (f m)) (f m) (ne_test n m o);
 }
 
+-- its wait and its round are as they were
+still_at : (f : ℕ → Story) (n : ℕ) (c : Story → Story) → ((s : Story) → (c s).waiting ≡ s.waiting) → ((s : Story) → (c s).rounded ≡ s.rounded) → AreStill f (λ m. if_own (n == m) (c (f m)) (f m))
+still_at f n c waits rounds = record {
+  waiting = λ m. chosen (λ (x : Story). x.waiting ≡ (f m).waiting) (n == m) (c (f m)) (f m) (λ t. waits (f m)) (λ e. refl);
+  rounded = λ m. chosen (λ (x : Story). x.rounded ≡ (f m).rounded) (n == m) (c (f m)) (f m) (λ t. rounds (f m)) (λ e. refl);
+}
+
 -- what it takes is shown
-take_tied : (b : Book) (t : Inner) (p count : ℕ) → is_waiting_at t.requests p ≡ true → t.letting ≡ [] → count ≤ t.free → Tied b t
+take_tied : (b : Book) (t : Inner) (p count : ℕ) → is_ready t.life ≡ true → is_waiting_at t.requests p ≡ true → HasBegun t p → t.letting ≡ [] → count ≤ t.free → Tied b t
     → Tied (entered b (action.Took (owner.Try (name_at t.requests p) 0) t.link count)) (lets t p count (t.free - count) t.timers)
-take_tied b t p count w alone most h =
+take_tied b t p count ready w begun alone most h =
     let n = name_at t.requests p in
     let within = there_within is_waiting t.requests p w in
     let g : ℕ → Story = λ m. if_own (n == m) (holds (b.story m) count) (b.story m) in
-    let eased = eased_at b.story n (λ s. holds s count) (λ m. record { submission = refl; late = refl; unspoken = refl; link = refl; timeout = refl; overdue = refl; tries = refl; waiting = refl; outcomes = refl; cancelled = refl }) in
+    let eased = eased_at b.story n (λ s. holds s count) (λ m. record { submission = refl; late = refl; unspoken = refl; link = refl; timeout = refl; overdue = refl; tries = refl; outcomes = refl; cancelled = refl }) in
     let own : g n ≡ holds (b.story n) count = taken_if (n == n) (holds (b.story n) count) (b.story n) (eq_test n n refl) in
     let r = request_story b t p h within in
+    let on = r.on (waiting_open t.requests p w) in
     let none = h.permits.none p w (λ i. subst (IsIn p) alone i) in
     let known : n < b.submissions = (let l = name_within t.table t.requests p h.names within in let e = h.numbers.submissions in omega arith) in
-    let_tied b t p count (t.free - count) g b.timers t.timers w (λ m i. absurd (subst (IsIn m) alone i)) eased (ap (λ (s : Story). s.permits) own)
+    let_tied b t p count (t.free - count) g b.timers t.timers ready w begun (λ m i. absurd (subst (IsIn m) alone i)) eased (still_at b.story n (λ s. holds s count) (λ m. refl) (λ m. refl)) (ap (λ (s : Story). s.permits) own)
     (λ k e.
     let was = h.permits.counted k e in
     let change = held_changed b.story g t.link b.submissions n known (λ m o. ap (permits_on t.link) (eased.others m (λ x. o (sym x)))) in
-    let before = on_this t.link (b.story n) r.on ∙ r.permits_is ∙ none.0 in
-    let after = on_this t.link (g n) (ap (λ (s : Story). s.link) own ∙ r.on) ∙ ap (λ (s : Story). s.permits) own in
+    let before = on_this t.link (b.story n) on ∙ r.permits_is ∙ none.0 in
+    let after = on_this t.link (g n) (ap (λ (s : Story). s.link) own ∙ on) ∙ ap (λ (s : Story). s.permits) own in
     omega arith)
-    (numbers_kept b b.link g t t.life (t.free - count) (with_permits t.requests p progress.Waiting count) t.waiting t.admitted t.fresh t.moved (p ∷ []) t.pending t.started h.numbers) h
+    (numbers_kept b b.link g b.tracked b.errors t t.life (t.free - count) (with_permits t.requests p progress.Begun count) t.waiting t.admitted t.fresh t.moved (p ∷ []) t.pending t.started h.numbers.unrepeated h.numbers) h
 
 -- where permits aren't counted nothing is
-free_tied : (b : Book) (t : Inner) (p : ℕ) → is_waiting_at t.requests p ≡ true → t.letting ≡ [] → t.limit ≡ None → Tied b t → Tied b (lets t p 0 (t.free - 0) t.timers)
-free_tied b t p w alone e h =
+free_tied : (b : Book) (t : Inner) (p : ℕ) → is_ready t.life ≡ true → is_waiting_at t.requests p ≡ true → HasBegun t p → t.letting ≡ [] → t.limit ≡ None → Tied b t → Tied b (lets t p 0 (t.free - 0) t.timers)
+free_tied b t p ready w begun alone e h =
     let n = name_at t.requests p in
     let within = there_within is_waiting t.requests p w in
     let r = request_story b t p h within in
     let none = h.permits.none p w (λ i. subst (IsIn p) alone i) in
-    let_tied b t p 0 (t.free - 0) b.story b.timers t.timers w (λ m i. absurd (subst (IsIn m) alone i)) (none_eased b.story n) (r.permits_is ∙ none.0)
+    let_tied b t p 0 (t.free - 0) b.story b.timers t.timers ready w begun (λ m i. absurd (subst (IsIn m) alone i)) (none_eased b.story n) (record { waiting = λ m. refl; rounded = λ m. refl }) (r.permits_is ∙ none.0)
     (λ k x. (let no_limit : ◌≡◌ {A = Option ℕ} None (Some k) = sym e ∙ x in cc))
-    (numbers_kept b b.link b.story t t.life (t.free - 0) (with_permits t.requests p progress.Waiting 0) t.waiting t.admitted t.fresh t.moved (p ∷ []) t.pending t.started h.numbers) h
+    (numbers_kept b b.link b.story b.tracked b.errors t t.life (t.free - 0) (with_permits t.requests p progress.Begun 0) t.waiting t.admitted t.fresh t.moved (p ∷ []) t.pending t.started h.numbers.unrepeated h.numbers) h
 
 -- its timer is asked for
 --
@@ -459,47 +499,52 @@ may_time b t link q qs number ms o h ends counted has time none =
       n = name_at t.requests p;
       begun = begun_up b t h (opening_running t link q qs o) o.told ends o.renewed;
       unstarted = opening_unstarted b t link q qs o h;
-      asks = ask_step b t p ms h (opening_running t link q qs o) (waiting_open t.requests p o.is_waiting) has (sym (opening_packed b t link q qs o h).time_is ∙ time) none;
+      asks = ask_step b t p ms h (opening_running t link q qs o) (waiting_open t.requests p o.is_waiting) o.begun has (sym (opening_packed b t link q qs o h).time_is ∙ time) none;
       in_order = opening_first b t link q qs o h;
       next = counted ∙ ap length (sym h.numbers.timers);
       is_for = refl;
     }
 
 -- and is
-ask_tied : (b : Book) (t : Inner) (p number ms : ℕ) → is_waiting_at t.requests p ≡ true → ((m : ℕ) → IsIn m t.letting → p ≡ m) → Tied b t
+ask_tied : (b : Book) (t : Inner) (p number ms : ℕ) → is_ready t.life ≡ true → is_waiting_at t.requests p ≡ true → HasBegun t p → ((m : ℕ) → IsIn m t.letting → p ≡ m) → Tied b t
     → Tied (entered b (action.Timer number ms (purpose.Response (owner.Try (name_at t.requests p) 0)))) (lets t p (permits_at t.requests p) t.free (t.timers ++ purpose.Response (owner.Try (name_at t.requests p) 0) ∷ []))
-ask_tied b t p number ms w alone h =
+ask_tied b t p number ms ready w begun alone h =
     let n = name_at t.requests p in
     let within = there_within is_waiting t.requests p w in
     let what = purpose.Response (owner.Try n 0) in
     let g : ℕ → Story = λ m. if_own (n == m) (clocked (b.story m) number) (b.story m) in
-    let eased = eased_at b.story n (λ s. clocked s number) (λ m. record { submission = refl; late = refl; unspoken = refl; link = refl; timeout = refl; overdue = refl; tries = refl; waiting = refl; outcomes = refl; cancelled = refl }) in
+    let eased = eased_at b.story n (λ s. clocked s number) (λ m. record { submission = refl; late = refl; unspoken = refl; link = refl; timeout = refl; overdue = refl; tries = refl; outcomes = refl; cancelled = refl }) in
     let own : g n ≡ clocked (b.story n) number = taken_if (n == n) (clocked (b.story n) number) (b.story n) (eq_test n n refl) in
     let r = request_story b t p h within in
     let known = name_within t.table t.requests p h.names within in
     let hold : (m : ℕ) → permits_on t.link (g m) ≡ permits_on t.link (b.story m) = λ m.
     chosen (λ (x : Story). permits_on t.link x ≡ permits_on t.link (b.story m)) (n == m) (clocked (b.story m) number) (b.story m) (λ t. refl) (λ f. refl) in
-    let k = numbers_kept b b.link g t t.life t.free (with_permits t.requests p progress.Waiting (permits_at t.requests p)) t.waiting t.admitted t.fresh t.moved (p ∷ []) t.pending t.started h.numbers in
-    let_tied b t p (permits_at t.requests p) t.free g (b.timers ++ what ∷ []) (t.timers ++ what ∷ []) w alone eased (ap (λ (s : Story). s.permits) own ∙ r.permits_is)
+    let k = numbers_kept b b.link g b.tracked b.errors t t.life t.free (with_permits t.requests p progress.Begun (permits_at t.requests p)) t.waiting t.admitted t.fresh t.moved (p ∷ []) t.pending t.started h.numbers.unrepeated h.numbers in
+    let_tied b t p (permits_at t.requests p) t.free g (b.timers ++ what ∷ []) (t.timers ++ what ∷ []) ready w begun alone eased (still_at b.story n (λ s. clocked s number) (λ m. refl) (λ m. refl)) (ap (λ (s : Story). s.permits) own ∙ r.permits_is)
     (λ k e. ap (λ x. x + t.free) (held_same b.story g t.link b.submissions (λ m l. hold m)) ∙ h.permits.counted k e)
     (record {
       turns = k.turns;
       links = k.links;
       timers = ap (λ ts. ts ++ what ∷ []) h.numbers.timers;
       sources = k.sources;
-      uses = k.uses;
       aims = aims_more t.timers t.link (length t.table) n known h.numbers.aims;
-      timed = λ config word opens bounded none. some_more b.timers what none;
+      timed = k.timed;
       submissions = k.submissions;
       timeout = k.timeout;
       shut = k.shut;
       within = k.within;
       few = k.few;
+      unrepeated = k.unrepeated;
       settings = record { size_is = k.settings.size_is; bound_is = k.settings.bound_is; limit_is = k.settings.limit_is; some = k.settings.some; limited = k.settings.limited };
       kind_is = k.kind_is;
       quiet = k.quiet;
-      one = k.one;
-      only = k.only;
+      comes_back = k.comes_back;
+      lazy = k.lazy;
+      current_is = k.current_is;
+      speaks = k.speaks;
+      address_is = k.address_is;
+      wants = k.wants;
+      alone = k.alone;
     }) h
 
 -- a request is let in by its connection
@@ -520,7 +565,7 @@ pub record HasTaken (before : List Action) (f : Core) (t : Inner) (p count : ℕ
   pub going : IsGoing (trace_of_acts before f acts) (lets t p count (t.free - count) (f.timers ++ timers_of f.single.link acts))
   pub has : (is_none t.limit || nat_lt 0 ((book (trace_of_acts before f acts)).story (name_at t.requests p)).permits) ≡ true
   pub none : ((book (trace_of_acts before f acts)).story (name_at t.requests p)).clock ≡ None
-  pub sourced : f.sources ++ sources_of f.single.link (length f.sources) acts ≡ t.sources
+  pub sourced : f.sources ++ sources_of f.single.link acts ≡ t.sources
 
 -- where permits are counted it has taken some
 some_taken : (before : List Action) (f : Core) (acts : List LinkAct) (conn : MultiplexedConnection) (started : List ℕ) (link : LinkState) (q : Waiting) (qs : List Waiting) (k : ℕ) → IsOpening (seen f acts conn [] started) link q qs → conn.limit ≡ Some k → conn.free ≢ 0
@@ -539,7 +584,7 @@ some_taken before f acts conn started link q qs k o e some h =
     let after = lets t p count (conn.free - count) t.timers in
     let first : IsGoing (trace ++ taken ∷ []) after = going_more trace taken after h.sound.stands
     (refl, may_take b t link q qs k o refl e some h.sound.tied h.ended)
-    (take_tied b t p count o.is_waiting refl most.0 h.sound.tied)
+    (take_tied b t p count (ap is_ready o.life) o.is_waiting o.begun refl most.0 h.sound.tied)
     h.ended h.renewed in
     let there = subst (λ (x : List Action). IsGoing x after) (sym (shown_more before f.single.link (length f.timers) (length f.sources) acts a)) first in
     let book_is = book_of_more before f acts a in
@@ -549,7 +594,7 @@ some_taken before f acts conn started link q qs k o e some h =
       going = subst (λ ts. IsGoing (trace_of_acts before f (acts ++ a ∷ [])) (lets t p count (conn.free - count) (f.timers ++ ts))) (sym (quiet_timers f.single.link acts a refl)) there;
       has = ap (λ (x : Story). is_none conn.limit || nat_lt 0 x.permits) story_is ∙ ap (λ x. is_none conn.limit || x) (some_less count most.1) ∙ or_true (is_none conn.limit);
       none = ap (λ (x : Story). x.clock) story_is ∙ (h.sound.tied.permits.none p o.is_waiting (λ i. i)).1;
-      sourced = ap (λ ss. f.sources ++ ss) (quiet_sources f.single.link (length f.sources) acts a refl);
+      sourced = ap (λ ss. f.sources ++ ss) (quiet_sources f.single.link acts a refl);
     }
   where
     some_less : (n : ℕ) → 0 < n → nat_lt 0 n ≡ true
@@ -561,7 +606,7 @@ none_taken : (before : List Action) (f : Core) (acts : List LinkAct) (conn : Mul
 none_taken before f acts conn started link q qs o e h =
     let t = seen f acts conn [] started in
     record {
-      going = record { sound = record { stands = h.sound.stands; tied = free_tied (book (trace_of_acts before f acts)) t q.number o.is_waiting refl e h.sound.tied }; ended = h.ended; renewed = h.renewed };
+      going = record { sound = record { stands = h.sound.stands; tied = free_tied (book (trace_of_acts before f acts)) t q.number (ap is_ready o.life) o.is_waiting o.begun refl e h.sound.tied }; ended = h.ended; renewed = h.renewed };
       has = ap (λ (x : Option ℕ). is_none x || nat_lt 0 ((book (trace_of_acts before f acts)).story (name_at conn.requests q.number)).permits) e;
       none = (h.sound.tied.permits.none q.number o.is_waiting (λ i. i)).1;
       sourced = refl;
@@ -587,7 +632,7 @@ has_taken before f acts conn started link q qs (Some k) o e some h =
 pub record HasLet (before : List Action) (f : Core) (t : Inner) (p count : ℕ) (acts : List LinkAct) : Type 0 where
   pub going : IsGoing (trace_of_acts before f acts) (lets t p count (t.free - count) (f.timers ++ timers_of f.single.link acts))
   pub is : is_let_in t.limit ((book (trace_of_acts before f acts)).story (name_at t.requests p)) ≡ true
-  pub sourced : f.sources ++ sources_of f.single.link (length f.sources) acts ≡ t.sources
+  pub sourced : f.sources ++ sources_of f.single.link acts ≡ t.sources
 
 -- it is still to be let in when it holds its permits
 opening_taken : (t : Inner) (link : LinkState) (q : Waiting) (qs : List Waiting) (count free : ℕ) (timers : List Purpose) → IsOpening t link q qs → IsOpening (lets t q.number count free timers) link q qs
@@ -601,7 +646,8 @@ opening_taken t link q qs count free timers o = record {
   seats = o.seats;
   renewed = o.renewed;
   waiting = o.waiting;
-  is_waiting = with_same is_waiting t.requests q.number progress.Waiting count (there_within is_waiting t.requests q.number o.is_waiting);
+  is_waiting = with_same is_waiting t.requests q.number progress.Begun count (there_within is_waiting t.requests q.number o.is_waiting);
+  begun = λ shows. with_same is_unbegun t.requests q.number progress.Begun count (there_within is_waiting t.requests q.number o.is_waiting);
 }
 
 -- where it has no time, no timer is asked for
@@ -612,7 +658,7 @@ let_untimed before f t link q qs count acts o e h =
     let timers = f.timers ++ timers_of f.single.link acts in
     let now = lets t q.number count (t.free - count) timers in
     let packed = opening_packed b now link q qs (opening_taken t link q qs count (t.free - count) timers o) h.going.sound.tied in
-    let time : (b.story n).timeout ≡ None = ap (λ m. (b.story m).timeout) (sym (name_with t.requests q.number progress.Waiting count q.number)) ∙ sym packed.time_is ∙ e in
+    let time : (b.story n).timeout ≡ None = ap (λ m. (b.story m).timeout) (sym (name_with t.requests q.number progress.Begun count q.number)) ∙ sym packed.time_is ∙ e in
     record { going = h.going; is = λ i. h.has i && (is_none (time i) || is_some (b.story n).clock); sourced = h.sourced }
 
 -- where it has one, it is
@@ -626,7 +672,7 @@ let_timed before f t link q qs count ms acts o e same h =
     let timers = f.timers ++ timers_of f.single.link acts in
     let now = lets t p count (t.free - count) timers in
     let within = there_within is_waiting t.requests p o.is_waiting in
-    let named = name_with t.requests p progress.Waiting count p in
+    let named = name_with t.requests p progress.Begun count p in
     let number = length f.timers + length (timers_of f.single.link acts) in
     let what = purpose.Response (owner.Try n 0) in
     let timer = action.Timer number ms what in
@@ -636,12 +682,12 @@ let_timed before f t link q qs count ms acts o e same h =
     let may = may_time b now link q qs number ms opening h.going.sound.tied h.going.ended (sym (length-append f.timers (timers_of f.single.link acts)))
     (ap (λ m. is_none t.limit || nat_lt 0 (b.story m).permits) named ∙ h.has) e (ap (λ m. (b.story m).clock) named ∙ h.none) in
     let stands : MayTime b number ms what = subst (λ m. MayTime b number ms (purpose.Response (owner.Try m 0))) named may in
-    let asked = ask_tied b now p number ms opening.is_waiting alone h.going.sound.tied in
-    let again = permits_twice t.requests p progress.Waiting progress.Waiting count (permits_at now.requests p) ∙ ap (with_permits t.requests p progress.Waiting) (permits_with t.requests p progress.Waiting count within) in
+    let asked = ask_tied b now p number ms (ap is_ready o.life) opening.is_waiting opening.begun alone h.going.sound.tied in
+    let again = permits_twice t.requests p progress.Begun progress.Begun count (permits_at now.requests p) ∙ ap (with_permits t.requests p progress.Begun) (permits_with t.requests p progress.Begun count within) in
     let after = lets t p count (t.free - count) (timers ++ what ∷ []) in
     let tied : Tied (entered b timer) after =
     subst (λ (x : List Request). Tied (entered b timer) (record after { requests = x })) again
-    (subst (λ m. Tied (entered b (action.Timer number ms (purpose.Response (owner.Try m 0)))) (record after { requests = with_permits now.requests p progress.Waiting (permits_at now.requests p); timers = timers ++ purpose.Response (owner.Try m 0) ∷ [] })) named asked) in
+    (subst (λ m. Tied (entered b (action.Timer number ms (purpose.Response (owner.Try m 0)))) (record after { requests = with_permits now.requests p progress.Begun (permits_at now.requests p); timers = timers ++ purpose.Response (owner.Try m 0) ∷ [] })) named asked) in
     let first : IsGoing (trace ++ timer ∷ []) after = going_more trace timer after h.going.sound.stands (inr (inl stands)) tied h.going.ended h.going.renewed in
     let there = subst (λ (x : List Action). IsGoing x after) (sym (shown_more before f.single.link (length f.timers) (length f.sources) acts a)) first in
     let own : (entered b timer).story n ≡ clocked (b.story n) number = taken_if (n == n) (clocked (b.story n) number) (b.story n) (eq_test n n refl) in
@@ -649,7 +695,7 @@ let_timed before f t link q qs count ms acts o e same h =
     record {
       going = subst (λ ts. IsGoing (trace_of_acts before f (acts ++ a ∷ [])) (lets t p count (t.free - count) ts)) (append_assoc f.timers (timers_of f.single.link acts) (what ∷ []) ∙ ap (λ ts. f.timers ++ ts) (sym (timers_more f.single.link acts a))) there;
       is = ap (is_let_in t.limit) story_is ∙ (λ i. h.has i && or_true (is_none (b.story n).timeout) i);
-      sourced = ap (λ ss. f.sources ++ ss) (quiet_sources f.single.link (length f.sources) acts a refl) ∙ h.sourced;
+      sourced = ap (λ ss. f.sources ++ ss) (quiet_sources f.single.link acts a refl) ∙ h.sourced;
     }
 
 -- by its time

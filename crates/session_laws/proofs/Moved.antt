@@ -1,7 +1,8 @@
 -- All requests of a connection are moved.
 use Rattle.std.proofs.Common.{Bool, List, [], ap, false, inl, inr, length, refl, subst, sym, true, ℕ, ◌++◌, ◌∙◌, ◌∷◌, ◌≡◌, ◌⊎◌}
+use Rattle.std.proofs.Math.Bool.{and-false}
 use Rattle.std.specs.Prelude.{◌&&◌}
-use Rattle.containers.proofs.Choices.{chosen, left_if, not_both, taken_if}
+use Rattle.containers.proofs.Choices.{chosen, left_if, not_both, taken_if, both_left, both_right}
 use Rattle.redis_error.specs.declared.redis_error.RedisError.{RedisError}
 use Rattle.driver_model.specs.declared.action.Action.{Action}
 use Rattle.driver_model.specs.declared.outcome.Outcome.{Outcome}
@@ -10,11 +11,11 @@ use Rattle.link_core.specs.Link.{LinkState, holds_back}
 use Rattle.link_laws.specs.Settles.{awaited_ids, wanted}
 use Rattle.mux_conn.specs.Connection.{Work, admits_none, admits_none_at, has_no_permit, with_link, in_front, is_due, is_ready}
 use Rattle.mux_conn.specs.Effects.{failed_each, nobody_waits, waiting_failed}
-use Rattle.mux_conn.specs.Passes.{admitted, admitted_all, admitted_at, admitted_each, moved_up_all, moved_up_each, passed, started_at, still_admitted, still_waiting}
+use Rattle.mux_conn.specs.Passes.{admitted, admitted_all, admitted_at, admitted_each, moved_up_all, moved_up_each, passed, started_at, still_admitted, still_waiting, rounds_begun, rounds_of}
 use Rattle.mux_conn.specs.Requests.{answered, with_permits, is_open as is_open_progress, is_open_at, is_waiting, is_waiting_at}
 use Rattle.mux_conn.specs.declared.life.Greeting.{Greeting}
 use Rattle.mux_conn.specs.declared.life.Life.{Life}
-use Rattle.mux_conn.specs.declared.life.Life.TheVariants.{Dialing, Ended, Ready, Wanting, SettingUp}
+use Rattle.mux_conn.specs.declared.life.Life.TheVariants.{Resting, Dialing, Ended, Ready, Wanting, SettingUp}
 use Rattle.mux_conn.specs.declared.request.Progress.TheVariants as progress
 use Rattle.mux_conn.specs.declared.request.Request.{Request}
 use Rattle.mux_conn.specs.declared.request.Waiting.{Waiting}
@@ -31,19 +32,20 @@ use Rattle.session_laws.proofs.Going.{IsGoing, HasRenewed}
 use Rattle.session_laws.proofs.InLine.{kept_ids}
 use Rattle.session_laws.proofs.Names.{open_within, with_other, with_then}
 use Rattle.session_laws.proofs.Numbers.{IsIn, Rising, rising_right, requests_in}
-use Rattle.session_laws.proofs.Passes.{IsDone, IsSeated, IsUp, admitted_done, moved_up_seated, moved_up_waits, moving, started_keeps, started_up, no_room}
+use Rattle.session_laws.proofs.Passes.{IsDone, IsSeated, IsUp, admitted_done, moved_up_seated, moved_up_waits, moving, started_keeps, started_up, found_full, rounds_done}
 use Rattle.session_laws.proofs.Watches.{setting_begun}
 use Rattle.session_laws.proofs.Settle.{Holds, answered_leaves, failed_leaves, seen, trace_of_acts}
-use Rattle.session_laws.proofs.States.{IsFit, IsFitIn, IsStill}
+use Rattle.session_laws.proofs.States.{IsFit, IsFitIn, IsStill, AreBegun, IsStopped}
 use Rattle.session_laws.proofs.Tied.{Inner, Sound, Tied, has_ended, link_in, queue_ids, waiting_ids}
 
--- the event has had its effect, and nothing moves any more
+-- the event has had its effect, and nothing moves any more; where everything is shut down, no link goes on
 pub record HasMoved (before : List Action) (f : Core) (w : Work) : Type 0 where
   pub started : List ℕ
   pub holds : Holds before f w [] started
   pub ended : NoneEnds (book (trace_of_acts before f w.acts))
   pub fit : IsFitIn w.conn
   pub still : IsStill w.conn
+  pub hushed : f.shut ≡ true → IsStopped w.conn.life w.conn.waiting
   pub seats : HasSeats w.conn.moved (in_front w.conn.renewal) (link_in w.conn.life) w.conn.size
 
 -- what an applied event gives: none was moved in its turn
@@ -52,9 +54,17 @@ pub record IsReady (before : List Action) (f : Core) (w : Work) (started : List 
   pub ended : NoneEnds (book (trace_of_acts before f w.acts))
   pub fit : IsFitIn w.conn
   pub moved : w.conn.moved ≡ []
+  pub hushed : f.shut ≡ true → IsStopped w.conn.life w.conn.waiting
 
 -- on a link that is up
 --
+-- not everything is shut down
+up_awake : (life : Life) (waiting : List Waiting) (link : LinkState) → life ≡ Ready link → IsStopped life waiting → ⊥
+up_awake life waiting link e stopped = subst (λ (x : Life). IsStopped x waiting) e stopped
+
+set_awake : (life : Life) (waiting : List Waiting) (link : LinkState) (greeting : Greeting) → life ≡ SettingUp link greeting → IsStopped life waiting → ⊥
+set_awake life waiting link greeting e stopped = subst (λ (x : Life). IsStopped x waiting) e stopped
+
 -- there is one link
 one_link : (life : Life) (link link' : LinkState) → life ≡ Ready link → life ≡ Ready link' → link ≡ link'
 one_link life link link' e k = let both : Ready link ≡ Ready link' = sym e ∙ k in cc
@@ -67,9 +77,9 @@ not_both_lives life link link' greeting e k = let both : Ready link ≡ SettingU
 not_wanting_too : (life : Life) (link link' : LinkState) → life ≡ Ready link → life ≡ Wanting link' → ⊥
 not_wanting_too life link link' e k = let both : Ready link ≡ Wanting link' = sym e ∙ k in cc
 
--- nothing moves there any more
-up_moved : (before : List Action) (f : Core) (w : Work) → IsDone before f w → HasMoved before f w
-up_moved before f w done =
+-- nothing moves there any more, where rounds have begun
+up_moved : (before : List Action) (f : Core) (w : Work) → (f.shut ≡ true → ⊥) → IsDone before f w → AreBegun w.conn.rounds w.conn.life w.conn.requests → HasMoved before f w
+up_moved before f w awake done begun =
     let h = done.seated.up in
     let c = w.conn in
     record {
@@ -80,17 +90,32 @@ up_moved before f w done =
       still = record {
         setup = λ link u e. absurd (not_both_lives c.life h.link link u h.life e);
         held = λ link e. subst (λ (x : LinkState). (x.queue ≡ []) ⊎ (holds_back x ≡ true)) (one_link c.life h.link link h.life e) h.held;
-        full = λ link e. elim done.seated.full [ inl empty ↦ inl empty | inr none ↦ inr (no_room c link e none) ];
+        full = λ link e. found_full c link e done.seated.full;
         renewed = h.going.renewed;
         waiting = λ link e. done.none;
+        begun = begun;
         none_waits = λ over. absurd (not_both (has_ended c.life) (ap has_ended h.life) over);
       };
+      hushed = λ over. absurd (awake over);
       seats = subst (λ (x : LinkState). HasSeats c.moved (in_front c.renewal) x c.size) (sym (ap link_in h.life)) h.seats;
     }
 
+-- so it is where the rounds of all that go on waiting have begun
+rounds_moved : (before : List Action) (f : Core) (w : Work) → (f.shut ≡ true → ⊥) → IsDone before f w → HasMoved before f (rounds_begun w)
+rounds_moved before f w awake done =
+    let h = done.seated.up in
+    let up = is_ready w.conn.life in
+    let tied = h.going.sound.tied in
+    chosen (HasMoved before f) (w.conn.rounds && up) (rounds_of w w.conn.fresh) w
+    (λ t.
+    let shows = both_left w.conn.rounds up t in
+    let all = rounds_done before f w 0 w.conn.fresh (record { done = done; shows = shows; among = λ p u. tied.rounds.new p shows (both_right w.conn.rounds up t) u; rises = tied.waits.newer }) in
+    up_moved before f (rounds_of w w.conn.fresh) awake all.done (λ x y. all.begun))
+    (λ none. up_moved before f w awake done (λ shows ready. absurd (not_both (w.conn.rounds && up) none (λ i. shows i && ready i))))
+
 -- all are moved there, once new credentials are told
-told_moved : (before : List Action) (f : Core) (w : Work) → HasTold before f w → HasMoved before f (admitted_all (moved_up_all (started_at w w.conn.life)))
-told_moved before f w h =
+told_moved : (before : List Action) (f : Core) (w : Work) → (f.shut ≡ true → ⊥) → HasTold before f w → HasMoved before f (rounds_begun (admitted_all (moved_up_all (started_at w w.conn.life))))
+told_moved before f w awake h =
     let started = h.started in
     let link = h.link in
     let life = h.life in
@@ -118,16 +143,20 @@ told_moved before f w h =
       full = seated.full;
     } in
     let same : u.conn.waiting ≡ waits = moved_up_waits (still_admitted v []) places ∙ keeps.waiting in
-    let all = up_moved before f (admitted_each (still_waiting u []) waits) (admitted_done before f (still_waiting u []) waits second) in
-    subst (λ (x : Life). HasMoved before f (admitted_all (moved_up_all (started_at w x)))) (sym life)
-    (subst (λ (x : List Waiting). HasMoved before f (admitted_all (moved_up_each (still_admitted v []) x))) (sym keeps.admitted)
-    (subst (λ (x : List Waiting). HasMoved before f (admitted_each (still_waiting u []) x)) (sym same) all))
+    let all = rounds_moved before f (admitted_each (still_waiting u []) waits) awake (admitted_done before f (still_waiting u []) waits second) in
+    subst (λ (x : Life). HasMoved before f (rounds_begun (admitted_all (moved_up_all (started_at w x))))) (sym life)
+    (subst (λ (x : List Waiting). HasMoved before f (rounds_begun (admitted_all (moved_up_each (still_admitted v []) x)))) (sym keeps.admitted)
+    (subst (λ (x : List Waiting). HasMoved before f (rounds_begun (admitted_each (still_waiting u []) x))) (sym same) all))
 
 -- and all of it
 pub ready_moved : (before : List Action) (f : Core) (w : Work) (started : List ℕ) (link : LinkState) → w.conn.life ≡ Ready link → IsReady before f w started → HasMoved before f (passed w)
-ready_moved before f w started link life h = told_moved before f (renewals.renewed w) (renewed_told before f w started link life h.holds h.ended (h.fit.link link life) h.moved)
+ready_moved before f w started link life h = told_moved before f (renewals.renewed w) (λ over. up_awake w.conn.life w.conn.waiting link life (h.hushed over)) (renewed_told before f w started link life h.holds h.ended (h.fit.link link life) h.moved)
 
--- elsewhere none are told
+-- elsewhere no round begins
+no_rounds : (w : Work) → is_ready w.conn.life ≡ false → rounds_begun w ≡ w
+no_rounds w down = left_if (w.conn.rounds && is_ready w.conn.life) (rounds_of w w.conn.fresh) w (ap (λ x. w.conn.rounds && x) down ∙ and-false w.conn.rounds)
+
+-- and no new credentials are told
 unready_renewed : (w : Work) → is_ready w.conn.life ≡ false → renewals.renewed w ≡ w
 unready_renewed w down =
     let r = w.conn.renewal in
@@ -152,13 +181,17 @@ record IsStuck (w : Work) : Type 0 where
   unset : (link : LinkState) (greeting : Greeting) → w.conn.life ≡ SettingUp link greeting → ⊥
   alive : has_ended w.conn.life ≡ false
 
+-- so the passes leave it
+stuck_same : (w : Work) → IsStuck w → w.conn.admitted ≡ [] → passed w ≡ w
+stuck_same w stuck none =
+    ap (λ (x : Work). rounds_begun (admitted_all (moved_up_all (started_at x x.conn.life)))) (unready_renewed w stuck.unready)
+    ∙ ap (λ (x : Work). rounds_begun (admitted_all (moved_up_all x))) stuck.none_starts ∙ ap (λ (x : Work). rounds_begun (admitted_all x)) (none_moved_up w none) ∙ ap rounds_begun (stuck_stays (still_waiting w []) w.conn.waiting stuck.admits)
+    ∙ no_rounds w stuck.unready
+
 -- all stays there
 stuck_moved : (before : List Action) (f : Core) (w : Work) (started : List ℕ) → IsStuck w → IsReady before f w started → HasMoved before f (passed w)
 stuck_moved before f w started stuck h =
-    let same : passed w ≡ w =
-    ap (λ (x : Work). admitted_all (moved_up_all (started_at x x.conn.life))) (unready_renewed w stuck.unready)
-    ∙ ap (λ (x : Work). admitted_all (moved_up_all x)) stuck.none_starts ∙ ap admitted_all (none_moved_up w (h.fit.none stuck.down)) ∙ stuck_stays (still_waiting w []) w.conn.waiting stuck.admits in
-    subst (HasMoved before f) (sym same) (record {
+    subst (HasMoved before f) (sym (stuck_same w stuck (h.fit.none stuck.down))) (record {
       started = started;
       holds = h.holds;
       ended = h.ended;
@@ -169,12 +202,29 @@ stuck_moved before f w started stuck h =
         full = λ link e. absurd (stuck.down link e);
         renewed = λ link e. absurd (stuck.down link e);
         waiting = λ link e. absurd (stuck.down link e);
+        begun = λ shows up. absurd (not_both (is_ready w.conn.life) stuck.unready up);
         none_waits = λ over. absurd (not_both (has_ended w.conn.life) stuck.alive over);
       };
+      hushed = h.hushed;
       seats = λ p i. absurd (subst (IsIn p) h.moved i);
     })
 
--- so it is while the connect isn't answered
+-- so it is without a link
+resting_stuck : (w : Work) → w.conn.life ≡ Resting → IsStuck w
+resting_stuck w life = record {
+  unready = ap is_ready life;
+  none_starts = ap (started_at w) life;
+  admits = ap (λ (x : Life). admits_none_at x (has_no_permit w.conn.limit w.conn.free)) life;
+  down = λ link e. (let no : Resting ≡ Ready link = sym life ∙ e in cc);
+  unset = λ link u e. (let no : Resting ≡ SettingUp link u = sym life ∙ e in cc);
+  alive = ap has_ended life;
+}
+
+-- where nobody waits for a place then, the passes leave it
+pub resting_passed : (w : Work) → w.conn.life ≡ Resting → w.conn.admitted ≡ [] → passed w ≡ w
+resting_passed w rests none = stuck_same w (resting_stuck w rests) none
+
+-- while the connect isn't answered
 dialing_stuck : (w : Work) → w.conn.life ≡ Dialing → IsStuck w
 dialing_stuck w life = record {
   unready = ap is_ready life;
@@ -207,8 +257,9 @@ setting_moved before f w started link greeting life h =
     let c = v.conn in
     let down : (x : LinkState) → c.life ≡ Ready x → ⊥ = λ x e. not_both_lives c.life x begun.link greeting e begun.life in
     let same : passed w ≡ v =
-    ap (λ (x : Work). admitted_all (moved_up_all (started_at x x.conn.life))) (unready_renewed w (ap is_ready life))
-    ∙ ap (λ (x : Life). admitted_all (moved_up_all (started_at w x))) life ∙ ap admitted_all (none_moved_up v begun.admitted) ∙ stuck_stays (still_waiting v []) c.waiting (ap (λ (x : Life). admits_none_at x (has_no_permit c.limit c.free)) begun.life) in
+    ap (λ (x : Work). rounds_begun (admitted_all (moved_up_all (started_at x x.conn.life)))) (unready_renewed w (ap is_ready life))
+    ∙ ap (λ (x : Life). rounds_begun (admitted_all (moved_up_all (started_at w x)))) life ∙ ap (λ (x : Work). rounds_begun (admitted_all x)) (none_moved_up v begun.admitted)
+    ∙ ap rounds_begun (stuck_stays (still_waiting v []) c.waiting (ap (λ (x : Life). admits_none_at x (has_no_permit c.limit c.free)) begun.life)) ∙ no_rounds v (ap is_ready begun.life) in
     subst (HasMoved before f) (sym same) (record {
       started = started;
       holds = begun.going.sound;
@@ -225,8 +276,10 @@ setting_moved before f w started link greeting life h =
         full = λ x e. absurd (down x e);
         renewed = λ x e. absurd (down x e);
         waiting = λ x e. absurd (down x e);
+        begun = λ shows up. absurd (not_both (is_ready c.life) (ap is_ready begun.life) up);
         none_waits = λ over. absurd (not_both (has_ended c.life) (ap has_ended begun.life) over);
       };
+      hushed = λ over. absurd (set_awake w.conn.life w.conn.waiting link greeting life (h.hushed over));
       seats = λ p i k. absurd (subst (λ (x : Life). IsIn p (queue_ids (link_in x).queue)) begun.life k);
     })
   where
@@ -281,10 +334,11 @@ passed_over_is : (w : Work) (e : RedisError) → w.conn.life ≡ Ended e → w.c
 passed_over_is w e over empty h =
     let v = nobody_waits w in
     let c = failed_each v e w.conn.waiting in
-    ap (λ (x : Work). admitted_all (moved_up_all (started_at x x.conn.life))) (unready_renewed w (ap is_ready over))
-    ∙ ap (λ (x : Life). admitted_all (moved_up_all (started_at w x))) over
-    ∙ ap (λ ws. admitted_all (moved_up_each (still_admitted w []) ws)) empty
-    ∙ each_over v e w.conn.waiting over h
+    ap (λ (x : Work). rounds_begun (admitted_all (moved_up_all (started_at x x.conn.life)))) (unready_renewed w (ap is_ready over))
+    ∙ ap (λ (x : Life). rounds_begun (admitted_all (moved_up_all (started_at w x)))) over
+    ∙ ap (λ ws. rounds_begun (admitted_all (moved_up_each (still_admitted w []) ws))) empty
+    ∙ ap rounds_begun (each_over v e w.conn.waiting over h)
+    ∙ no_rounds (still_waiting c []) (ap is_ready ((failed_leaves v e w.conn.waiting).life ∙ over))
     ∙ ap (λ ws. record c { conn = record c.conn { waiting = ws } }) (sym (failed_leaves v e w.conn.waiting).waiting)
     ∙ ap (λ ws. failed_each (failed_each v e ws) e w.conn.waiting) (sym empty)
 
@@ -302,7 +356,8 @@ over_moved before f w e started over h =
       holds = done.holds;
       ended = ends.0;
       fit = record { wanting = λ link r. absurd (over_wanting link (sym done.over ∙ r)); setup = λ link u r. absurd (over_setting link u (sym done.over ∙ r)); link = λ link r. absurd (down link r); none = λ no. done.none_admitted };
-      still = record { setup = λ link u r. absurd (over_setting link u (sym done.over ∙ r)); held = λ link r. absurd (down link r); full = λ link r. absurd (down link r); renewed = λ link r. absurd (down link r); waiting = λ link r. absurd (down link r); none_waits = λ no. done.none_waits };
+      still = record { setup = λ link u r. absurd (over_setting link u (sym done.over ∙ r)); held = λ link r. absurd (down link r); full = λ link r. absurd (down link r); renewed = λ link r. absurd (down link r); waiting = λ link r. absurd (down link r); begun = λ shows up. absurd (not_both (is_ready u.conn.life) (ap is_ready done.over) up); none_waits = λ no. done.none_waits };
+      hushed = λ shut. subst (λ (x : Life). IsStopped x u.conn.waiting) (sym done.over) tt;
       seats = λ p i k. absurd (subst (λ (x : Life). IsIn p (queue_ids (link_in x).queue)) done.over k);
     })
   where
@@ -317,6 +372,7 @@ pub passed_moved : (before : List Action) (f : Core) (w : Work) (started : List 
 passed_moved before f w started h = by_life w.conn.life refl
   where
     by_life : (life : Life) → w.conn.life ≡ life → HasMoved before f (passed w)
+    by_life Resting e = stuck_moved before f w started (resting_stuck w e) h
     by_life Dialing e = stuck_moved before f w started (dialing_stuck w e) h
     by_life (Wanting link) e = stuck_moved before f w started (wanting_stuck w link e) h
     by_life (SettingUp link greeting) e = setting_moved before f w started link greeting e h

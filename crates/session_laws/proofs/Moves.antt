@@ -79,11 +79,11 @@ open_later b t n h none up unstarted o =
       ];
     }
 
--- one that is still to start, on a link that has not ended
-pub later_of : (b : Book) (t : Inner) (n : ℕ) → Tied b t → t.pending ≡ [] → has_ended t.life ≡ false → is_unstarted (b.story n) ≡ true → IsLater t n
-later_of b t n h none up e =
+-- one that is still to start on the connection's link, where this has not ended
+pub later_of : (b : Book) (t : Inner) (n : ℕ) → Tied b t → t.pending ≡ [] → has_ended t.life ≡ false → (b.story n).link ≡ t.link → is_unstarted (b.story n) ≡ true → IsLater t n
+later_of b t n h none up on e =
     let untried = unstarted_tries (b.story n) e in
     elim (unstarted_alive (b.story n) e) [
       | inl o ↦ open_later b t n h none up untried o
-      | inr k ↦ let q = h.told up n k untried in record { p = q.0; within = q.1; name = q.2; later = inl q.3 }
+      | inr k ↦ let q = (h.told up).told n k untried on in record { p = q.0; within = q.1; name = q.2; later = inl q.3 }
     ]

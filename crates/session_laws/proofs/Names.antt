@@ -13,7 +13,12 @@ use Rattle.mux_conn.specs.declared.request.Request.{Request}
 use Rattle.mux_conn.specs.Requests.{is_open, if_there, is_open_at, name_or_none, name_at, permits_or_none, permits_at, with_permits, at_progress}
 use Rattle.mux_conn.specs.Renewals.{renewal_id}
 use Rattle.legal_trace.specs.Book.{Book, hearing_in, kind_in}
-use Rattle.session_laws.proofs.Tied.{owner_of, Inner, Tied, TiedNames}
+use Rattle.mux_conn.specs.Connection.{is_resting}
+use Rattle.mux_conn.specs.declared.life.Life.{Life}
+use Rattle.mux_conn.specs.declared.life.Life.TheVariants.{Resting, Dialing, Wanting, SettingUp, Ready, Ended}
+use Rattle.legal_trace.specs.Ledger.{Ledger}
+use Rattle.session_laws.proofs.Server.{hearing_on}
+use Rattle.session_laws.proofs.Tied.{owner_of, Inner, Tied, TiedLife, TiedNames}
 use Rattle.driver_model.specs.Hearing.{is_watching}
 use Rattle.driver_model.specs.declared.kind.SessionKind.{SessionKind}
 use Rattle.driver_model.specs.declared.kind.SessionKind.TheVariants as session
@@ -21,7 +26,6 @@ use Rattle.driver_model.specs.Config as Configs
 use Rattle.driver_model.specs.declared.config.Config.{Config}
 use Rattle.driver_model.specs.declared.event.Submission.{Submission}
 use Rattle.driver_model.specs.Request.{has_no_form}
-use Rattle.std.specs.Prelude.{unwrap_or}
 
 -- what stands at a place within
 pub get_some : {X : Type 0} (xs : List X) (n : ℕ) → n < length xs → (x : X) × (slice_get xs n ≡ Some x)
@@ -261,22 +265,37 @@ request_not b t p h within = few_not p (let few = h.names.few in let all = h.num
     few_not : (p : ℕ) → p < 2 ^ 32 → p ≢ renewal_id
     few_not p less e = omega (arith, less, e)
 
--- and where there is one, the server isn't put into monitor mode
+-- a link that was never asked for isn't put into monitor mode
+resting_unwatched : (l : Ledger) (created : ℕ) (life : Life) → is_resting life ≡ true → TiedLife l created life → is_watching l.hearing ≡ false
+resting_unwatched l created Resting rests h = h.3
+resting_unwatched l created Dialing rests h = cc
+resting_unwatched l created (Wanting link) rests h = cc
+resting_unwatched l created (SettingUp link greeting) rests h = cc
+resting_unwatched l created (Ready link) rests h = cc
+resting_unwatched l created (Ended e) rests h = cc
+
+-- and where there is a request, its server isn't either
 pub asked_unwatched : (b : Book) (t : Inner) (p : ℕ) → Tied b t → p < length t.requests → is_watching (b.link t.link).hearing ≡ false
-asked_unwatched b t p h within = by_test (is_watching (b.link t.link).hearing) _
-    (λ w. absurd (let none = ap length (h.numbers.quiet (ap is_watching (sym h.notices.hearing_is) ∙ w)).none in let few = h.names.few in omega arith))
-    (λ f. f)
+asked_unwatched b t p h within =
+    let l = b.link t.link in
+    by_test (is_resting t.life) _
+    (λ rests. resting_unwatched l b.created t.life rests h.life)
+    (λ there. by_test (is_watching l.hearing) _
+    (λ w. absurd (let same = sym h.notices.hearing_is ∙ hearing_on t.life t.hears l.hearing there in let none = ap length (h.numbers.quiet (ap is_watching same ∙ w)).none in let few = h.names.few in omega arith))
+    (λ f. f))
 
 -- what is put into monitor mode is a session of that kind
-pub watching_kind : (is : SessionKind) (pushes : Bool) → is_watching (Configs.hearing_in is pushes) ≡ true → is ≡ session.Monitor
+watching_kind : (is : SessionKind) (pushes : Bool) → is_watching (Configs.hearing_in is pushes) ≡ true → is ≡ session.Monitor
 watching_kind session.Single true w = cc
 watching_kind session.Single false w = cc
+watching_kind (session.Manager lazy) true w = cc
+watching_kind (session.Manager lazy) false w = cc
 watching_kind session.PubSub pushes w = cc
 watching_kind session.Monitor pushes w = refl
 
 watching_book : (config : Option Config) → is_watching (hearing_in config) ≡ true → kind_in config ≡ session.Monitor
 watching_book None w = cc
-watching_book (Some config) w = watching_kind config.kind (unwrap_or config.push false) w
+watching_book (Some config) w = watching_kind (Configs.kind_of config) (Configs.wants_pushes config) w
 
 -- which nothing is submitted to
 pub submits_unwatched : (b : Book) (t : Inner) (what : Submission) → Tied b t → has_no_form t.kind what ≡ false → is_watching t.hears ≡ true → ⊥

@@ -1,7 +1,8 @@
 -- What the outcome actions of a trace say is what its book says.
 use Rattle.driver_model.specs.declared.action.Purpose.{Purpose}
 use Rattle.legal_trace.specs.Book.{entered, is_unspoken}
-use Rattle.std.proofs.Common.{List, None, Option, Some, [], ap, arith, inl, inr, is_some, length, length-set, nat_le, not, refl, slice_get, slice_set, subst, suc, sym, true, zero, ℕ, ◌++◌, ◌+◌, ◌<◌, ◌∙◌, ◌∷◌, ◌≡◌, ◌≤◌}
+use Rattle.std.specs.Prelude.{max}
+use Rattle.std.proofs.Common.{List, None, Option, Some, [], ap, arith, inl, inr, is_some, length, length-set, nat_le, not, refl, slice_get, slice_set, subst, suc, sym, true, zero, ℕ, ◌++◌, ◌+◌, ◌<◌, ◌∙◌, ◌∷◌, ◌≡◌, ◌≤◌, ◌&&◌}
 use Rattle.std.proofs.lemmas.List.{length_push}
 use Rattle.std.specs.Prelude.{◌&&◌, ◌==◌}
 use Rattle.containers.proofs.Places.{get_set_other, get_set_same}
@@ -16,9 +17,9 @@ use Rattle.driver_model.specs.declared.event.EventKind.TheVariants as event
 use Rattle.driver_model.specs.declared.event.Submission.{Submission}
 use Rattle.driver_model.specs.declared.outcome.Outcome.{Outcome}
 use Rattle.shared_session.specs.Replay.{if_placed, outcome_at, outcomes_in, told, told_each, with_room}
-use Rattle.legal_trace.specs.Book.{Book, blank_book, book, current, entered_each, is_clock_of}
+use Rattle.legal_trace.specs.Book.{Book, blank_book, book, entered_each, is_clock_of, is_rest}
 use Rattle.legal_trace.specs.Legal.{AllStand, IsOpen, MayStand}
-use Rattle.legal_trace.specs.Story.{Story, answered, clocked, fires, handed_in, holds, is_open, left, tried, waits}
+use Rattle.legal_trace.specs.Story.{Story, answered, clocked, fires, handed_in, holds, is_open, left, tried, waits, carried, rounds}
 use Rattle.session_laws.specs.Outcomes.{last_outcome}
 
 -- the last is the last
@@ -81,9 +82,9 @@ submit_outcomes : (os : List (Option Outcome)) (b : Book) (number word : ℕ) (w
 submit_outcomes os b number word what h = record {
   long = length_push os None ∙ ap (λ n. n + 1) h.long;
   last = λ n. room_at os n ∙ h.last n
-      ∙ chosen (λ (s : Story). last_outcome (b.story n).outcomes ≡ last_outcome s.outcomes) (b.submissions == n) (handed_in (b.story n) what b.shut (is_unspoken b what) (current b) b.timeout) (b.story n) (λ t. refl) (λ f. refl);
+      ∙ chosen (λ (s : Story). last_outcome (b.story n).outcomes ≡ last_outcome s.outcomes) (b.submissions == n) (handed_in (b.story n) what b.shut (is_unspoken b what) (max 1 b.generation) b.current b.timeout) (b.story n) (λ t. refl) (λ f. refl);
   later = λ n l.
-      chosen (λ (s : Story). (s.submission ≡ None) × (s.outcomes ≡ [])) (b.submissions == n) (handed_in (b.story n) what b.shut (is_unspoken b what) (current b) b.timeout) (b.story n)
+      chosen (λ (s : Story). (s.submission ≡ None) × (s.outcomes ≡ [])) (b.submissions == n) (handed_in (b.story n) what b.shut (is_unspoken b what) (max 1 b.generation) b.current b.timeout) (b.story n)
       (λ t. absurd (let same = eq_from b.submissions n t in omega arith))
       (λ f. h.later n (omega arith));
 }
@@ -132,13 +133,19 @@ start_same b l k m round count len n = chosen (SameTold (b.story n)) (m == n) (t
 wait_same : (b : Book) (m round : ℕ) (kind : WaitKind) (n : ℕ) → SameTold (b.story n) ((entered b (action.Wait (owner.Try m round) kind)).story n)
 wait_same b m round kind n = chosen (SameTold (b.story n)) (m == n) (waits (b.story n) kind) (b.story n) (λ t. (refl, refl)) (λ f. (refl, refl))
 
+-- nor does a round
+round_same : (b : Book) (m round : ℕ) (l : Option ℕ) (n : ℕ) → SameTold (b.story n) ((entered b (action.Round (owner.Try m round) l)).story n)
+round_same b m round l n = chosen (SameTold (b.story n)) (m == n) (rounds (b.story n)) (b.story n) (λ t. (refl, refl)) (λ f. (refl, refl))
+
 -- nor do permits
 took_same : (b : Book) (m round l count : ℕ) (n : ℕ) → SameTold (b.story n) ((entered b (action.Took (owner.Try m round) l count)).story n)
 took_same b m round l count n = chosen (SameTold (b.story n)) (m == n) (holds (b.story n) count) (b.story n) (λ t. (refl, refl)) (λ f. (refl, refl))
 
 -- nor does a timer
 timer_same : (b : Book) (t ms : ℕ) (what : Purpose) (n : ℕ) → SameTold (b.story n) ((entered b (action.Timer t ms what)).story n)
-timer_same b t ms what n = chosen (SameTold (b.story n)) (is_clock_of n (Some what)) (clocked (b.story n) t) (b.story n) (λ e. (refl, refl)) (λ f. (refl, refl))
+timer_same b t ms what n =
+    chosen (SameTold (b.story n)) (is_rest what && is_open (b.story n)) (carried (b.story n) b.links) _ (λ r. (refl, refl))
+    (λ o. chosen (SameTold (b.story n)) (is_clock_of n (Some what)) (clocked (b.story n) t) (b.story n) (λ e. (refl, refl)) (λ f. (refl, refl)))
 
 -- by the kind of the action
 action_outcomes : (os : List (Option Outcome)) (b : Book) (a : Action) → MayStand b a → AreOutcomes os b → AreOutcomes (told os a) (entered b a)
@@ -148,20 +155,29 @@ action_outcomes os b (action.Connect l host port) may h = same_outcomes os b (ac
 action_outcomes os b (action.Timer t ms what) may h = same_outcomes os b (action.Timer t ms what) refl (timer_same b t ms what) h
 action_outcomes os b (action.Took owner.Setup l count) may h = absurd may
 action_outcomes os b (action.Took owner.Auth l count) may h = absurd may
+action_outcomes os b (action.Took owner.Resub l count) may h = absurd may
 action_outcomes os b (action.Took owner.Monitor l count) may h = absurd may
 action_outcomes os b (action.Took (owner.Try m round) l count) may h = same_outcomes os b (action.Took (owner.Try m round) l count) refl (took_same b m round l count) h
 action_outcomes os b (action.Push l info) may h = same_outcomes os b (action.Push l info) refl (λ n. (refl, refl)) h
 action_outcomes os b (action.Message m) may h = same_outcomes os b (action.Message m) refl (λ n. (refl, refl)) h
 action_outcomes os b (action.Monitor v) may h = same_outcomes os b (action.Monitor v) refl (λ n. (refl, refl)) h
 action_outcomes os b (action.NeedCreds c l) may h = same_outcomes os b (action.NeedCreds c l) refl (λ n. (refl, refl)) h
+action_outcomes os b (action.Generation g) may h = same_outcomes os b (action.Generation g) refl (λ n. (refl, refl)) h
+action_outcomes os b (action.Round owner.Setup l) may h = absurd may
+action_outcomes os b (action.Round owner.Auth l) may h = absurd may
+action_outcomes os b (action.Round owner.Resub l) may h = absurd may
+action_outcomes os b (action.Round owner.Monitor l) may h = absurd may
+action_outcomes os b (action.Round (owner.Try m round) l) may h = same_outcomes os b (action.Round (owner.Try m round) l) refl (round_same b m round l) h
 action_outcomes os b (action.Close l) may h = same_outcomes os b (action.Close l) refl (λ n. (refl, refl)) h
 action_outcomes os b (action.Write l bytes) may h = same_outcomes os b (action.Write l bytes) refl (λ n. (refl, refl)) h
 action_outcomes os b (action.Wait owner.Setup kind) may h = absurd may
 action_outcomes os b (action.Wait owner.Auth kind) may h = absurd may
+action_outcomes os b (action.Wait owner.Resub kind) may h = absurd may
 action_outcomes os b (action.Wait owner.Monitor kind) may h = absurd may
 action_outcomes os b (action.Wait (owner.Try m round) kind) may h = same_outcomes os b (action.Wait (owner.Try m round) kind) refl (wait_same b m round kind) h
 action_outcomes os b (action.Start l k owner.Setup count len) may h = same_outcomes os b (action.Start l k owner.Setup count len) refl (λ n. (refl, refl)) h
 action_outcomes os b (action.Start l k owner.Auth count len) may h = same_outcomes os b (action.Start l k owner.Auth count len) refl (λ n. (refl, refl)) h
+action_outcomes os b (action.Start l k owner.Resub count len) may h = same_outcomes os b (action.Start l k owner.Resub count len) refl (λ n. (refl, refl)) h
 action_outcomes os b (action.Start l k owner.Monitor count len) may h = same_outcomes os b (action.Start l k owner.Monitor count len) refl (λ n. (refl, refl)) h
 action_outcomes os b (action.Start l k (owner.Try m round) count len) may h = same_outcomes os b (action.Start l k (owner.Try m round) count len) refl (start_same b l k m round count len) h
 action_outcomes os b (action.Created e) may h = same_outcomes os b (action.Created e) refl (λ n. (refl, refl)) h

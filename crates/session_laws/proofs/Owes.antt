@@ -1,9 +1,10 @@
 -- What submissions are owed, by the requests that they are.
-use Rattle.std.proofs.Common.{◌≡◌, ◌≢◌, inl, inr, ℕ, zero, suc, ◌+◌, ◌<◌, ◌==◌, Bool, true, false, ◌&&◌, not, is_some, length-append, List, [], ◌∷◌, ◌++◌, length, Option, Some, None, slice_get, refl, sym, ap, ◌∙◌, subst, arith, drop}
+use Rattle.std.proofs.Common.{◌≡◌, ◌≢◌, inl, inr, ℕ, zero, suc, ◌+◌, ◌<◌, ◌==◌, Bool, true, false, ◌&&◌, not, is_some, length-append, List, [], ◌∷◌, ◌++◌, length, Option, Some, None, slice_get, refl, sym, ap, ◌∙◌, subst, arith, drop, if◌then◌else◌}
 use Rattle.std.specs.List.{AllByRecursion}
 use Rattle.std.proofs.lemmas.List.{nil_from_length}
 use Rattle.containers.proofs.Choices.{by_test, left_if, eq_from, ne_from, ne_test, not_both, taken_if, eq_test}
 use Rattle.redis_error.specs.declared.redis_error.RedisError.{RedisError}
+use Rattle.redis_error.specs.declared.redis_error.RedisError.TheVariants as error
 use Rattle.driver_model.specs.declared.action.Owner.{Owner}
 use Rattle.driver_model.specs.declared.action.Owner.TheVariants as owner
 use Rattle.driver_model.specs.declared.outcome.Outcome.{Outcome}
@@ -16,18 +17,20 @@ use Rattle.link_laws.specs.Settles.{wanted, StandsAs, IsOwed}
 use Rattle.link_laws.proofs.TiedLink.{TiedLink}
 use Rattle.link_laws.proofs.Started.{IsOpenAs, OpenFrom, row_open, open_unowed}
 use Rattle.mux_conn.specs.declared.life.Life.{Life}
-use Rattle.mux_conn.specs.declared.life.Life.TheVariants.{Dialing, Wanting, SettingUp, Ready, Ended}
+use Rattle.mux_conn.specs.declared.life.Life.TheVariants.{Resting, Dialing, Wanting, SettingUp, Ready, Ended}
 use Rattle.mux_conn.specs.declared.request.Pending.{Pending}
 use Rattle.mux_conn.specs.declared.request.Request.{Request}
+use Rattle.mux_conn.specs.Connection.{is_resting}
 use Rattle.mux_conn.specs.Requests.{name_at, is_open_at}
 use Rattle.legal_trace.specs.Ledger.{full_count, Ledger, Heard, Start, End, failure_in, is_cut, is_of_setup, next_notice, setup_count}
 use Rattle.legal_trace.specs.Story.{Story, bytes_of, shape, last_of, is_open}
 use Rattle.legal_trace.specs.Book.{Book}
-use Rattle.legal_trace.specs.Owed.{owed, owed_to_message, owed_unstarted, owed_to_try}
+use Rattle.legal_trace.specs.Owed.{owed, owed_to_message, owed_unstarted, owed_to_try, owed_waiting}
 use Rattle.legal_trace.specs.Legal.{IsOpen, NoneIsOwed, IsCreated, FailuresAreShown, NoticesAreTold, EndsAreTold}
 use Rattle.session_laws.proofs.Numbers.{Rising, IsIn, in_either, rising_in, rising_left, rising_right, rising_apart, requests_in, request_in, request_of}
 use Rattle.session_laws.proofs.Said.{ready_shown}
-use Rattle.session_laws.proofs.Tied.{IsEntry, Inner, carried, link_in, owner_of, setup_owners, whole_link, owners_of, owners_each, queue_ids, IsRequest, TiedStory, TiedLife, Tied, FailureIsShown, has_ended, is_of_greeting}
+use Rattle.session_laws.proofs.Server.{setup_owners, owners_of}
+use Rattle.session_laws.proofs.Tied.{IsEntry, Inner, carried, link_in, owner_of, whole_link, owners_each, queue_ids, IsRequest, TiedStory, TiedLife, Tied, FailureIsShown, has_ended, is_of_greeting}
 use Rattle.session_laws.proofs.Names.{get_some, open_within, name_of_some, name_placed, same_name, owner_no_setup, auth_owner, request_owner, request_not, asked_unwatched}
 use Rattle.session_laws.proofs.InLine.{AtPlaces, IsInLine, wanted_rises, places_rise, row_ids, wanted_in, kept_ids, line_of, open_in_line}
 use Rattle.mux_conn.specs.Renewals.{renewal_id}
@@ -151,15 +154,46 @@ owed_started b t p k of_shape h l in_time place =
     ∙ ap (λ ts. owed_to_try b (b.story n) (last_of ts)) (h.tries.tried e.0 p l e.2 ∙ ap (λ m. record { link = t.link; message = m } ∷ []) (sym e.1))
     ∙ ap (owed_to_message (b.link t.link) k) same
 
--- where it has none
-pub owed_none_started : (b : Book) (t : Inner) (p : ℕ) → Tied b t → p < length t.requests → (b.story (name_at t.requests p)).overdue ≡ false → (IsIn p t.started → ⊥) → owed b (name_at t.requests p) ≡ owed_unstarted (b.link t.link).end
-owed_none_started b t p h l in_time not_started =
+-- the link of a connection that has one was asked for
+pub is_asked : (l : Ledger) (created : ℕ) (life : Life) → is_resting life ≡ false → TiedLife l created life → l.asked ≡ true
+is_asked l created Resting there h = cc
+is_asked l created Dialing there h = h.0
+is_asked l created (Wanting link) there h = h.0
+is_asked l created (SettingUp link greeting) there h = h.0
+is_asked l created (Ready link) there h = h.0
+is_asked l created (Ended e) there h = h.3
+
+-- of a link that was asked for it is owed what the end says
+pub owed_asked : (shut : Bool) (l : Ledger) → l.asked ≡ true → owed_waiting shut l ≡ owed_unstarted l.end
+owed_asked true l e = ap (λ a. if not a then Some (outcome.Fault error.Closed) else owed_unstarted l.end) e
+owed_asked false l e = refl
+
+-- an open request goes to the link of the connection
+pub open_on : (b : Book) (t : Inner) (p : ℕ) → Tied b t → is_open_at t.requests p ≡ true → (b.story (name_at t.requests p)).link ≡ t.link
+open_on b t p h o = (request_story b t p h (open_within t.requests p o)).on o
+
+-- and so does what is in the queue
+pub queue_on : (b : Book) (t : Inner) (p : ℕ) → Tied b t → IsIn p (queue_ids (link_in t.life).queue) → (b.story (name_at t.requests p)).link ≡ t.link
+queue_on b t p h i = by_test (has_ended t.life) _ (λ over. absurd (none_over t.life over i)) (λ up. (h.told up).here p i)
+  where
+    none_over : (life : Life) → has_ended life ≡ true → IsIn p (queue_ids (link_in life).queue) → ⊥
+    none_over Resting over j = j
+    none_over Dialing over j = j
+    none_over (Wanting link) over j = j
+    none_over (SettingUp link greeting) over j = j
+    none_over (Ready link) over j = cc
+    none_over (Ended e) over j = j
+
+-- what it is owed where it has no message
+pub owed_none_started : (b : Book) (t : Inner) (p : ℕ) → Tied b t → is_open_at t.requests p ≡ true → (b.story (name_at t.requests p)).overdue ≡ false → (IsIn p t.started → ⊥) → owed b (name_at t.requests p) ≡ owed_waiting b.shut (b.link t.link)
+owed_none_started b t p h o in_time not_started =
+    let l = open_within t.requests p o in
     let n = name_at t.requests p in
     let r = request_story b t p h l in
     let g = get_some t.requests p l in
     let named : n ≡ g.0.name = name_of_some t.requests p g.0 g.1 in
-    let untried : (b.story n).tries ≡ [] = ap (λ m. (b.story m).tries) named ∙ h.tries.untried p g.0 g.1 not_started in
-    owed_by_try b n r.in_time r.spoken r.some in_time ∙ ap (λ ts. owed_to_try b (b.story n) (last_of ts)) untried ∙ ap (λ m. owed_unstarted (b.link m).end) r.on
+    let untried : (b.story n).tries ≡ [] = ap (λ m. (b.story m).tries) named ∙ h.tries.untried p g.0 g.1 not_started (sym (ap (λ m. (b.story m).link) named) ∙ r.on o) in
+    owed_by_try b n r.in_time r.spoken r.some in_time ∙ ap (λ ts. owed_to_try b (b.story n) (last_of ts)) untried ∙ ap (λ m. owed_waiting b.shut (b.link m)) (r.on o)
 
 -- what a link has settled is what its submissions are owed
 pub settled_owed : (b : Book) (t : Inner) (s : Settled) → Tied b t → s.id < length t.requests → (b.story (name_at t.requests s.id)).overdue ≡ false → IsOwed (owner_of t.requests) (b.link t.link) s → owed b (name_at t.requests s.id) ≡ Some (outcome_of s.verdict)
@@ -190,6 +224,7 @@ wanted_entry name l k (e ∷ es) p all (inr i) = let w = wanted_entry name l (su
 
 -- how far a link has come that has not ended
 pub lives : (l : Ledger) (created : ℕ) (life : Life) → TiedLife l created life → has_ended life ≡ false → l.end ≡ None
+lives l created Resting h n = h.2
 lives l created Dialing h n = h.2
 lives l created (Wanting link) h n = h.2
 lives l created (SettingUp link greeting) h n = h.2
@@ -198,6 +233,7 @@ lives l created (Ended e) h n = cc
 
 -- a link that has messages of requests in its row is tied by their names
 pub row_link : (l : Ledger) (requests : List Request) (life : Life) (p : ℕ) → IsIn p (row_ids (link_in life).row) → TiedLink (carried life requests) l (whole_link life) → TiedLink (owner_of requests) l (link_in life)
+row_link l requests Resting p i h = absurd i
 row_link l requests Dialing p i h = absurd i
 row_link l requests (Wanting link) p i h = absurd i
 row_link l requests (SettingUp link greeting) p i h = absurd i
@@ -213,15 +249,29 @@ row_unowed b t p h n l in_time i =
     let place = subst (λ m. StandsAs ledger.starts (owner_of t.requests m) w.entry.shape w.number) w.is w.open_as.place in
     owed_started b t p w.number w.entry.shape h l in_time place ∙ open_unowed (owner_of t.requests) ledger w.number w.entry alive w.open_as
 
--- nor to one that waits
-later_unowed : (b : Book) (t : Inner) (p : ℕ) → Tied b t → has_ended t.life ≡ false → p < length t.requests → (b.story (name_at t.requests p)).overdue ≡ false → IsIn p (queue_ids (link_in t.life).queue ++ kept_ids t.admitted t.waiting) → owed b (name_at t.requests p) ≡ None
-later_unowed b t p h n l in_time i = owed_none_started b t p h l in_time (later_unstarted b t p h i) ∙ ap owed_unstarted (lives (b.link t.link) b.created t.life h.life n)
+-- nor to one that waits, unless everything was shut down while the connection has no link
+--
+abbrev pub IsAwake : Inner → Type 0
+IsAwake t = is_resting t.life ≡ true → t.shut ≡ false
+
+-- so nothing is owed to who has no message
+waiting_unowed : (b : Book) (t : Inner) → Tied b t → IsAwake t → has_ended t.life ≡ false → owed_waiting b.shut (b.link t.link) ≡ None
+waiting_unowed b t h awake n = by_test (is_resting t.life) _ (λ rests. ap (λ s. owed_waiting s l) (h.numbers.shut ∙ awake rests) ∙ alive) (λ there. owed_asked b.shut l (is_asked l b.created t.life there h.life) ∙ alive)
+  where
+    l : Ledger
+    l = b.link t.link
+
+    alive : owed_unstarted l.end ≡ None
+    alive = ap owed_unstarted (lives l b.created t.life h.life n)
+
+later_unowed : (b : Book) (t : Inner) (p : ℕ) → Tied b t → IsAwake t → has_ended t.life ≡ false → is_open_at t.requests p ≡ true → (b.story (name_at t.requests p)).overdue ≡ false → IsIn p (queue_ids (link_in t.life).queue ++ kept_ids t.admitted t.waiting) → owed b (name_at t.requests p) ≡ None
+later_unowed b t p h awake n o in_time i = owed_none_started b t p h o in_time (later_unstarted b t p h i) ∙ waiting_unowed b t h awake n
 
 -- and so to none of the line
-pub line_unowed : (b : Book) (t : Inner) (p : ℕ) → Tied b t → has_ended t.life ≡ false → p < length t.requests → (b.story (name_at t.requests p)).overdue ≡ false → IsIn p (line_of (link_in t.life) t.admitted t.waiting) → owed b (name_at t.requests p) ≡ None
-line_unowed b t p h n l in_time i = elim (in_either p (requests_in (wanted (link_in t.life).row)) (queue_ids (link_in t.life).queue ++ kept_ids t.admitted t.waiting) i) [
-  | inl j ↦ row_unowed b t p h n l in_time (wanted_in p (link_in t.life).row (request_of p (wanted (link_in t.life).row) j))
-  | inr j ↦ later_unowed b t p h n l in_time j
+pub line_unowed : (b : Book) (t : Inner) (p : ℕ) → Tied b t → IsAwake t → has_ended t.life ≡ false → is_open_at t.requests p ≡ true → (b.story (name_at t.requests p)).overdue ≡ false → IsIn p (line_of (link_in t.life) t.admitted t.waiting) → owed b (name_at t.requests p) ≡ None
+line_unowed b t p h awake n o in_time i = elim (in_either p (requests_in (wanted (link_in t.life).row)) (queue_ids (link_in t.life).queue ++ kept_ids t.admitted t.waiting) i) [
+  | inl j ↦ row_unowed b t p h n (open_within t.requests p o) in_time (wanted_in p (link_in t.life).row (request_of p (wanted (link_in t.life).row) j))
+  | inr j ↦ later_unowed b t p h awake n o in_time j
 ]
 
 -- an open request that is not to be answered is in time
@@ -229,21 +279,21 @@ pub in_time : (b : Book) (t : Inner) (p : ℕ) → Tied b t → is_open_at t.req
 in_time b t p h o apart = by_test (b.story (name_at t.requests p)).overdue _ (λ late. absurd (apart (h.late p o late))) (λ f. f)
 
 -- where nothing is to be answered, no open submission is owed an outcome
-pub none_owed : (b : Book) (t : Inner) → Tied b t → t.pending ≡ [] → has_ended t.life ≡ false → NoneIsOwed b
-none_owed b t h none n m o =
+pub none_owed : (b : Book) (t : Inner) → Tied b t → IsAwake t → t.pending ≡ [] → has_ended t.life ≡ false → NoneIsOwed b
+none_owed b t h awake none n m o =
     let r = open_request b t m h o in
     let i = open_in_line b.story t.requests (link_in t.life) t.waiting t.admitted t.pending t.started r.number h.lines r.open_at in
     let j = subst (λ ns. IsIn r.number (ns ++ line_of (link_in t.life) t.admitted t.waiting)) none i in
-    ap (owed b) (sym r.named) ∙ line_unowed b t r.number h n (open_within t.requests r.number r.open_at) (in_time b t r.number h r.open_at (λ k. subst (IsIn r.number) none k)) j
+    ap (owed b) (sym r.named) ∙ line_unowed b t r.number h awake n r.open_at (in_time b t r.number h r.open_at (λ k. subst (IsIn r.number) none k)) j
 
--- on a link that has ended, where none waits, none is open
-pub none_open : (b : Book) (t : Inner) (e : RedisError) (n : ℕ) → Tied b t → t.pending ≡ [] → t.life ≡ Ended e → kept_ids t.admitted t.waiting ≡ [] → IsOpen b n → ⊥
-none_open b t e m h none over empty o =
+-- without a link, or on one that has ended, where none waits, none is open
+pub none_open : (b : Book) (t : Inner) (life : Life) (n : ℕ) → line_of (link_in life) t.admitted t.waiting ≡ kept_ids t.admitted t.waiting → Tied b t → t.pending ≡ [] → t.life ≡ life → kept_ids t.admitted t.waiting ≡ [] → IsOpen b n → ⊥
+none_open b t life m bare h none over empty o =
     let r = open_request b t m h o in
     let i = open_in_line b.story t.requests (link_in t.life) t.waiting t.admitted t.pending t.started r.number h.lines r.open_at in
     let j = subst (λ ns. IsIn r.number (ns ++ line_of (link_in t.life) t.admitted t.waiting)) none i in
     let k = subst (λ life. IsIn r.number (line_of (link_in life) t.admitted t.waiting)) over j in
-    subst (IsIn r.number) empty k
+    subst (IsIn r.number) (bare ∙ empty) k
 
 -- where the opening of a link failed, this was shown
 --
@@ -253,6 +303,7 @@ alive_failure end created none e fails = absurd (let no : ◌≡◌ {A = Option 
 
 -- by how far the link has come
 failure_shown : (l : Ledger) (created : ℕ) (life : Life) → TiedLife l created life → FailureIsShown l.end created
+failure_shown l created Resting h = alive_failure l.end created h.2
 failure_shown l created Dialing h = alive_failure l.end created h.2
 failure_shown l created (Wanting link) h = alive_failure l.end created h.2
 failure_shown l created (SettingUp link greeting) h = alive_failure l.end created h.2
@@ -263,14 +314,14 @@ failure_shown l created (Ended e) h = h.2
 pub failures_shown : (b : Book) (t : Inner) → Tied b t → FailuresAreShown b
 failures_shown b t h m = by_test (m == t.link) (FailureIsShown (b.link m).end b.created)
     (λ same. subst (λ k. FailureIsShown (b.link k).end b.created) (sym (eq_from m t.link same)) (failure_shown (b.link t.link) b.created t.life h.life))
-    (λ other. alive_failure (b.link m).end b.created (h.others m (ne_from m t.link other)).end)
+    (λ other. (h.others m (ne_from m t.link other)).shown)
 
--- a link was asked for, and where it is ready, or its opening failed, the creation was shown
+-- where a link is ready, or its opening failed, the creation was shown
 pub created_is : (b : Book) (t : Inner) → Tied b t → IsCreated b
 created_is b t h = record {
-  asked = λ e. let asked = h.numbers.links in let one = h.numbers.one in omega arith;
   shown = ready_shown b t h;
   failed = failures_shown b t h;
+  lazy = h.numbers.lazy;
 }
 
 -- nothing comes behind all of a list
@@ -284,13 +335,13 @@ get_behind (suc n) (h ∷ hs) e = get_behind n hs e
 pub notices_told : (b : Book) (t : Inner) → Tied b t → t.untold ≡ [] → NoticesAreTold b
 notices_told b t h none m heard = by_test (m == t.link) _
     (λ same. subst (λ k. next_notice (b.link k) ≡ None) (sym (eq_from m t.link same)) (get_behind (b.link t.link).told (b.link t.link).notices (h.notices.untold_is (ap hears_something (sym h.notices.heard_is) ∙ heard) ∙ none)))
-    (λ other. ap (λ (hs : List Heard). slice_get hs (b.link m).told) (h.others m (ne_from m t.link other)).notices)
+    (λ other. (h.others m (ne_from m t.link other)).told (ap hears_something (sym h.notices.heard_is) ∙ heard))
 
 -- and so was the end of each link, where none is
 pub ends_told : (b : Book) (t : Inner) → Tied b t → t.parting ≡ false → EndsAreTold b
 ends_told b t h none m heard cut = by_test (m == t.link) _
     (λ same. let e = eq_from m t.link same in subst (λ k. (b.link k).parted ≡ true) (sym e) (h.notices.parts (ap hears_pushes (sym h.notices.heard_is) ∙ heard) none (subst (λ k. is_cut (b.link k).end ≡ true) e cut)))
-    (λ other. absurd (not_both (is_cut (b.link m).end) (ap is_cut (h.others m (ne_from m t.link other)).end) cut))
+    (λ other. (h.others m (ne_from m t.link other)).parts (ap hears_pushes (sym h.notices.heard_is) ∙ heard) cut)
 
 -- the entries of a row are started one after another
 row_places : (b : Book) (t : Inner) (k j : ℕ) (row : List Entry) → Tied b t → k ≡ setup_count (b.link t.link).starts + j → AllByRecursion (IsEntry t.requests) row → OpenFrom (owner_of t.requests) (b.link t.link) k row → AtPlaces t.started j (row_ids row)

@@ -1,8 +1,8 @@
 -- Requests are moved on a link that is up: each takes its place where the queue has room, and messages start.
-use Rattle.std.proofs.Common.{Bool, List, [], ap, append_assoc, arith, false, inl, inr, length, refl, subst, sym, true, ℕ, ◌+◌, ◌-◌, ◌++◌, ◌∙◌, ◌∷◌, ◌≡◌, ◌⊎◌}
+use Rattle.std.proofs.Common.{Bool, List, [], ap, append_assoc, arith, false, inl, inr, length, refl, subst, sym, true, ℕ, ◌+◌, ◌-◌, ◌++◌, ◌∙◌, ◌∷◌, ◌≡◌, ◌⊎◌, suc}
 use Rattle.std.proofs.lemmas.List.{append-nil, length_push}
-use Rattle.std.specs.Prelude.{not}
-use Rattle.containers.proofs.Choices.{chosen, if_true, not_both, not_le_from}
+use Rattle.std.specs.Prelude.{not, ◌&&◌}
+use Rattle.containers.proofs.Choices.{chosen, if_true, not_both, not_le_from, both_left, both_right, by_test}
 use Rattle.resp_value.specs.declared.value.Value.TheVariants.{Nil}
 use Rattle.driver_model.specs.declared.action.Action.{Action}
 use Rattle.driver_model.specs.declared.action.Action.TheVariants as action
@@ -11,13 +11,13 @@ use Rattle.link_core.specs.Link.{LinkState, Starting, enqueued, holds_back, is_f
 use Rattle.link_core.specs.declared.message.Queued.{Queued}
 use Rattle.link_laws.specs.Starts.{starting}
 use Rattle.mux_conn.specs.Connection.{Work, acted, admits_none, admits_none_at, has_no_permit, has_room, with_link, with_setup, has_room_at, in_front}
-use Rattle.mux_conn.specs.Passes.{admitted, admitted_at, admitted_each, holding, let_in, message_of, permits_taken, seated_or_behind, still_waiting, moved_up, moved_up_each, noted, placed_at, put_behind, seated, started, started_at, still_admitted, told_at_place}
-use Rattle.mux_conn.specs.Requests.{answered, at_progress, closed, given_back, is_admitted_at, is_open as is_open_progress, is_open_at, is_waiting, is_waiting_at, name_at, permits_at, progressed, with_permits}
+use Rattle.mux_conn.specs.Passes.{admitted, admitted_at, admitted_each, holding, let_in, message_of, permits_taken, seated_or_behind, still_waiting, moved_up, moved_up_each, noted, placed_at, put_behind, seated, started, started_at, still_admitted, told_at_place, round_begun, rounds_of}
+use Rattle.mux_conn.specs.Requests.{answered, at_progress, closed, given_back, is_admitted_at, is_open as is_open_progress, is_open_at, is_waiting, is_waiting_at, name_at, permits_at, progressed, with_permits, is_unbegun, is_unbegun_at}
 use Rattle.mux_conn.specs.declared.act.LinkAct.{LinkAct}
 use Rattle.mux_conn.specs.declared.act.LinkAct.TheVariants as act
 use Rattle.mux_conn.specs.declared.connection.MultiplexedConnection.{MultiplexedConnection}
 use Rattle.mux_conn.specs.declared.life.Life.{Life}
-use Rattle.mux_conn.specs.declared.life.Life.TheVariants.{Dialing, Ended, Ready, Wanting, SettingUp}
+use Rattle.mux_conn.specs.declared.life.Life.TheVariants.{Resting, Dialing, Ended, Ready, Wanting, SettingUp}
 use Rattle.mux_conn.specs.declared.renewal.Renewal.{Renewal}
 use Rattle.mux_conn.specs.declared.request.Progress.{Progress}
 use Rattle.mux_conn.specs.declared.request.Progress.TheVariants as progress
@@ -26,15 +26,16 @@ use Rattle.mux_conn.specs.declared.request.Waiting.{Waiting}
 use Rattle.shared_session.specs.declared.core_state.Core.{Core}
 use Rattle.shared_session.specs.Turn.{timers_of}
 use Rattle.legal_trace.specs.Book.{Book, book}
-use Rattle.legal_trace.specs.Legal.{MayTell, NoneEnds}
+use Rattle.legal_trace.specs.Legal.{MayTell, NoneEnds, IsFirstToMove}
 use Rattle.legal_trace.specs.Steps.{is_let_in}
-use Rattle.session_laws.proofs.Ahead.{IsRunning, first_step, kept_unstarted, waiting_open, HasSeats}
+use Rattle.session_laws.proofs.Rounds.{round_going, with_round}
+use Rattle.session_laws.proofs.Ahead.{IsRunning, first_step, kept_unstarted, waiting_open, HasSeats, running_of}
 use Rattle.session_laws.proofs.Entered.{shown_more}
-use Rattle.session_laws.proofs.Going.{IsGoing, begun_up, first_behind, going_more, HasRenewed}
+use Rattle.session_laws.proofs.Going.{IsGoing, begun_up, first_behind, going_more, HasRenewed, first_round}
 use Rattle.session_laws.proofs.InLine.{kept_ids}
-use Rattle.session_laws.proofs.LetIn.{IsOpening, let_in_conn, let_in_going, lets, permits_twice}
-use Rattle.session_laws.proofs.Names.{length_still, length_with, name_still, name_with, open_within, permits_still, permits_with, there_same, with_same}
-use Rattle.session_laws.proofs.Numbers.{IsIn, Rising, rising_left, rising_right, rising_tail, rising_without, in_either, in_right, requests_in, rising_apart}
+use Rattle.session_laws.proofs.LetIn.{IsOpening, let_in_conn, let_in_going, lets, permits_twice, first_early}
+use Rattle.session_laws.proofs.Names.{length_still, length_with, name_still, name_with, open_within, permits_still, permits_with, there_same, with_same, there_then, there_within}
+use Rattle.session_laws.proofs.Numbers.{IsIn, Rising, rising_left, rising_right, rising_tail, rising_without, in_either, in_right, requests_in, rising_apart, rising_in}
 use Rattle.session_laws.proofs.Owes.{request_story}
 use Rattle.session_laws.proofs.Place.{IsNext, admit_tied, next_admitted, next_waiting, passed_admitted, passed_waiting, place_tied, tell_tied, with_place, with_told}
 use Rattle.session_laws.proofs.SetsUp.{greeted_conn}
@@ -83,7 +84,7 @@ started_up before f w link admitted waiting next done fit seats h order =
       seats = each_seats w.conn.moved (in_front w.conn.renewal) w.conn.size from link.queue seats;
       held = each_held from link.queue;
       started = done ++ ids;
-      going = subst (λ ss. IsGoing (trace_of_acts before f acts) (record (on_link t s.link) { started = done ++ ids; timers = f.timers ++ timers_of f.single.link acts; sources = f.sources ++ ss })) (sym (shows_sources f.single.link (length f.sources) w.acts w.conn.requests s.out))
+      going = subst (λ ss. IsGoing (trace_of_acts before f acts) (record (on_link t s.link) { started = done ++ ids; timers = f.timers ++ timers_of f.single.link acts; sources = f.sources ++ ss })) (sym (shows_sources f.single.link w.acts w.conn.requests s.out))
           (subst (λ ts. IsGoing (trace_of_acts before f acts) (record (on_link t s.link) { started = done ++ ids; timers = f.timers ++ ts })) (sym (shows_timers f.single.link w.acts w.conn.requests s.out)) (each_going before (length f.timers) (length f.sources) w.acts t from link.queue fit seats first));
       order = order;
     })
@@ -98,39 +99,46 @@ up_going before f w admitted waiting letting next h = subst (λ (x : Life). IsGo
 pub record Keeps (w v : Work) : Type 0 where
   pub admitted : v.conn.admitted ≡ w.conn.admitted
   pub waiting : v.conn.waiting ≡ w.conn.waiting
+  pub last : v.conn.last ≡ w.conn.last
 
 -- one after another
 keeps_on : (u v w : Work) → Keeps u v → Keeps v w → Keeps u w
-keeps_on u v w h k = record { admitted = k.admitted ∙ h.admitted; waiting = k.waiting ∙ h.waiting }
+keeps_on u v w h k = record { admitted = k.admitted ∙ h.admitted; waiting = k.waiting ∙ h.waiting; last = k.last ∙ h.last }
 
 -- starts leave those that wait
 pub started_keeps : (w : Work) (life : Life) → Keeps w (started_at w life)
-started_keeps w Dialing = record { admitted = refl; waiting = refl }
-started_keeps w (Wanting link) = record { admitted = refl; waiting = refl }
+started_keeps w Resting = record { admitted = refl; waiting = refl; last = refl }
+started_keeps w Dialing = record { admitted = refl; waiting = refl; last = refl }
+started_keeps w (Wanting link) = record { admitted = refl; waiting = refl; last = refl }
 started_keeps w (SettingUp link greeting) =
     let s = started_all (record { link = link; out = [] }) in
     let same = greeted_conn (with_setup w s.link greeting) greeting s.out in
-    record { admitted = ap (λ (c : MultiplexedConnection). c.admitted) same; waiting = ap (λ (c : MultiplexedConnection). c.waiting) same }
+    record { admitted = ap (λ (c : MultiplexedConnection). c.admitted) same; waiting = ap (λ (c : MultiplexedConnection). c.waiting) same; last = ap (λ (c : MultiplexedConnection). c.last) same }
 started_keeps w (Ready link) =
     let s = started_all (record { link = link; out = [] }) in
     let same = shown_is (with_link w s.link) s.out in
-    record { admitted = ap (λ (x : Work). x.conn.admitted) same; waiting = ap (λ (x : Work). x.conn.waiting) same }
-started_keeps w (Ended e) = record { admitted = refl; waiting = refl }
+    record { admitted = ap (λ (x : Work). x.conn.admitted) same; waiting = ap (λ (x : Work). x.conn.waiting) same; last = ap (λ (x : Work). x.conn.last) same }
+started_keeps w (Ended e) = record { admitted = refl; waiting = refl; last = refl }
 
 -- so does the place of another
 placed_keeps : (w : Work) (q : Waiting) (life : Life) → Keeps w (placed_at w q life)
-placed_keeps w q Dialing = record { admitted = refl; waiting = refl }
-placed_keeps w q (Wanting link) = record { admitted = refl; waiting = refl }
-placed_keeps w q (SettingUp link greeting) = record { admitted = refl; waiting = refl }
-placed_keeps w q (Ready link) = record { admitted = refl; waiting = refl }
-placed_keeps w q (Ended e) = record { admitted = refl; waiting = refl }
+placed_keeps w q Resting = record { admitted = refl; waiting = refl; last = refl }
+placed_keeps w q Dialing = record { admitted = refl; waiting = refl; last = refl }
+placed_keeps w q (Wanting link) = record { admitted = refl; waiting = refl; last = refl }
+placed_keeps w q (SettingUp link greeting) = record { admitted = refl; waiting = refl; last = refl }
+placed_keeps w q (Ready link) = record { admitted = refl; waiting = refl; last = refl }
+placed_keeps w q (Ended e) = record { admitted = refl; waiting = refl; last = refl }
 
 -- and the answer at it
 told_keeps : (w : Work) (q : Waiting) → Keeps w (told_at_place w q)
 told_keeps w q =
     let nil = outcome.One Nil in
-    chosen (Keeps w) q.awaited w (answered w q.number nil) (λ t. record { admitted = refl; waiting = refl })
-    (λ f. let l = answered_leaves w q.number nil in record { admitted = l.admitted; waiting = l.waiting })
+    chosen (Keeps w) q.awaited w (answered w q.number nil) (λ t. record { admitted = refl; waiting = refl; last = refl })
+    (λ f. let l = answered_leaves w q.number nil in record {
+      admitted = l.admitted;
+      waiting = l.waiting;
+      last = chosen (λ (x : Work). x.conn.last ≡ w.conn.last) (is_open_at w.conn.requests q.number) _ w (λ t. refl) (λ f. refl);
+    })
 
 -- and so all of it
 seated_keeps : (w : Work) (q : Waiting) → Keeps w (seated w q)
@@ -158,7 +166,7 @@ tell_may b t link q waiting admitted not_awaited fit seats held room next h ends
       begun = begun_up b was h running (refl, refl) ends renewed;
       asked = (request_story b was p h (open_within t.requests p o)).open_is ∙ o;
       unstarted = kept_unstarted b was p h o (subst (IsIn p) (sym next.first) (inl refl));
-      tells = first_step b was p kept h running room o next.first next.let_in (sym next.packed.is_of.awaited_is ∙ not_awaited);
+      tells = first_step b was p kept h running room o next.first next.let_in next.begun (sym next.packed.is_of.awaited_is ∙ not_awaited);
       in_order = first_behind b was p kept h running held next.first;
       nil = refl;
     }
@@ -269,12 +277,16 @@ free_link : (c : MultiplexedConnection) (link : LinkState) → c.life ≡ Ready 
 free_link c link e room = not_full (is_full_beside link (in_front c.renewal)) (ap (λ (life : Life). has_room_at life (in_front c.renewal)) (sym e) ∙ room)
 
 -- where a connection that is up has no room, its queue is full
-pub no_room : (c : MultiplexedConnection) (link : LinkState) → c.life ≡ Ready link → has_room c ≡ false → is_full_beside link (in_front c.renewal) ≡ true
+no_room : (c : MultiplexedConnection) (link : LinkState) → c.life ≡ Ready link → has_room c ≡ false → is_full_beside link (in_front c.renewal) ≡ true
 no_room c link e none = full (is_full_beside link (in_front c.renewal)) (ap (λ (life : Life). has_room_at life (in_front c.renewal)) (sym e) ∙ none)
   where
     full : (x : Bool) → not x ≡ false → x ≡ true
     full true e = refl
     full false e = cc
+
+-- so where those that wait for a place still have found no room, they find it full
+pub found_full : (c : MultiplexedConnection) (link : LinkState) → c.life ≡ Ready link → (c.admitted ≡ []) ⊎ (has_room c ≡ false) → (c.admitted ≡ []) ⊎ (is_full_beside link (in_front c.renewal) ≡ true)
+found_full c link e found = elim found [ inl empty ↦ inl empty | inr none ↦ inr (no_room c link e none) ]
 
 -- one that waits for a place no longer
 gone_admitted : (before : List Action) (f : Core) (w : Work) (q : Waiting) (qs waiting : List Waiting) → IsUp before f w (q ∷ qs) waiting [] (kept_ids (q ∷ qs) waiting) → is_admitted_at w.conn.requests q.number ≡ false → IsUp before f w qs waiting [] (kept_ids qs waiting)
@@ -372,13 +384,63 @@ gone_waiting before f w q qs s gone =
       full = s.full;
     }
 
+-- a round
+--
+-- that of a request begins, whose step is the first
+pub round_up : (before : List Action) (f : Core) (w : Work) (p : ℕ) (admitted waiting : List Waiting) (next : List ℕ) (h : IsUp before f w admitted waiting [] next) → w.conn.rounds ≡ true → is_unbegun_at w.conn.requests p ≡ true
+    → IsFirstToMove (book (trace_of_acts before f w.acts)) (name_at w.conn.requests p) → IsUp before f (acted (progressed w p progress.Begun) (act.Round (name_at w.conn.requests p))) admitted waiting [] next
+round_up before f w p admitted waiting next h shows u first =
+    let t = moving f w.acts w.conn admitted waiting h.started in
+    let a = act.Round (name_at w.conn.requests p) in
+    let after = with_round t p in
+    let going = round_going (trace_of_acts before f w.acts) t p (running_of t h.link refl h.life h.fit h.seats) (refl, refl) shows u first h.going in
+    let there = subst (λ (x : List Action). IsGoing x after) (sym (shown_more before f.single.link (length f.timers) (length f.sources) w.acts a)) going in
+    record {
+      link = h.link;
+      life = h.life;
+      fit = h.fit;
+      seats = h.seats;
+      held = h.held;
+      started = h.started;
+      going = subst (IsGoing (trace_of_acts before f (w.acts ++ a ∷ []))) (quiet_asks f after w.acts a refl refl) there;
+      order = subst (Rising 0 (w.conn.moved ++ next)) (sym (length_still w.conn.requests p progress.Begun)) h.order;
+    }
+
+-- the next that waits, once its round has begun
+record IsRounded (before : List Action) (f : Core) (w : Work) (q : Waiting) (qs : List Waiting) : Type 0 where
+  seated : IsSeated before f w (q ∷ qs)
+  waits : is_waiting_at w.conn.requests q.number ≡ true
+  begun : w.conn.rounds ≡ true → is_unbegun_at w.conn.requests q.number ≡ false
+  some : has_no_permit w.conn.limit w.conn.free ≡ false
+
+-- it begins, if it is to
+first_rounded : (before : List Action) (f : Core) (w : Work) (q : Waiting) (qs : List Waiting) → IsSeated before f w (q ∷ qs) → is_waiting_at w.conn.requests q.number ≡ true → has_no_permit w.conn.limit w.conn.free ≡ false → IsRounded before f (round_begun w q.number) q qs
+first_rounded before f w q qs s wt some =
+    let h = s.up in
+    let p = q.number in
+    let t = moving f w.acts w.conn w.conn.admitted (q ∷ qs) h.started in
+    let b = book (trace_of_acts before f w.acts) in
+    let here : link_in w.conn.life ≡ h.link = ap link_in h.life in
+    let within = there_within is_waiting w.conn.requests p wt in
+    let first = first_early b t p (waiting_ids qs) h.going.sound.tied (running_of t h.link refl h.life h.fit h.seats)
+    (subst (λ (x : LinkState). (x.queue ≡ []) ⊎ (holds_back x ≡ true)) (sym here) h.held)
+    (subst (λ (x : LinkState). (w.conn.admitted ≡ []) ⊎ (is_full_beside x (in_front w.conn.renewal) ≡ true)) (sym here) (found_full w.conn h.link h.life s.full)) refl in
+    chosen (λ (x : Work). IsRounded before f x q qs) (w.conn.rounds && is_unbegun_at w.conn.requests p) (acted (progressed w p progress.Begun) (act.Round (name_at w.conn.requests p))) w
+    (λ t1. record {
+      seated = record { up = round_up before f w p w.conn.admitted (q ∷ qs) (waiting_ids (q ∷ qs)) h (both_left w.conn.rounds (is_unbegun_at w.conn.requests p) t1) (both_right w.conn.rounds (is_unbegun_at w.conn.requests p) t1) first; full = s.full };
+      waits = there_same is_waiting w.conn.requests p progress.Begun within;
+      begun = λ shows. there_same is_unbegun w.conn.requests p progress.Begun within;
+      some = some;
+    })
+    (λ f1. record { seated = s; waits = wt; begun = λ shows. ap (λ x. x && is_unbegun_at w.conn.requests p) (sym shows) ∙ f1; some = some })
+
 -- a request that is let in
 --
--- the connection while it is, as one that waits still
+-- the connection while it is, as one that waits still, behind its round
 abbrev letting : Work → Waiting → Work
 letting w q =
     let count = permits_taken w.conn.limit w.conn.free q.shape in
-    record { conn = record w.conn { requests = with_permits w.conn.requests q.number progress.Waiting count; free = w.conn.free - count }; acts = (let_in w q).acts }
+    record { conn = record w.conn { requests = with_permits w.conn.requests q.number progress.Begun count; free = w.conn.free - count }; acts = (let_in w q).acts }
 
 -- and then, where it waits for a place or has one
 abbrev entering : Work → Waiting → Work
@@ -400,13 +462,14 @@ seated_once w q link e wt =
     let placed : (now : Progress) → at_progress (with_permits w.conn.requests p now count) p progress.Placed ≡ with_permits w.conn.requests p progress.Placed count = λ now.
     permits_twice w.conn.requests p now progress.Placed count (permits_at (with_permits w.conn.requests p now count) p) ∙ ap (with_permits w.conn.requests p progress.Placed) (permits_with w.conn.requests p now count within) in
     ap (λ (x : Life). started (told_at_place (placed_at v q x) q)) e
-    ∙ ap (λ (x : List Request). started (told_at_place (record u { conn = record u.conn { requests = x } }) q)) (placed progress.Admitted ∙ sym (placed progress.Waiting))
+    ∙ ap (λ (x : List Request). started (told_at_place (record u { conn = record u.conn { requests = x } }) q)) (placed progress.Admitted ∙ sym (placed progress.Begun))
     ∙ sym (ap (λ (x : Life). started (told_at_place (placed_at g q x) q)) e)
 
 -- it is let in, while those that wait for a place find the queue full
-letting_up : (before : List Action) (f : Core) (w : Work) (q : Waiting) (qs : List Waiting) → IsSeated before f w (q ∷ qs) → is_waiting_at w.conn.requests q.number ≡ true → has_no_permit w.conn.limit w.conn.free ≡ false
+letting_up : (before : List Action) (f : Core) (w : Work) (q : Waiting) (qs : List Waiting) → IsRounded before f w q qs
     → IsUp before f (letting w q) w.conn.admitted (q ∷ qs) (q.number ∷ []) (waiting_ids (q ∷ qs)) × (is_let_in w.conn.limit ((book (trace_of_acts before f (let_in w q).acts)).story (name_at (letting w q).conn.requests q.number)) ≡ true)
-letting_up before f w q qs s wt some =
+letting_up before f w q qs r =
+    let s = r.seated in
     let h = s.up in
     let p = q.number in
     let count = permits_taken w.conn.limit w.conn.free q.shape in
@@ -417,12 +480,13 @@ letting_up before f w q qs s wt some =
       fit = h.fit;
       seats = h.seats;
       held = h.held;
-      full = elim s.full [ inl empty ↦ inl empty | inr none ↦ inr (no_room w.conn h.link h.life none) ];
+      full = found_full w.conn h.link h.life s.full;
       renewed = h.going.renewed;
       waiting = refl;
-      is_waiting = wt;
+      is_waiting = r.waits;
+      begun = r.begun;
     } in
-    let k = let_in_going before f w w.conn.admitted h.started h.link q qs opening some h.going in
+    let k = let_in_going before f w w.conn.admitted h.started h.link q qs opening r.some h.going in
     let t = moving f w.acts w.conn w.conn.admitted (q ∷ qs) h.started in
     let acts = (let_in w q).acts in (
       record {
@@ -433,55 +497,62 @@ letting_up before f w q qs s wt some =
         held = h.held;
         started = h.started;
         going = subst (λ ss. IsGoing (trace_of_acts before f acts) (record (lets t p count (w.conn.free - count) (f.timers ++ timers_of f.single.link acts)) { sources = ss })) (sym k.sourced) k.going;
-        order = subst (Rising 0 (w.conn.moved ++ waiting_ids (q ∷ qs))) (sym (length_with w.conn.requests p progress.Waiting count)) h.order;
+        order = subst (Rising 0 (w.conn.moved ++ waiting_ids (q ∷ qs))) (sym (length_with w.conn.requests p progress.Begun count)) h.order;
       },
-      ap (λ n. is_let_in w.conn.limit ((book (trace_of_acts before f (let_in w q).acts)).story n)) (name_with w.conn.requests p progress.Waiting count p) ∙ k.is,
+      ap (λ n. is_let_in w.conn.limit ((book (trace_of_acts before f (let_in w q).acts)).story n)) (name_with w.conn.requests p progress.Begun count p) ∙ k.is,
     )
 
 -- where the queue has room it takes its place
-admitted_seated : (before : List Action) (f : Core) (w : Work) (q : Waiting) (qs : List Waiting) → IsSeated before f w (q ∷ qs) → is_waiting_at w.conn.requests q.number ≡ true → has_no_permit w.conn.limit w.conn.free ≡ false → w.conn.admitted ≡ [] → has_room w.conn ≡ true
+admitted_seated : (before : List Action) (f : Core) (w : Work) (q : Waiting) (qs : List Waiting) → IsRounded before f w q qs → w.conn.admitted ≡ [] → has_room w.conn ≡ true
     → IsSeated before f (seated (entering w q) q) qs
-admitted_seated before f w q qs s wt some none room =
+admitted_seated before f w q qs r none room =
+    let s = r.seated in
+    let wt = r.waits in
     let g = letting w q in
     let p = q.number in
     let count = permits_taken w.conn.limit w.conn.free q.shape in
     let b = book (trace_of_acts before f g.acts) in
     let ids = waiting_ids (q ∷ qs) in
-    let l = letting_up before f w q qs s wt some in
+    let l = letting_up before f w q qs r in
     let h = subst (λ ws. IsUp before f g ws (q ∷ qs) (p ∷ []) ids) none l.0 in
     let t = letting_in f g.acts g.conn [] (q ∷ qs) (p ∷ []) h.started in
-    let waits : is_waiting_at g.conn.requests p ≡ true = with_same is_waiting w.conn.requests p progress.Waiting count (open_within w.conn.requests p (waiting_open w.conn.requests p wt)) in
+    let within = open_within w.conn.requests p (waiting_open w.conn.requests p wt) in
+    let waits : is_waiting_at g.conn.requests p ≡ true = with_same is_waiting w.conn.requests p progress.Begun count within in
+    let begun : is_unbegun_at g.conn.requests p ≡ false = with_same is_unbegun w.conn.requests p progress.Begun count within in
     let empty : (seated g q).conn.admitted ≡ [] = (seated_keeps g q).admitted ∙ none in
     let up = seated_up before f g q [] (q ∷ qs) [] qs (p ∷ []) (waiting_ids qs) h (free_link g.conn h.link h.life room)
-    (next_waiting b t h.link q qs waits l.1 (order_last g.conn.moved p (waiting_ids qs) (length g.conn.requests) h.order) (up_going before f g [] (q ∷ qs) (p ∷ []) ids h).sound.tied) in
+    (next_waiting b t h.link q qs waits begun l.1 (order_last g.conn.moved p (waiting_ids qs) (length g.conn.requests) h.order) (up_going before f g [] (q ∷ qs) (p ∷ []) ids h).sound.tied) in
     subst (λ (x : Work). IsSeated before f x qs) (sym (seated_once w q s.up.link s.up.life wt)) (record {
       up = subst (λ ws. IsUp before f (seated g q) ws qs [] (waiting_ids qs)) (sym empty) up;
       full = inl empty;
     })
 
 -- and else it waits for one, behind the others
-admitted_behind : (before : List Action) (f : Core) (w : Work) (q : Waiting) (qs : List Waiting) → IsSeated before f w (q ∷ qs) → is_waiting_at w.conn.requests q.number ≡ true → has_no_permit w.conn.limit w.conn.free ≡ false → has_room w.conn ≡ false
+admitted_behind : (before : List Action) (f : Core) (w : Work) (q : Waiting) (qs : List Waiting) → IsRounded before f w q qs → has_room w.conn ≡ false
     → IsSeated before f (put_behind (entering w q) q) qs
-admitted_behind before f w q qs s wt some none =
+admitted_behind before f w q qs r none =
+    let s = r.seated in
+    let wt = r.waits in
     let p = q.number in
     let g = letting w q in
     let count = permits_taken w.conn.limit w.conn.free q.shape in
     let b = book (trace_of_acts before f g.acts) in
     let ids = waiting_ids (q ∷ qs) in
-    let l = letting_up before f w q qs s wt some in
+    let l = letting_up before f w q qs r in
     let h = l.0 in
     let v = put_behind (entering w q) q in
     let within = open_within w.conn.requests p (waiting_open w.conn.requests p wt) in
-    let waits : is_waiting_at g.conn.requests p ≡ true = with_same is_waiting w.conn.requests p progress.Waiting count within in
+    let waits : is_waiting_at g.conn.requests p ≡ true = with_same is_waiting w.conn.requests p progress.Begun count within in
+    let begun : is_unbegun_at g.conn.requests p ≡ false = with_same is_unbegun w.conn.requests p progress.Begun count within in
     let t = letting_in f g.acts g.conn w.conn.admitted qs (p ∷ []) h.started in
     let after = moving f v.acts v.conn v.conn.admitted qs h.started in
     let was = up_going before f g w.conn.admitted (q ∷ qs) (p ∷ []) ids h in
     let twice : at_progress g.conn.requests p progress.Admitted ≡ with_permits w.conn.requests p progress.Admitted count =
-    permits_twice w.conn.requests p progress.Waiting progress.Admitted count (permits_at g.conn.requests p) ∙ ap (with_permits w.conn.requests p progress.Admitted) (permits_with w.conn.requests p progress.Waiting count within) in
+    permits_twice w.conn.requests p progress.Begun progress.Admitted count (permits_at g.conn.requests p) ∙ ap (with_permits w.conn.requests p progress.Admitted) (permits_with w.conn.requests p progress.Begun count within) in
     let apart : IsIn p (queue_ids h.link.queue) → ⊥ = λ i.
     let line = rising_right 0 (requests_in h.started) (queue_ids h.link.queue ++ kept_ids w.conn.admitted (q ∷ qs)) (length g.conn.requests) was.sound.tied.lines.line in
     (let k = rising_apart 0 (queue_ids h.link.queue) (kept_ids w.conn.admitted (q ∷ qs)) (length g.conn.requests) p p line i (in_right p (waiting_ids w.conn.admitted) ids (inl refl)) in omega arith) in
-    let admitted : Tied b (record (on_link after h.link) { requests = at_progress g.conn.requests p progress.Admitted }) = admit_tied b t h.link q qs waits l.1 (order_last g.conn.moved p (waiting_ids qs) (length g.conn.requests) h.order) was.sound.tied in
+    let admitted : Tied b (record (on_link after h.link) { requests = at_progress g.conn.requests p progress.Admitted }) = admit_tied b t h.link q qs waits begun l.1 (order_last g.conn.moved p (waiting_ids qs) (length g.conn.requests) h.order) was.sound.tied in
     let now : IsGoing (trace_of_acts before f g.acts) (on_link after h.link) = record {
       sound = record {
         stands = was.sound.stands;
@@ -507,18 +578,20 @@ admitted_behind before f w q qs s wt some none =
       full = inr none;
     }
 
+-- once its round has begun
+rounded_one : (before : List Action) (f : Core) (v : Work) (q : Waiting) (qs : List Waiting) → IsRounded before f v q qs → IsSeated before f (seated_or_behind (let_in v q) q) qs
+rounded_one before f v q qs r =
+    let u = entering v q in
+    subst (λ (x : Work). IsSeated before f (seated_or_behind x q) qs) (sym (let_in_is v q))
+    (chosen (λ (x : Work). IsSeated before f x qs) (has_room v.conn) (seated u q) (put_behind u q)
+    (λ room. elim r.seated.full [ inl none ↦ admitted_seated before f v q qs r none room | inr stuck ↦ absurd (not_both (has_room v.conn) stuck room) ])
+    (λ stuck. admitted_behind before f v q qs r stuck))
+
 -- one is moved
 admitted_one : (before : List Action) (f : Core) (w : Work) (q : Waiting) (qs : List Waiting) → IsSeated before f w (q ∷ qs) → has_no_permit w.conn.limit w.conn.free ≡ false → IsSeated before f (admitted w q) qs
 admitted_one before f w q qs s some =
-    let h = s.up in
-    let v = entering w q in
     chosen (λ (x : Work). IsSeated before f x qs) (is_waiting_at w.conn.requests q.number) (admitted_at w q w.conn.life) w
-    (λ wt.
-    subst (λ (x : Life). IsSeated before f (admitted_at w q x) qs) (sym h.life)
-    (subst (λ (x : Work). IsSeated before f (seated_or_behind x q) qs) (sym (let_in_is w q))
-    (chosen (λ (x : Work). IsSeated before f x qs) (has_room w.conn) (seated v q) (put_behind v q)
-    (λ room. elim s.full [ inl none ↦ admitted_seated before f w q qs s wt some none room | inr stuck ↦ absurd (not_both (has_room w.conn) stuck room) ])
-    (λ stuck. admitted_behind before f w q qs s wt some stuck))))
+    (λ wt. subst (λ (x : Life). IsSeated before f (admitted_at w q x) qs) (sym s.up.life) (rounded_one before f (round_begun w q.number) q qs (first_rounded before f w q qs s wt some)))
     (λ gone. gone_waiting before f w q qs s gone)
 
 -- none waits any more, or no permit is free
@@ -544,3 +617,61 @@ admitted_done before f w (q ∷ qs) s =
     chosen (λ (x : Work). IsDone before f x) (admits_none w.conn) (still_waiting w (q ∷ qs)) (admitted_each (admitted w q) qs)
     (λ t. record { seated = still_seated before f w (q ∷ qs) s; none = inr (sym up ∙ t) })
     (λ f1. admitted_done before f (admitted w q) qs (admitted_one before f w q qs s (sym up ∙ f1)))
+
+-- those that go on waiting
+--
+-- whose rounds have not begun are among these
+abbrev AreAmong : Work → List ℕ → Type 0
+AreAmong w ps = (p : ℕ) → is_unbegun_at w.conn.requests p ≡ true → IsIn p ps
+
+-- one after another, rounds begin of these, which rise from this number on
+pub record IsBeginning (before : List Action) (f : Core) (w : Work) (lo : ℕ) (ps : List ℕ) : Type 0 where
+  pub done : IsDone before f w
+  pub shows : w.conn.rounds ≡ true
+  pub among : AreAmong w ps
+  pub rises : Rising lo ps (length w.conn.requests)
+
+-- that of the first of them
+next_begins : (before : List Action) (f : Core) (w : Work) (lo p : ℕ) (ps : List ℕ) → IsBeginning before f w lo (p ∷ ps) → IsBeginning before f (round_begun w p) (suc p) ps
+next_begins before f w lo p ps s =
+    let done = s.done in
+    let h = done.seated.up in
+    let requests = w.conn.requests in
+    let t = moving f w.acts w.conn w.conn.admitted w.conn.waiting h.started in
+    let b = book (trace_of_acts before f w.acts) in
+    let here : link_in w.conn.life ≡ h.link = ap link_in h.life in
+    let first : is_unbegun_at requests p ≡ true → IsFirstToMove b (name_at requests p) = λ u.
+    first_round b t p h.going.sound.tied (running_of t h.link refl h.life h.fit h.seats) refl
+    (subst (λ (x : LinkState). (x.queue ≡ []) ⊎ (holds_back x ≡ true)) (sym here) h.held)
+    (subst (λ (x : LinkState). (w.conn.admitted ≡ []) ⊎ (is_full_beside x (in_front w.conn.renewal) ≡ true)) (sym here) (found_full w.conn h.link h.life done.seated.full)) done.none
+    (there_within is_unbegun requests p u)
+    (λ m less. by_test (is_unbegun_at requests m) _
+    (λ v. absurd (elim (s.among m v) [ inl same ↦ omega (arith, same) | inr i ↦ (let k = rising_in (suc p) ps (length requests) m s.rises.1 i in omega (arith, k.0)) ]))
+    (λ v. v)) in
+    chosen (λ (x : Work). IsBeginning before f x (suc p) ps) (w.conn.rounds && is_unbegun_at requests p) (acted (progressed w p progress.Begun) (act.Round (name_at requests p))) w
+    (λ t1.
+    let u = both_right w.conn.rounds (is_unbegun_at requests p) t1 in
+    record {
+      done = record { seated = record { up = round_up before f w p w.conn.admitted w.conn.waiting (waiting_ids w.conn.waiting) h s.shows u (first u); full = done.seated.full }; none = done.none };
+      shows = s.shows;
+      among = λ m v. let k = there_then is_unbegun requests p m progress.Begun refl (there_within is_unbegun requests p u) v in elim (s.among m k.1) [ inl same ↦ absurd (k.0 same) | inr i ↦ i ];
+      rises = subst (Rising (suc p) ps) (sym (length_still requests p progress.Begun)) s.rises.1;
+    })
+    (λ f1.
+    let begun : is_unbegun_at requests p ≡ false = ap (λ x. x && is_unbegun_at requests p) (sym s.shows) ∙ f1 in
+    record {
+      done = done;
+      shows = s.shows;
+      among = λ m v. elim (s.among m v) [ inl same ↦ absurd (not_both (is_unbegun_at requests m) (ap (is_unbegun_at requests) (sym same) ∙ begun) v) | inr i ↦ i ];
+      rises = s.rises.1;
+    })
+
+-- none is left
+pub record AreAllBegun (before : List Action) (f : Core) (w : Work) : Type 0 where
+  pub done : IsDone before f w
+  pub begun : (p : ℕ) → is_unbegun_at w.conn.requests p ≡ false
+
+-- once those of all have begun
+pub rounds_done : (before : List Action) (f : Core) (w : Work) (lo : ℕ) (ps : List ℕ) → IsBeginning before f w lo ps → AreAllBegun before f (rounds_of w ps)
+rounds_done before f w lo [] s = record { done = s.done; begun = λ p. by_test (is_unbegun_at w.conn.requests p) _ (λ u. absurd (s.among p u)) (λ v. v) }
+rounds_done before f w lo (p ∷ ps) s = rounds_done before f (round_begun w p) (suc p) ps (next_begins before f w lo p ps s)

@@ -14,7 +14,7 @@ use Rattle.link_core.specs.declared.message.Queued.{Queued}
 use Rattle.link_laws.proofs.TiedLink.{TiedLink, all_push, enqueued_tied}
 use Rattle.link_laws.specs.Settles.{awaited_ids, wanted}
 use Rattle.mux_conn.specs.Passes.{message_of}
-use Rattle.mux_conn.specs.Requests.{at_progress, given_back, is_admitted, is_admitted_at, is_open as is_open_progress, is_open_at, is_placed, is_placed_at, is_waiting, is_waiting_at, name_at, permits_at, with_permits}
+use Rattle.mux_conn.specs.Requests.{at_progress, given_back, is_admitted, is_admitted_at, is_open as is_open_progress, is_open_at, is_placed, is_placed_at, is_waiting, is_waiting_at, name_at, permits_at, with_permits, is_unbegun_at}
 use Rattle.mux_conn.specs.declared.life.Life.{Life}
 use Rattle.mux_conn.specs.declared.life.Life.TheVariants.{Ready}
 use Rattle.mux_conn.specs.declared.request.Pending.{Pending}
@@ -33,11 +33,14 @@ use Rattle.session_laws.proofs.InLine.{awaited_in, kept_ids}
 use Rattle.session_laws.proofs.Kept.{of_same}
 use Rattle.session_laws.proofs.Names.{length_still, length_with, name_still, name_was, name_with, name_within, names_progressed, names_with, open_within, owners_still, owners_with, permits_still, request_not, there_other, there_same, there_then, with_same}
 use Rattle.session_laws.proofs.Numbers.{IsIn, Rising, in_either, in_left, in_right, rising_apart, rising_in, rising_right, rising_tail, rising_without, request_in, requests_in}
-use Rattle.session_laws.proofs.Owes.{in_line, request_story}
+use Rattle.session_laws.proofs.Owes.{in_line, request_story, open_on}
 use Rattle.session_laws.proofs.Permits.{permits_closed, permits_further, permits_let}
-use Rattle.session_laws.proofs.Start.{not_dialing, not_setting, not_wanting, on_link}
-use Rattle.session_laws.proofs.Tied.{AreLate, AreQueued, Inner, IsEntry, IsKept, IsOf, IsPacked, IsQueued, Tied, TiedLines, TiedStory, TiedTries, TiedWaits, owner_of, owners_each, queue_ids, setup_owners, relined, shown_wait, waiting_ids, numbers_kept}
+use Rattle.session_laws.proofs.Rounded.{admitted_begun, rounds_closed, rounds_with}
+use Rattle.session_laws.proofs.Start.{not_dialing, not_setting, not_wanting, on_link, not_resting}
+use Rattle.session_laws.proofs.Server.{setup_owners}
+use Rattle.session_laws.proofs.Tied.{AreLate, AreQueued, Inner, IsEntry, IsKept, IsOf, IsPacked, IsQueued, Tied, TiedLines, TiedStory, TiedTries, TiedWaits, owner_of, owners_each, queue_ids, relined, shown_wait, waiting_ids, numbers_kept}
 use Rattle.session_laws.proofs.Ahead.{admitted_open, early_open, waiting_open}
+use Rattle.session_laws.proofs.Calm.{calm_more}
 
 -- those that wait no longer are passed over
 --
@@ -63,7 +66,7 @@ passed_admitted b t link q qs gone h =
           | inr w ↦ inr (inr w)
         ]
       ];
-    }) h.waits h.late
+    }) h.waits h.rounds h.late
 
 -- or for the connection
 pub passed_waiting : (b : Book) (t : Inner) (link : LinkState) (q : Waiting) (qs : List Waiting) → is_waiting_at t.requests q.number ≡ false → Tied b (record (on_link t link) { waiting = q ∷ qs }) → Tied b (record (on_link t link) { waiting = qs })
@@ -87,7 +90,7 @@ passed_waiting b t link q qs gone h =
           | inr w ↦ elim w.1 [ inl same ↦ absurd (not_both (is_waiting_at t.requests p) (ap (is_waiting_at t.requests) (sym same) ∙ gone) w.0) | inr i ↦ inr (inr (w.0, i)) ]
         ]
       ];
-    }) h.waits h.late
+    }) h.waits h.rounds h.late
 
 -- an open request comes further, and stays open
 --
@@ -107,7 +110,7 @@ story_further s requests link p now (Some (Some m)) on e h = record {
   handed_in = h.handed_in;
   in_time = h.in_time;
   spoken = h.spoken;
-  on = h.on;
+  on = λ o. h.on (sym (open_further requests p m.number now on e) ∙ o);
   some = h.some;
   open_is = h.open_is ∙ sym (open_further requests p m.number now on e);
   permits_is = h.permits_is ∙ sym (permits_still requests p m.number now (open_within requests p e));
@@ -129,7 +132,7 @@ tries_further l story requests link p now started h = record {
   greeted = h.greeted;
   shapes = λ k m s l i j. h.shapes k m s (subst (λ x. m < x) (length_still requests p now) l) i j ∙ ap (λ n. shape (story n)) (sym (name_still requests p now m));
   tried = λ k m l i. ap (λ n. (story n).tries) (name_still requests p now m) ∙ h.tried k m (subst (λ x. m < x) (length_still requests p now) l) i;
-  untried = λ m r i out. let w = name_was requests p now m r i in ap (λ n. (story n).tries) (sym w.2) ∙ h.untried m w.0 w.1 out;
+  untried = λ m r i out on. let w = name_was requests p now m r i in ap (λ n. (story n).tries) (sym w.2) ∙ h.untried m w.0 w.1 out (ap (λ n. (story n).link) w.2 ∙ on);
 }
 
 -- those that have their place have it still, where this one gets it, or has none
@@ -177,10 +180,13 @@ packs_further story requests p now (w ∷ ws) all = (
 )
 
 -- who was told and has not started is in the queue still
-told_further : (story : ℕ → Story) (requests : List Request) (link : LinkState) (p : ℕ) (now : Progress) → AreQueued story requests link → AreQueued story (at_progress requests p now) link
-told_further story requests link p now h n is none =
-    let k = h n is none in
-    (k.0, subst (λ m. k.0 < m) (sym (length_still requests p now)) k.1, name_still requests p now k.0 ∙ k.2, k.3)
+told_further : (story : ℕ → Story) (requests : List Request) (number : ℕ) (link : LinkState) (p : ℕ) (now : Progress) → AreQueued story requests number link → AreQueued story (at_progress requests p now) number link
+told_further story requests number link p now h = record {
+  told = λ n is none on.
+      let k = h.told n is none on in
+      (k.0, subst (λ m. k.0 < m) (sym (length_still requests p now)) k.1, name_still requests p now k.0 ∙ k.2, k.3);
+  here = λ q i. ap (λ n. (story n).link) (name_still requests p now q) ∙ h.here q i;
+}
 
 -- what is shown of its wait stays
 shown_further : (story : ℕ → Story) (requests : List Request) (p : ℕ) (now : Progress) (m : ℕ) → shown_wait story (at_progress requests p now) m ≡ shown_wait story requests m
@@ -188,11 +194,12 @@ shown_further story requests p now m = ap (λ n. (story n).waiting) (name_still 
 
 -- the next that is moved
 --
--- it is the first of those that wait, with these behind it, and was let in, alone; no room was shown of it; and it is above
+-- it is the first of those that wait, with these behind it, and was let in, alone, behind its round; no room was shown of it; and it is above
 -- all that were moved in this turn
 pub record IsNext (story : ℕ → Story) (requests : List Request) (limit : Option ℕ) (letting moved : List ℕ) (was_waiting was_admitted : List Waiting) (q : Waiting) (waiting admitted : List Waiting) : Type 0 where
   pub open_at : is_open_at requests q.number ≡ true
   pub let_in : is_let_in limit (story (name_at requests q.number)) ≡ true
+  pub begun : is_unbegun_at requests q.number ≡ false
   pub alone : (p : ℕ) → IsIn p letting → q.number ≡ p
   pub first : kept_ids was_admitted was_waiting ≡ q.number ∷ kept_ids admitted waiting
   pub packed : IsPacked story requests q
@@ -208,6 +215,7 @@ pub next_admitted : (b : Book) (t : Inner) (link : LinkState) (q : Waiting) (qs 
 next_admitted b t link q qs a last h = record {
   open_at = (admitted_open t.requests q.number a).0;
   let_in = h.permits.let_in q.number (inl a);
+  begun = admitted_begun t.requests q.number a;
   alone = λ p i. absurd i;
   first = refl;
   packed = h.lines.packed_in.0;
@@ -231,17 +239,19 @@ other_wait x one other e apart r = apart (some_same one other (sym e ∙ r))
 -- one that waits for the connection, or for a permit, has shown nothing, or one of these waits
 shown_early : (x : Option WaitKind) → IsOneOf x → (x ≢ Some wait.Place) × (x ≢ Some wait.Room)
 shown_early x (inl e) = (λ r. (let no : ◌≡◌ {A = Option WaitKind} None (Some wait.Place) = sym e ∙ r in cc), λ r. (let no : ◌≡◌ {A = Option WaitKind} None (Some wait.Room) = sym e ∙ r in cc))
-shown_early x (inr (inl e)) = (other_wait x wait.Connect wait.Place e (λ r. cc), other_wait x wait.Connect wait.Room e (λ r. cc))
-shown_early x (inr (inr (inl e))) = (other_wait x wait.Creds wait.Place e (λ r. cc), other_wait x wait.Creds wait.Room e (λ r. cc))
-shown_early x (inr (inr (inr (inl e)))) = (other_wait x wait.Setup wait.Place e (λ r. cc), other_wait x wait.Setup wait.Room e (λ r. cc))
-shown_early x (inr (inr (inr (inr e)))) = (other_wait x wait.Permit wait.Place e (λ r. cc), other_wait x wait.Permit wait.Room e (λ r. cc))
+shown_early x (inr (inl e)) = (other_wait x wait.Backoff wait.Place e (λ r. cc), other_wait x wait.Backoff wait.Room e (λ r. cc))
+shown_early x (inr (inr (inl e))) = (other_wait x wait.Connect wait.Place e (λ r. cc), other_wait x wait.Connect wait.Room e (λ r. cc))
+shown_early x (inr (inr (inr (inl e)))) = (other_wait x wait.Creds wait.Place e (λ r. cc), other_wait x wait.Creds wait.Room e (λ r. cc))
+shown_early x (inr (inr (inr (inr (inl e))))) = (other_wait x wait.Setup wait.Place e (λ r. cc), other_wait x wait.Setup wait.Room e (λ r. cc))
+shown_early x (inr (inr (inr (inr (inr e))))) = (other_wait x wait.Permit wait.Place e (λ r. cc), other_wait x wait.Permit wait.Room e (λ r. cc))
 
 -- or of those that wait for the connection, where none waits for a place, and it is being let in
-pub next_waiting : (b : Book) (t : Inner) (link : LinkState) (q : Waiting) (qs : List Waiting) → is_waiting_at t.requests q.number ≡ true → is_let_in t.limit (b.story (name_at t.requests q.number)) ≡ true → Rising 0 (t.moved ++ q.number ∷ []) (length t.requests)
+pub next_waiting : (b : Book) (t : Inner) (link : LinkState) (q : Waiting) (qs : List Waiting) → is_waiting_at t.requests q.number ≡ true → is_unbegun_at t.requests q.number ≡ false → is_let_in t.limit (b.story (name_at t.requests q.number)) ≡ true → Rising 0 (t.moved ++ q.number ∷ []) (length t.requests)
     → Tied b (record (on_link t link) { admitted = []; waiting = q ∷ qs; letting = q.number ∷ [] }) → IsNext b.story t.requests t.limit (q.number ∷ []) t.moved (q ∷ qs) [] q qs []
-next_waiting b t link q qs w is last h = record {
+next_waiting b t link q qs w begun is last h = record {
   open_at = waiting_open t.requests q.number w;
   let_in = is;
+  begun = begun;
   alone = λ p i. elim i [ inl e ↦ e | inr k ↦ absurd k ];
   first = refl;
   packed = h.lines.packs.0;
@@ -361,6 +371,7 @@ waits_placed story requests p life fresh moved l h =
     let long = sym (length_still requests p progress.Placed) in
     record {
       early = λ m w. let k = there_then is_waiting requests p m progress.Placed refl l w in one_of (shown_wait story (at_progress requests p progress.Placed) m) (shown_wait story requests m) (same m) (h.early m k.1);
+      backoff = λ m w d. let k = there_then is_waiting requests p m progress.Placed refl l w in elim (h.backoff m k.1 d) [ inl e ↦ inl e | inr e ↦ inr (same m ∙ e) ];
       connect = λ m w d. let k = there_then is_waiting requests p m progress.Placed refl l w in elim (h.connect m k.1 d) [ inl e ↦ inl e | inr e ↦ inr (same m ∙ e) ];
       creds = λ m link w d. let k = there_then is_waiting requests p m progress.Placed refl l w in elim (h.creds m link k.1 d) [ inl e ↦ inl e | inr e ↦ inr (same m ∙ e) ];
       setup = λ m link u w d. let k = there_then is_waiting requests p m progress.Placed refl l w in elim (h.setup m link u k.1 d) [ inl e ↦ inl e | inr e ↦ inr (same m ∙ e) ];
@@ -369,6 +380,7 @@ waits_placed story requests p life fresh moved l h =
       room = λ m i. elim (h.room m i) [ inl j ↦ inl j | inr e ↦ inr (same m ∙ e) ];
       newer = subst (Rising 0 fresh) long h.newer;
       rising = subst (Rising 0 moved) long h.rising;
+      no_backoff = λ m i w d. let k = there_then is_waiting requests p m progress.Placed refl l w in same m ∙ h.no_backoff m i k.1 d;
       no_connect = λ m i w d e. let k = there_then is_waiting requests p m progress.Placed refl l w in h.no_connect m i k.1 d (sym (same m) ∙ e);
       no_creds = λ m link i w d e. let k = there_then is_waiting requests p m progress.Placed refl l w in h.no_creds m link i k.1 d (sym (same m) ∙ e);
       no_setup = λ m link u i w d e. let k = there_then is_waiting requests p m progress.Placed refl l w in h.no_setup m link u i k.1 d (sym (same m) ∙ e);
@@ -386,6 +398,7 @@ waits_enqueued story requests link m fresh moved last placed shown h =
     let earlier : (n : ℕ) → p ≢ n → IsIn n (moved ++ p ∷ []) → IsIn n moved = λ n other i. elim (in_either n moved (p ∷ []) i) [ inl j ↦ j | inr j ↦ elim j [ inl same ↦ absurd (other same) | inr k ↦ absurd k ] ] in
     record {
       early = h.early;
+      backoff = λ n w e. absurd (not_resting (enqueued link m) e);
       connect = λ n w e. absurd (not_dialing (enqueued link m) e);
       creds = λ n l w e. absurd (not_wanting (enqueued link m) l e);
       setup = λ n l u w e. absurd (not_setting (enqueued link m) l u e);
@@ -397,6 +410,7 @@ waits_enqueued story requests link m fresh moved last placed shown h =
       ];
       newer = h.newer;
       rising = last;
+      no_backoff = λ n i w e. absurd (not_resting (enqueued link m) e);
       no_connect = λ n i w e. absurd (not_dialing (enqueued link m) e);
       no_creds = λ n l i w e. absurd (not_wanting (enqueued link m) l e);
       no_setup = λ n l u i w e. absurd (not_setting (enqueued link m) l u e);
@@ -418,6 +432,7 @@ waits_admitted story requests link p fresh moved w last h =
     let earlier : (n : ℕ) → p ≢ n → IsIn n (moved ++ p ∷ []) → IsIn n moved = λ n other i. elim (in_either n moved (p ∷ []) i) [ inl j ↦ j | inr j ↦ elim j [ inl same ↦ absurd (other same) | inr k ↦ absurd k ] ] in
     record {
       early = λ m v. let k = there_then is_waiting requests p m progress.Admitted refl l v in one_of (shown_wait story (at_progress requests p progress.Admitted) m) (shown_wait story requests m) (same m) (h.early m k.1);
+      backoff = λ m v d. absurd (not_resting link d);
       connect = λ m v d. absurd (not_dialing link d);
       creds = λ m x v d. absurd (not_wanting link x d);
       setup = λ m x u v d. absurd (not_setting link x u d);
@@ -428,6 +443,7 @@ waits_admitted story requests link p fresh moved w last h =
       room = λ m i. elim (h.room m i) [ inl j ↦ inl (in_left m moved (p ∷ []) j) | inr e ↦ inr (same m ∙ e) ];
       newer = subst (Rising 0 fresh) (sym (length_still requests p progress.Admitted)) h.newer;
       rising = subst (Rising 0 (moved ++ p ∷ [])) (sym (length_still requests p progress.Admitted)) last;
+      no_backoff = λ m i v d. absurd (not_resting link d);
       no_connect = λ m i v d. absurd (not_dialing link d);
       no_creds = λ m x i v d. absurd (not_wanting link x d);
       no_setup = λ m x u i v d. absurd (not_setting link x u d);
@@ -487,12 +503,15 @@ place_tied b t link q waiting admitted yes_awaited next h =
       told = λ f. absurd (not_both q.awaited f yes_awaited);
     } in
     record {
-      numbers = numbers_kept b _ _ (on_link t link) _ _ _ _ _ _ _ _ _ _ h.numbers;
+      numbers = numbers_kept b _ _ _ _ (on_link t link) _ _ _ _ _ _ _ _ _ _ h.numbers.unrepeated h.numbers;
       others = h.others;
       notices = h.notices;
       life = h.life;
+      course = h.course;
+      calm = h.calm;
       creds = record { wanted_is = h.creds.wanted_is; sought = h.creds.sought };
-      count = h.count;
+      creation = h.creation;
+      uses = h.uses;
       renewal = h.renewal;
       setup = record { info_is = h.setup.info_is; sent = h.setup.sent; said = h.setup.said };
       link = λ e. subst (λ x. TiedLink x (b.link t.link) (enqueued link (message_of q))) (sym (owners_still t.requests p progress.Placed)) (enqueued_tied (owner_of t.requests) (b.link t.link) link (message_of q) (h.link refl));
@@ -503,12 +522,23 @@ place_tied b t link q waiting admitted yes_awaited next h =
           (subst (Rising 0 (requests_in t.started ++ (queue_ids (link.queue ++ message_of q ∷ []) ++ kept_ids admitted waiting))) (sym still) (line_next t.requests link t.moved t.waiting t.admitted (requests_in t.started) q waiting admitted next.first h.lines.line))
           (λ n i. awaited_only q.awaited p n yes_awaited i)
           (lines_further b.story t.requests link waiting admitted p progress.Placed t.started refl refl o apart (lines_next b.story t.requests link t.limit t.letting t.moved t.waiting t.admitted t.started q waiting admitted next h.lines));
-      told = λ e n is none.
-          let k = told_further b.story t.requests link p progress.Placed (h.told refl) n is none in
-          (k.0, k.1, k.2, subst (IsIn k.0) (sym (queue_ids-push link.queue (message_of q))) (in_left k.0 (queue_ids link.queue) (p ∷ []) k.3));
+      told = λ e.
+          let was = told_further b.story t.requests t.link link p progress.Placed (h.told refl) in
+          record {
+            told = λ n is none on. let k = was.told n is none on in (k.0, k.1, k.2, subst (IsIn k.0) (sym (queue_ids-push link.queue (message_of q))) (in_left k.0 (queue_ids link.queue) (p ∷ []) k.3));
+            here = λ m i. elim (in_either m (queue_ids link.queue) (p ∷ []) (subst (IsIn m) (queue_ids-push link.queue (message_of q)) i)) [
+              | inl j ↦ was.here m j
+              | inr j ↦ elim j [
+                | inl own ↦ subst (λ k. (b.story (name_at placed k)).link ≡ t.link) own (ap (λ n. (b.story n).link) (name_still t.requests p progress.Placed p) ∙ open_on b (on_link t link) p h o)
+                | inr none ↦ absurd none
+              ]
+            ];
+          };
       waits = waits_enqueued b.story placed link (message_of q) t.fresh t.moved (subst (Rising 0 (t.moved ++ p ∷ [])) (sym still) next.last) (there_same is_admitted t.requests p progress.Placed within)
           (λ e. next.shown (sym (shown_further b.story t.requests p progress.Placed p) ∙ e)) (waits_placed b.story t.requests p (Ready link) t.fresh t.moved within h.waits);
       permits = permits_further b.story b.submissions t.requests t.link t.limit t.free t.letting p progress.Placed within refl next.let_in next.alone h.permits;
+      rounds = rounds_with b.story b.story t.requests t.fresh p progress.Placed (permits_at t.requests p) within refl (λ n. refl) (λ shows unclosed. h.rounds.begun p shows o next.begun) h.rounds;
+      early = λ up. cc;
       late = late_further b.story t.requests p progress.Placed [] refl o h.late;
     }
 
@@ -555,12 +585,15 @@ tell_tied b t link q waiting admitted not_awaited next h =
       told = λ f. ap (λ x. (after x).outcomes) named ∙ ap (λ (s : Story). s.outcomes) (sym same) ∙ ap (λ os. os ++ nil ∷ []) (open_unanswered (b.story n) (r.open_is ∙ o));
     } in
     record {
-      numbers = numbers_kept b _ _ (on_link t link) _ _ _ _ _ _ _ _ _ _ h.numbers;
+      numbers = numbers_kept b _ _ _ _ (on_link t link) _ _ _ _ _ _ _ _ _ _ h.numbers.unrepeated h.numbers;
       others = h.others;
       notices = h.notices;
       life = h.life;
+      course = h.course;
+      calm = calm_more b.errors nil t.shut (Ready link) (λ up awake. refl) h.calm;
       creds = record { wanted_is = h.creds.wanted_is; sought = h.creds.sought };
-      count = h.count;
+      creation = h.creation;
+      uses = h.uses;
       renewal = h.renewal;
       setup = record { info_is = h.setup.info_is; sent = h.setup.sent; said = h.setup.said };
       link = λ e. subst (λ x. TiedLink x (b.link t.link) (enqueued link (message_of q))) (sym (owners_with t.requests p progress.Closed 0)) (enqueued_tied (owner_of t.requests) (b.link t.link) link (message_of q) (h.link refl));
@@ -571,14 +604,22 @@ tell_tied b t link q waiting admitted not_awaited next h =
           (subst (Rising 0 (requests_in t.started ++ (queue_ids (link.queue ++ message_of q ∷ []) ++ kept_ids admitted waiting))) (sym still) (line_next t.requests link t.moved t.waiting t.admitted (requests_in t.started) q waiting admitted next.first h.lines.line))
           (λ m i. absurd i)
           (lines_answered t.table b.story t.requests link waiting admitted p [] t.started done h.names within c apart (lines_next b.story t.requests link t.limit t.letting t.moved t.waiting t.admitted t.started q waiting admitted next h.lines));
-      told = λ e m. chosen (λ (x : Story). is_told x ≡ true → x.tries ≡ [] → (k : ℕ) × (k < length closed) × (name_at closed k ≡ m) × IsIn k (queue_ids (link.queue ++ message_of q ∷ []))) (n == m) (done m) (b.story m)
-          (λ t is none. (p, subst (λ x. p < x) (sym still) within, named ∙ eq_from n m t, subst (IsIn p) (sym (queue_ids-push link.queue (message_of q))) (in_right p (queue_ids link.queue) (p ∷ []) (inl refl))))
-          (λ f is none.
-          let k = h.told refl m is none in
-          (k.0, subst (λ x. k.0 < x) (sym still) k.1, name_with t.requests p progress.Closed 0 k.0 ∙ k.2, subst (IsIn k.0) (sym (queue_ids-push link.queue (message_of q))) (in_left k.0 (queue_ids link.queue) (p ∷ []) k.3)));
+      told = λ e.
+          let after_link : (m : ℕ) → (after m).link ≡ (b.story m).link = λ m. chosen (λ (x : Story). x.link ≡ (b.story m).link) (n == m) (done m) (b.story m) (λ t. refl) (λ f. refl) in
+          record {
+            told = λ m. chosen (λ (x : Story). is_told x ≡ true → x.tries ≡ [] → x.link ≡ t.link → (k : ℕ) × (k < length closed) × (name_at closed k ≡ m) × IsIn k (queue_ids (link.queue ++ message_of q ∷ []))) (n == m) (done m) (b.story m)
+                (λ t is none on. (p, subst (λ x. p < x) (sym still) within, named ∙ eq_from n m t, subst (IsIn p) (sym (queue_ids-push link.queue (message_of q))) (in_right p (queue_ids link.queue) (p ∷ []) (inl refl))))
+                (λ f is none on.
+                let k = (h.told refl).told m is none on in
+                (k.0, subst (λ x. k.0 < x) (sym still) k.1, name_with t.requests p progress.Closed 0 k.0 ∙ k.2, subst (IsIn k.0) (sym (queue_ids-push link.queue (message_of q))) (in_left k.0 (queue_ids link.queue) (p ∷ []) k.3)));
+            here = λ m i. ap (λ k. (after k).link) (name_with t.requests p progress.Closed 0 m) ∙ after_link (name_at t.requests m) ∙ elim (in_either m (queue_ids link.queue) (p ∷ []) (subst (IsIn m) (queue_ids-push link.queue (message_of q)) i)) [
+              | inl j ↦ (h.told refl).here m j
+              | inr j ↦ elim j [ inl own ↦ subst (λ k. (b.story (name_at t.requests k)).link ≡ t.link) own (r.on o) | inr none ↦ absurd none ]
+            ];
+          };
       waits = waits_enqueued after closed link (message_of q) t.fresh t.moved (subst (Rising 0 (t.moved ++ p ∷ [])) (sym still) next.last) (with_same is_admitted t.requests p progress.Closed 0 within)
           (λ e. (let gone : ◌≡◌ {A = Option WaitKind} None (Some wait.Room) = ap (λ (s : Story). s.waiting) same ∙ ap (λ x. (after x).waiting) (sym named) ∙ e in cc))
-          (waits_closed t.table b.story t.requests p done (Ready link) (Ready link) t.fresh t.moved h.names within (λ e. e) (λ l e. absurd (not_wanting link l e)) (λ l u e. absurd (not_setting link l u e)) (λ l e. (link, refl))
+          (waits_closed t.table b.story t.requests p done (Ready link) (Ready link) t.fresh t.moved h.names within (λ e. e) (λ e. e) (λ l e. absurd (not_wanting link l e)) (λ l u e. absurd (not_setting link l u e)) (λ l e. (link, refl))
           (λ m i.
           let queue = queue_ids link.queue in
           let kept = kept_ids t.admitted t.waiting in
@@ -586,14 +627,16 @@ tell_tied b t link q waiting admitted not_awaited next h =
           let k = rising_in 0 (requests_in t.started ++ (queue ++ kept)) (length t.requests) m h.lines.line (in_right m (requests_in t.started) (queue ++ kept) (in_left m queue kept j)) in
           ((λ s. next_apart b.story t.requests link t.limit t.letting t.moved t.waiting t.admitted t.started q waiting admitted next h.lines (subst (λ x. IsIn x queue) (sym s) j)), k.1, i)) h.waits);
       permits = permits_let after b.submissions closed t.link t.limit (given_back t.limit t.free (permits_at t.requests p)) t.letting p (with_same is_waiting t.requests p progress.Closed 0 within) next.alone
-          (permits_closed b.story after t.table b.submissions t.requests t.link t.limit t.free t.letting p h.names within known r.on r.permits_is (closed_other b.story t.requests p done) (ap (λ (s : Story). s.permits) (sym same)) (ap (λ (s : Story). s.link) (sym same) ∙ r.on) h.permits);
+          (permits_closed b.story after t.table b.submissions t.requests t.link t.limit t.free t.letting p h.names within known (r.on o) r.permits_is (closed_other b.story t.requests p done) (ap (λ (s : Story). s.permits) (sym same)) (ap (λ (s : Story). s.link) (sym same) ∙ r.on o) h.permits);
+      rounds = rounds_closed b.story t.requests t.fresh p done within c h.rounds;
+      early = λ up. cc;
       late = late_closed t.table b.story t.requests p done [] [] h.names within (λ m x i. i) h.late;
     }
 
 -- one that waits for the connection waits for a place behind the others
-pub admit_tied : (b : Book) (t : Inner) (link : LinkState) (q : Waiting) (qs : List Waiting) → is_waiting_at t.requests q.number ≡ true → is_let_in t.limit (b.story (name_at t.requests q.number)) ≡ true → Rising 0 (t.moved ++ q.number ∷ []) (length t.requests)
+pub admit_tied : (b : Book) (t : Inner) (link : LinkState) (q : Waiting) (qs : List Waiting) → is_waiting_at t.requests q.number ≡ true → is_unbegun_at t.requests q.number ≡ false → is_let_in t.limit (b.story (name_at t.requests q.number)) ≡ true → Rising 0 (t.moved ++ q.number ∷ []) (length t.requests)
     → Tied b (record (on_link t link) { waiting = q ∷ qs; letting = q.number ∷ [] }) → Tied b (record (on_link t link) { requests = at_progress t.requests q.number progress.Admitted; waiting = qs; admitted = t.admitted ++ q ∷ []; moved = t.moved ++ q.number ∷ []; letting = [] })
-admit_tied b t link q qs w is last h =
+admit_tied b t link q qs w begun is last h =
     let p = q.number in
     let o = waiting_open t.requests p w in
     let within = open_within t.requests p o in
@@ -607,12 +650,15 @@ admit_tied b t link q qs w is last h =
     let apart : IsIn p queue → ⊥ = λ i. (let k = rising_apart 0 queue (front ++ (p ∷ rest)) hi p p line i (in_right p front (p ∷ rest) (inl refl)) in omega arith) in
     let same : kept_ids t.admitted (q ∷ qs) ≡ kept_ids (t.admitted ++ q ∷ []) qs = sym (append_assoc front (p ∷ []) rest) ∙ ap (λ ns. ns ++ rest) (sym (waiting_ids-push t.admitted q)) in
     record {
-      numbers = numbers_kept b _ _ (record (on_link t link) { waiting = q ∷ qs; letting = q.number ∷ [] }) _ _ _ _ _ _ _ _ _ _ h.numbers;
+      numbers = numbers_kept b _ _ _ _ (record (on_link t link) { waiting = q ∷ qs; letting = q.number ∷ [] }) _ _ _ _ _ _ _ _ _ _ h.numbers.unrepeated h.numbers;
       others = h.others;
       notices = h.notices;
       life = h.life;
+      course = h.course;
+      calm = h.calm;
       creds = record { wanted_is = h.creds.wanted_is; sought = h.creds.sought };
-      count = h.count;
+      creation = h.creation;
+      uses = h.uses;
       renewal = h.renewal;
       setup = record { info_is = h.setup.info_is; sent = h.setup.sent; said = h.setup.said };
       link = λ e. subst (λ x. TiedLink x (b.link t.link) link) (sym (owners_still t.requests p now)) (h.link refl);
@@ -637,9 +683,11 @@ admit_tied b t link q qs w is last h =
               ])
             ]);
       };
-      told = λ e. told_further b.story t.requests link p now (h.told refl);
+      told = λ e. told_further b.story t.requests t.link link p now (h.told refl);
       waits = waits_admitted b.story t.requests link p t.fresh t.moved w last h.waits;
       permits = permits_further b.story b.submissions t.requests t.link t.limit t.free (p ∷ []) p now within refl is (λ m i. elim i [ inl e ↦ e | inr k ↦ absurd k ]) h.permits;
+      rounds = rounds_with b.story b.story t.requests t.fresh p now (permits_at t.requests p) within refl (λ n. refl) (λ shows unclosed. h.rounds.begun p shows o begun) h.rounds;
+      early = λ up. cc;
       late = late_further b.story t.requests p now [] refl o h.late;
     }
   where

@@ -23,20 +23,21 @@ use Rattle.link_laws.proofs.Settles.{read_owed}
 use Rattle.link_laws.proofs.TiedLink.{ReadsAlike, TiedLink, deals, has_read, has_heard, reads_on, heard_is, read_taken, read_tied}
 use Rattle.mux_conn.specs.declared.connection.MultiplexedConnection.{MultiplexedConnection}
 use Rattle.mux_conn.specs.declared.life.Life.{Life}
-use Rattle.mux_conn.specs.declared.life.Life.TheVariants.{Dialing, Wanting, SettingUp, Ready, Ended}
+use Rattle.mux_conn.specs.declared.life.Life.TheVariants.{Resting, Dialing, Wanting, SettingUp, Ready, Ended}
 use Rattle.mux_conn.specs.declared.request.Request.{Request}
 use Rattle.mux_conn.specs.declared.request.Waiting.{Waiting}
-use Rattle.mux_conn.specs.Connection.{Work}
+use Rattle.mux_conn.specs.Connection.{Work, is_ready, is_resting}
 use Rattle.mux_conn.specs.Requests.{is_open_at, name_at}
 use Rattle.mux_conn.specs.Effects.{failed_at, read_to, read_at, read_setup, read_wanting, told_each}
 use Rattle.shared_session.specs.declared.core_state.Core.{Core}
 use Rattle.shared_session.specs.Turn.{with_work, is_bad}
 use Rattle.legal_trace.specs.Ledger.{Ledger, by_fault, bytes_came, ending, ending_up, is_set_up, is_unreadable, Heard, hears, noted}
 use Rattle.legal_trace.specs.Story.{Story}
-use Rattle.legal_trace.specs.Book.{Book, book, entered, hearing_in}
+use Rattle.legal_trace.specs.Book.{Book, book, entered, hearing_in, has_generations}
 use Rattle.legal_trace.specs.Owed.{owed}
 use Rattle.session_laws.proofs.Numbers.{IsIn, Rising, requests_in, requests_in-append}
-use Rattle.session_laws.proofs.Tied.{inner, link_in, owner_of, queue_ids, IsEntry, TiedLines, TiedSetup, AreQueued, TiedWaits, has_ended, Tied, Sound, AreRenewed, AreSought, IsSetUp, TiedRenewal}
+use Rattle.session_laws.proofs.Server.{TiedSetup, AreRenewed, AreSought, IsSetUp, TiedRenewal, on_link, hearing_there}
+use Rattle.session_laws.proofs.Tied.{inner, link_in, owner_of, queue_ids, IsEntry, TiedLines, AreQueued, TiedWaits, has_ended, Tied, Sound, TiedRounds, HasCourse}
 use Rattle.session_laws.proofs.SetUp.{set_up_hears}
 use Rattle.legal_trace.proofs.Setups.{ends_where_set}
 use Rattle.legal_trace.proofs.Came.{Came, bytes_are}
@@ -45,14 +46,14 @@ use Rattle.session_laws.proofs.HeardBytes.{all_heard, heard_notices, none_notice
 use Rattle.session_laws.proofs.More.{after_came, after_is}
 use Rattle.session_laws.proofs.ReadSetup.{setup_read, fit_by}
 use Rattle.session_laws.proofs.ReadWanting.{wanting_read}
-use Rattle.session_laws.proofs.States.{IsFit, Between, HasApplied}
+use Rattle.session_laws.proofs.States.{IsFit, Between, HasApplied, HasEffect}
 use Rattle.session_laws.proofs.InLine.{kept_ids, IsInLine}
 use Rattle.session_laws.proofs.Owes.{in_line}
 use Rattle.session_laws.proofs.Settle.{seen, trace_of_acts, IsDue, Tells, replied_each, replied_keeps}
 use Rattle.session_laws.proofs.Close.{AreInTime, are_in_time, HasEnded, pending_due, ended_applied, parted_moved}
 use Rattle.session_laws.proofs.Announce.{turn_of, turned, IsNewsKind, announced_sound, first_book, heard_book, heard_is as turn_is, heard_tied_new, StaysQuiet}
-use Rattle.session_laws.proofs.Heard.{heard_by, lives_as, none_ends, ended_quiet, dialing_quiet, book_kind, book_news, tame_between}
-use Rattle.session_laws.proofs.End.{up_tied, fault_ends}
+use Rattle.session_laws.proofs.Heard.{heard_by, lives_as, none_ends, ended_quiet, dialing_quiet, book_kind, book_news, tame_between, resting_quiet, going_awake}
+use Rattle.session_laws.proofs.End.{up_tied, fault_ends, notices_there}
 use Rattle.session_laws.proofs.Took.{queue_waits}
 use Rattle.session_laws.proofs.Told.{retells, well_told}
 use Rattle.session_laws.proofs.Telling.{IsHeard, IsTelling, telling, told_holds, told_leaves, unheard_holds}
@@ -156,7 +157,7 @@ reads_up before c started piece link h e =
     let renewal = subst (λ (x : Life). TiedRenewal l conn.renewal x) e h0.renewal in
     let lines = subst (λ (x : Life). TiedLines b.story conn.requests (link_in x) conn.waiting conn.admitted [] started) e h0.lines in
     let said = subst (λ (x : Life). TiedSetup l conn.info started x) e h0.setup in
-    let alike : ReadsAlike conn.hears true l link piece = set_reads conn.hears l link piece h0.notices.hearing_is (tame_between before c started h u.alive) (stays_set l (λ i x less at. (said.sent i x less at).1) u.well) in
+    let alike : ReadsAlike conn.hears true l link piece = set_reads conn.hears l link piece (hearing_there conn.life conn.hears l.hearing (ap is_resting e) h0.notices.hearing_is) (tame_between before c started h u.alive) (stays_set l (λ i x less at. (said.sent i x less at).1) u.well) in
     let t = read_taken name conn.hears true l link piece u.alive alike u.tied in
     record {
       tied = read_tied name conn.hears true l link piece u.alive alike u.tied;
@@ -207,21 +208,27 @@ read_begins before c started word kind piece link untold h good k is e it r came
     let sought = subst (λ (x : Life). AreSought l.creds x) e h0.creds.sought in
     let lines = subst (λ (x : Life). TiedLines b.story conn.requests (link_in x) conn.waiting conn.admitted [] started) e h0.lines in
     let said = subst (λ (x : Life). TiedSetup l conn.info started x) e h0.setup in
+    let course = subst (λ (x : Life). HasCourse l.last l.end c.links c.single.link c.shut c.manager conn.last conn.opened conn.info conn.address x) e h0.course in
     let quiet : StaysQuiet c come = λ w. (let q = h0.numbers.quiet w in (keeps.1 ∙ q.unwanted, keeps.2 ∙ q.unrenewed)) in
     let same : noted l (hears c.turns (news_of b.timers b.sources c.single.link kind)) ≡ after = ap (λ (x : News). heard_by b c x) (book_news b c started kind (came piece) h0 is) ∙ heard_is l c.turns piece u.up ∙ after_is l piece it in
     let t = record (seen (turned c kind) [] (renewing (reads c link piece) come).conn ids started) { untold = untold } in
-    let tied : Tied (heard_book b c.turns word kind) t = heard_tied_new b c started word b.created kind conn.info come life conn.fresh ids untold after h0 keeps.0 quiet good same
+    let tied : Tied (heard_book b c.turns word kind) t = heard_tied_new b c started word b.created b.failed conn.told conn.opened kind conn.info come life conn.fresh ids untold after h0 h0.creation keeps.0 keeps.1 quiet good (λ some. some) same
     (record {
       starts = refl;
+      hearing_kept = refl;
+      spoken = refl;
       lived = (u.asked, u.up, u.alive, u.shown);
-      creds = record { wanted_is = h0.creds.wanted_is ∙ sym keeps.1; sought = sought };
+      course = course;
+      creds = record { wanted_is = on_link conn.life (l.creds.wanted ≡ conn.renewal.wanted) (ap is_resting e) h0.creds.wanted_is ∙ sym keeps.1; sought = sought };
       renewal_is = r.renewed;
       said = record { info_is = said.info_is; sent = said.sent; said = r.well };
       linked = λ n. r.tied;
       lines = read_lines b.story conn.requests conn.hears link piece conn.waiting conn.admitted started lines;
-      told = λ n. subst (λ (x : Life). AreQueued b.story conn.requests (link_in x)) e (h0.told (ap has_ended e));
+      told = λ n. subst (λ (x : Life). AreQueued b.story conn.requests c.single.link (link_in x)) e (h0.told (ap has_ended e));
       waits = queue_waits b.story conn.requests link read conn.fresh conn.moved (λ p i. i) (subst (λ (x : Life). TiedWaits b.story conn.requests x conn.fresh conn.moved) e h0.waits);
-      notices = heard_notices l piece it (hearing_in b.config) conn.hears r.heard untold u.up r.notices came_so h0.notices;
+      rounds = subst (λ (x : Life). TiedRounds (has_generations b) b.story c.single.connection.requests (is_ready x) c.single.connection.fresh c.single.connection.rounds) e h.sound.tied.rounds;
+      early = λ up. cc;
+      notices = heard_notices l piece it (hearing_in b.config) conn.hears r.heard untold u.up r.notices came_so (notices_there b c started (ap is_resting e) h0);
     }) in
     let book_is : entered b (turn_of c word kind) ≡ heard_book b c.turns word kind = turn_is b c.turns word kind (book_kind b c kind h0.numbers.timers k) in
     let first = first_book before (turn_of c word kind) (turned c kind) ∙ book_is in
@@ -330,7 +337,7 @@ read_up before c started word kind piece link h good k is e it =
     let why = by_fault (felt after.hearing fault.Parse) in
     let ends_so : ending ((book (trace_of_acts front f v.acts)).link f.single.link) ≡ (if is_unreadable after then Some why else None) = ap ending a.ledger_is ∙ read_ending after a.told piece refl u.up r.well.well in
     let unread = unread_is name after read d r.tied r.strange in
-    let felt_so : felt after.hearing fault.Parse ≡ felt v.conn.hears fault.Parse = ap (λ (x : Hearing). felt x fault.Parse) (h.sound.tied.notices.hearing_is ∙ sym still.hears) in
+    let felt_so : felt after.hearing fault.Parse ≡ felt v.conn.hears fault.Parse = ap (λ (x : Hearing). felt x fault.Parse) (hearing_there conn.life conn.hears l.hearing (ap is_resting e) h.sound.tied.notices.hearing_is ∙ sym still.hears) in
     chosen (λ (x : Work). HasApplied front (with_work (record { core = f; acts = [] }) x) started) (read.broken || d.strange) (failed_at v fault.Parse v.conn.life) v
     (λ t. ended_applied front f (failed_at v fault.Parse v.conn.life) error.Closed started (λ z. absurd (omega arith))
     (subst (λ (x : Life). (failed_at v fault.Parse x).conn.moved ≡ []) (sym still.life) (parted_moved v (row_hit (felt v.conn.hears fault.Parse) read.row ++ queue_closed read.queue) ∙ still.moved ∙ h.moved))
@@ -342,26 +349,28 @@ read_up before c started word kind piece link h good k is e it =
       began = λ z. absurd (omega arith);
       moved = still.moved ∙ h.moved;
       fit = fit_by v.conn conn.size conn.boundary read still.size still.boundary still.life (read_fit conn.size conn.boundary conn.hears link piece (h.fit.link link e) (neither read.broken d.strange n));
+      hushed = λ over. absurd (not_both f.shut (going_awake c kind (came piece) is (λ z. cc) (ap is_resting e) (ap has_ended e) h.hushed) over);
     })
 
 -- bytes come
 pub read_applied : (before : List Action) (c : Core) (started : List ℕ) (word : ℕ) (kind : EventKind) (piece : List ℕ) → Between before c started → is_bad c kind ≡ false → IsNewsKind c.timers kind → news_of c.timers c.sources c.single.link kind ≡ came piece
-    → HasApplied (before ++ turn_of c word kind ∷ []) (with_work (record { core = turned c kind; acts = [] }) (read_at (record { conn = c.single.connection; acts = [] }) piece c.single.connection.life)) started
+    → HasEffect (before ++ turn_of c word kind ∷ []) (with_work (record { core = turned c kind; acts = [] }) (read_at (record { conn = c.single.connection; acts = [] }) piece c.single.connection.life)) started
 read_applied before c started word kind piece h good k is = by_life c.single.connection.life refl
   where
     w : Work
     w = record { conn = c.single.connection; acts = [] }
 
     applied : Work → Type 0
-    applied x = HasApplied (before ++ turn_of c word kind ∷ []) (with_work (record { core = turned c kind; acts = [] }) x) started
+    applied x = HasEffect (before ++ turn_of c word kind ∷ []) (with_work (record { core = turned c kind; acts = [] }) x) started
 
     by_life : (x : Life) → c.single.connection.life ≡ x → applied (read_at w piece x)
-    by_life Dialing e = dialing_quiet before c started word kind (came piece) tt h good k is e
-    by_life (Ended x) e = ended_quiet before c started word kind (came piece) x h good k is e
+    by_life Resting e = inl (resting_quiet before c started word kind (came piece) (λ z. cc) h good k is e)
+    by_life Dialing e = inl (dialing_quiet before c started word kind (came piece) tt h good k is e)
+    by_life (Ended x) e = inl (ended_quiet before c started word kind (came piece) x h good k is e)
     by_life (Wanting link) e =
         subst (λ (r : Reading). applied (read_wanting w r)) (sym (reads_on hearing.Nothing false link piece (h.fit.wanting link e).sound)) (wanting_read before c started word kind piece link h good k is e)
     by_life (SettingUp link greeting) e =
         subst (λ (r : Reading). applied (read_setup w greeting r)) (sym (reads_on c.single.connection.hears false link piece (h.fit.setup link greeting e).sound)) (setup_read before c started word kind piece link greeting h good k is e)
     by_life (Ready link) e =
         subst (λ (r : Reading). applied (read_to w r)) (sym (reads_on c.single.connection.hears true link piece (h.fit.link link e).sound))
-        (read_up before c started word kind piece link h good k is e (bytes_are ((book before).link c.single.link) piece))
+        (inl (read_up before c started word kind piece link h good k is e (bytes_are ((book before).link c.single.link) piece)))

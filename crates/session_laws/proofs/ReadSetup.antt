@@ -37,9 +37,9 @@ use Rattle.mux_conn.specs.declared.connection.MultiplexedConnection.{Multiplexed
 use Rattle.mux_conn.specs.declared.life.Greeting.{Greeting}
 use Rattle.mux_conn.specs.declared.life.Greeting.TheVariants as greet
 use Rattle.mux_conn.specs.declared.life.Life.{Life}
-use Rattle.mux_conn.specs.declared.life.Life.TheVariants.{Wanting, SettingUp, Ended, Ready}
-use Rattle.mux_conn.specs.Connection.{Work, acted, at_life, is_ready, with_link, with_setup}
-use Rattle.mux_conn.specs.Effects.{all_fresh, answered_setup, behind_first, broken_at, failed_at, greeted, greeted_by, greeting_error, greeting_queued, has_user, heard_on, judged_by, made_ready, noticed_each, opening_failed, read_setup, set_up_by, sets_up, setup_id, setup_queued, steps_of, told_each}
+use Rattle.mux_conn.specs.declared.life.Life.TheVariants.{Wanting, SettingUp, Ended, Ready, Resting}
+use Rattle.mux_conn.specs.Connection.{Work, acted, is_ready, with_setup, is_resting}
+use Rattle.mux_conn.specs.Effects.{answered_setup, behind_first, broken_at, failed_at, greeted, greeted_by, greeting_error, greeting_queued, has_user, heard_on, judged_by, made_ready, noticed_each, opening_failed, read_setup, set_up_by, sets_up, setup_id, setup_queued, steps_of, told_each, afresh, given_up}
 use Rattle.mux_conn.specs.Requests.{is_open_at, name_at}
 use Rattle.shared_session.specs.declared.core_state.Core.{Core}
 use Rattle.shared_session.specs.Turn.{is_bad, with_work}
@@ -49,14 +49,16 @@ use Rattle.legal_trace.specs.Owed.{owed}
 use Rattle.legal_trace.proofs.Came.{Came, bytes_are}
 use Rattle.legal_trace.proofs.Monitors.{unwatched}
 use Rattle.legal_trace.proofs.Setups.{AreSetups as SetUpsAre, ends_where_set, greeted_more, set_is_greeted}
-use Rattle.session_laws.proofs.Announce.{IsNewsKind, turn_of, turned}
-use Rattle.session_laws.proofs.Close.{HasEnded, ended_applied, parted_moved, waiting_leaves}
-use Rattle.session_laws.proofs.ComeUp.{IsEarly, IsMade, IsReadied, IsShownReady, made_conn, made_is, makes_ready}
+use Rattle.session_laws.proofs.Rounded.{rounds_down}
+use Rattle.session_laws.proofs.Announce.{IsNewsKind, turn_of, turned, asked_hear}
+use Rattle.session_laws.proofs.Close.{HasEnded, ended_applied, parted_moved}
+use Rattle.session_laws.proofs.ComeUp.{IsEarly, IsMade, IsReadied, IsShownReady, made_conn, made_is, made_of, makes_ready}
 use Rattle.session_laws.proofs.Creds.{has_credentials, has_sourced}
-use Rattle.session_laws.proofs.End.{IsSetting, fault_ends, opening_error_is, setting_tied, setting_unready}
-use Rattle.session_laws.proofs.Failing.{Fails, setup_failed}
+use Rattle.session_laws.proofs.End.{IsSetting, fault_ends, opening_error_is, setting_tied, setting_unready, notices_there}
+use Rattle.session_laws.proofs.Failing.{Fails, given_up_ended}
+use Rattle.session_laws.proofs.Retire.{setup_failed}
 use Rattle.session_laws.proofs.Greeted.{IsAnswered, IsReadSet, IsReadUnset, answered_result, due_same, few_rows, full_row, full_settled, open_still, reads_answered, repeats_first, sent_last, set_unwatched, sets_of, settled_last, setup_full, setup_last, still_awaited, still_full, unset_of, watch_answered, watch_full, watch_last, watch_sets}
-use Rattle.session_laws.proofs.Heard.{heard_by, none_ends, none_hears, quiet_applied, setting_fit, setting_waits, tame_between}
+use Rattle.session_laws.proofs.Heard.{heard_by, none_ends, none_hears, quiet_applied, setting_fit, setting_waits, tame_between, hushed_there, going_awake}
 use Rattle.session_laws.proofs.HeardBytes.{all_heard, heard_notices, none_noticed, quiet_notices, unset_unreadable}
 use Rattle.session_laws.proofs.Judged.{judged_memory}
 use Rattle.session_laws.proofs.More.{after_came, after_is}
@@ -66,10 +68,12 @@ use Rattle.session_laws.proofs.Said.{PushesOf, ending_failed, ending_setting, re
 use Rattle.session_laws.proofs.SameSaid.{greeting_alike, greeting_link, greeting_of, set_alike}
 use Rattle.session_laws.proofs.SetUp.{not_set_up}
 use Rattle.session_laws.proofs.Settle.{seen, trace_of_acts}
-use Rattle.session_laws.proofs.States.{Between, HasApplied, IsFit, IsFitIn}
+use Rattle.session_laws.proofs.States.{Between, HasEffect, IsFit, IsFitIn}
 use Rattle.session_laws.proofs.Telling.{IsTelling, heard_readied, telling, told_holds, told_leaves}
-use Rattle.session_laws.proofs.Tied.{AreQueued, IsGreeting, IsSetUp, IsSettingUp, IsSetupDue, IsSetupSent, IsWatchDue, IsWatchSent, IsWatching, TiedCreds, TiedLife, TiedLines, TiedSetup, TiedWaits, greeter, greeting_at, has_ended, inner, link_in, owner_of, watch_queued}
+use Rattle.session_laws.proofs.Server.{IsGreeting, IsSetUp, IsSettingUp, IsSetupDue, IsSetupSent, IsWatchDue, IsWatchSent, IsWatching, TiedCreds, TiedSetup, greeting_at, watch_queued, hearing_there, on_link}
+use Rattle.session_laws.proofs.Tied.{AreQueued, TiedLife, TiedLines, TiedWaits, greeter, has_ended, inner, link_in, owner_of, AreEarly, HasCourse}
 use Rattle.session_laws.proofs.Told.{retells, well_told}
+use Rattle.driver_model.specs.declared.news.LinkFault.{LinkFault}
 
 -- notices that all stand behind some message
 behind_all : (ps : List NoticeAt) → AllByRecursion IsBehind ps → behind_first ps ≡ ps
@@ -84,6 +88,18 @@ fit_by c size bound link size_is bound_is life h = record {
   link = λ x same. subst (λ n. IsFit n c.boundary x) (sym size_is) (subst (λ n. IsFit size n x) (sym bound_is) (h x (sym life ∙ same)));
   none = λ none. absurd (none link life);
 }
+
+-- where an opening failed, the link isn't up, and no fault changes what is so
+failed_life : (w : Work) (x : RedisError) → (opening_failed w x).conn.life ≡ Ended x ⊎ (opening_failed w x).conn.life ≡ Resting
+failed_life w x = by_test w.conn.last _ (λ t. inl (given_up_ended w x t)) (λ f. inr (ap (λ (y : Work). y.conn.life) (left_if w.conn.last (given_up w x) (record w { conn = afresh w.conn }) f)))
+
+failed_down : (w : Work) (x : RedisError) → is_ready (opening_failed w x).conn.life ≡ false
+failed_down w x = elim (failed_life w x) [ inl over ↦ ap is_ready over | inr rests ↦ ap is_ready rests ]
+
+failed_stays : (w : Work) (x : RedisError) (f : LinkFault) → (let v = opening_failed w x in failed_at v f v.conn.life ≡ v)
+failed_stays w x f =
+    let v = opening_failed w x in
+    elim (failed_life w x) [ inl over ↦ ap (failed_at v f) over | inr rests ↦ ap (failed_at v f) rests ]
 
 -- which greeting it is
 --
@@ -132,7 +148,7 @@ first_false false b e = refl
 -- on which this came
 setup_read_as : (before : List Action) (c : Core) (started : List ℕ) (word : ℕ) (kind : EventKind) (piece : List ℕ) (link : LinkState) (greeting : Greeting) → (let l = (book before).link c.single.link in Came l (bytes_came l piece)) → Between before c started → is_bad c kind ≡ false → IsNewsKind c.timers kind
     → news_of c.timers c.sources c.single.link kind ≡ came piece → c.single.connection.life ≡ SettingUp link greeting
-    → HasApplied (before ++ turn_of c word kind ∷ []) (with_work (record { core = turned c kind; acts = [] }) (read_setup (record { conn = c.single.connection; acts = [] }) greeting (read_with (read_on link (link.rest ++ piece)) (deals c.single.connection.hears false link piece)))) started
+    → HasEffect (before ++ turn_of c word kind ∷ []) (with_work (record { core = turned c kind; acts = [] }) (read_setup (record { conn = c.single.connection; acts = [] }) greeting (read_with (read_on link (link.rest ++ piece)) (deals c.single.connection.hears false link piece)))) started
 setup_read_as before c started word kind piece link greeting g h good k is e = by_test (is_set_up after) _ set_so unset_so
   where
     b : Book
@@ -172,7 +188,7 @@ setup_read_as before c started word kind piece link greeting g h good k is e = b
     which = which_is l link greeting s.said
 
     applied : Work → Type 0
-    applied x = HasApplied front (with_work (record { core = turned c kind; acts = [] }) x) started
+    applied x = HasEffect front (with_work (record { core = turned c kind; acts = [] }) x) started
 
     -- what ends it, or doesn't
     finish : Work → Work
@@ -185,7 +201,19 @@ setup_read_as before c started word kind piece link greeting g h good k is e = b
     given = has_credentials l.creds s.has
 
     hears : l.hearing ≡ conn.hears
-    hears = h.sound.tied.notices.hearing_is
+    hears = hearing_there conn.life conn.hears l.hearing (ap is_resting e) h.sound.tied.notices.hearing_is
+
+    told_so : l.info ≡ info
+    told_so = on_link conn.life (l.info ≡ info) (ap is_resting e) h.sound.tied.setup.info_is
+
+    wanted_so : l.creds.wanted ≡ conn.renewal.wanted
+    wanted_so = on_link conn.life (l.creds.wanted ≡ conn.renewal.wanted) (ap is_resting e) h.sound.tied.creds.wanted_is
+
+    notices : PushesOf (hearing_in b.config) conn.hears l
+    notices = notices_there b c started (ap is_resting e) h.sound.tied
+
+    course : HasCourse l.last l.end c.links c.single.link c.shut c.manager conn.last conn.opened info c.single.connection.address (SettingUp link greeting)
+    course = subst (HasCourse l.last l.end c.links c.single.link c.shut c.manager conn.last conn.opened info c.single.connection.address) e h.sound.tied.course
 
     tame : l.strange ≡ false
     tame = tame_between before c started h s.alive
@@ -200,13 +228,13 @@ setup_read_as before c started word kind piece link greeting g h good k is e = b
     sound f = record { sound = f; size_is = fit.size_is; bound_is = fit.bound_is; within = fit.within }
 
     early : IsEarly conn.life wait.Permit
-    early = subst (λ (y : Life). IsEarly y wait.Permit) (sym e) (record { bare = refl; unready = refl; alive = refl; other = λ one. cc })
+    early = subst (λ (y : Life). IsEarly y wait.Permit) (sym e) (record { bare = refl; unready = refl; alive = refl; there = refl; other = λ one. cc })
 
     -- a link that isn't set up still
     --
     -- nothing is to be told of it
     quiet : IsReadUnset name conn.hears l link piece g → PushesOf (hearing_in b.config) conn.hears after
-    quiet r = quiet_notices name conn.hears l link piece g (hearing_in b.config) conn.hears s.up r h.sound.tied.notices
+    quiet r = quiet_notices name conn.hears l link piece g (hearing_in b.config) conn.hears s.up r notices
 
     -- whether it can be read on
     unreadable : IsReadUnset name conn.hears l link piece g → (x : Bool) → read.broken ≡ x → is_unreadable after ≡ x
@@ -215,13 +243,13 @@ setup_read_as before c started word kind piece link greeting g h good k is e = b
     -- its opening fails
     fails : IsReadUnset name conn.hears l link piece g → (x : RedisError) → is_set_up after ≡ false → ending after ≡ Some (by_opening x) → applied (opening_failed (record { conn = conn; acts = act.Close ∷ [] }) x)
     fails r x unready must =
-        setup_failed before c started word kind (came piece) x h good k is (setting_unready b (inner c started) link greeting e h.sound.tied)
+        setup_failed before c started word kind (came piece) x h good k is (λ z. cc) (setting_unready b (inner c started) link greeting e h.sound.tied)
         (subst (λ (y : Ledger). Fails y info conn.renewal.wanted (hearing_in b.config) conn.hears x) (sym same) (record {
           alive = s.alive;
           unready = unready;
           must = must;
-          info_is = h.sound.tied.setup.info_is;
-          wanted_is = h.sound.tied.creds.wanted_is;
+          info_is = told_so;
+          wanted_is = wanted_so;
           sourced = has_sourced after s.has unready;
           sent = h.sound.tied.setup.sent;
           notices = quiet r;
@@ -230,20 +258,24 @@ setup_read_as before c started word kind piece link greeting g h good k is e = b
     -- the link is set up still
     goes_on : IsReadUnset name conn.hears l link piece g → (next : LinkState) (now : Greeting) → IsGreeting after next now → TiedLink (λ p. greeter now) after next → IsFit conn.size conn.boundary next → read.broken ≡ false → applied (with_setup w next now)
     goes_on r next now said tied_next fits f =
-        quiet_applied before c started word kind (came piece) (SettingUp next now) h good k is
+        inl (quiet_applied before c started word kind (came piece) (SettingUp next now) h good k is
         (record {
-          lived = subst (λ (y : Ledger). TiedLife y b.created (SettingUp next now)) (sym same) (s.asked, s.up, s.alive, s.unshown);
-          creds = subst (λ (y : Ledger). TiedCreds y.creds conn.renewal.wanted (SettingUp next now)) (sym same) (record { wanted_is = h.sound.tied.creds.wanted_is; sought = (s.has, s.once) });
+          lived = subst (λ (y : Ledger). TiedLife y b.created (SettingUp next now)) (sym same) (s.asked, s.up, s.alive);
+          course = (course.0, course.1, course.2, (asked_hear l c.turns (came piece)).last ∙ course.3);
+          creds = subst (λ (y : Ledger). TiedCreds y.creds conn.renewal.wanted (SettingUp next now)) (sym same) (record { wanted_is = wanted_so; sought = (s.has, s.once) });
           renewal_is = none_hears l c.turns (came piece) conn.renewal (λ x. x) (early_renewal l conn.renewal conn.life (ap is_ready e) (ap has_ended e) h.sound.tied.renewal);
-          said = subst (λ (y : Ledger). TiedSetup y info started (SettingUp next now)) (sym same) (record { info_is = h.sound.tied.setup.info_is; sent = h.sound.tied.setup.sent; said = (s.none, said) });
+          said = subst (λ (y : Ledger). TiedSetup y info started (SettingUp next now)) (sym same) (record { info_is = told_so; sent = h.sound.tied.setup.sent; said = (s.none, said) });
           linked = λ z. subst (λ (y : Ledger). TiedLink (λ p. greeter now) y next) (sym same) tied_next;
           lines = subst (λ (x : Life). TiedLines b.story conn.requests (link_in x) conn.waiting conn.admitted [] started) e h.sound.tied.lines;
-          told = λ z. subst (λ (x : Life). AreQueued b.story conn.requests (link_in x)) e (h.sound.tied.told (ap has_ended e));
+          told = λ z. subst (λ (x : Life). AreQueued b.story conn.requests c.single.link (link_in x)) e (h.sound.tied.told (ap has_ended e));
           waits = setting_waits b.story conn.requests link next greeting now conn.fresh conn.moved (subst (λ (x : Life). TiedWaits b.story conn.requests x conn.fresh conn.moved) e h.sound.tied.waits);
+          rounds = rounds_down b.story c.single.connection.requests c.single.connection.fresh c.single.connection.fresh refl h.sound.tied.rounds;
+          early = subst (AreEarly c.single.connection.requests) e h.sound.tied.early;
           notices = subst (λ (y : Ledger). PushesOf (hearing_in b.config) conn.hears y) (sym same) (quiet r);
         })
         (ap ending same ∙ ending_setting after next now s.up said ∙ left_if (is_unreadable after) _ None (unreadable r false f))
         (setting_fit conn link next greeting now conn.fresh e h.fit fits)
+        (hushed_there c kind (came piece) (SettingUp next now) is (λ z. cc) (ap is_resting e) (ap has_ended e) h.hushed))
 
     -- or its opening fails, where bytes came that begin no value
     stays : IsReadUnset name conn.hears l link piece g → (next : LinkState) (now : Greeting) → IsGreeting after next now → TiedLink (λ p. greeter now) after next → (read.broken ≡ false → IsFit conn.size conn.boundary next) → applied (finish (with_setup w next now))
@@ -259,12 +291,11 @@ setup_read_as before c started word kind piece link greeting g h good k is e = b
     -- the greeting failed
     failed : IsReadUnset name conn.hears l link piece g → (x : RedisError) → is_set_up after ≡ false → setup_result after ≡ Some (result.Failed x) → applied (finish (opening_failed (acted w act.Close) x))
     failed r x unset is_so =
-        let u = acted (at_life (acted w act.Close) (Ended x)) (act.Created (Some x)) in
-        let v = opening_failed (acted w act.Close) x in
-        let over : v.conn.life ≡ Ended x = (waiting_leaves u x).life in
+        let closed = acted w act.Close in
+        let v = opening_failed closed x in
         let done : applied v = fails r x unset (ending_failed after x s.up is_so) in
         chosen applied (read.broken || (d.strange && is_ready v.conn.life)) (failed_at v fault.Parse v.conn.life) v
-        (λ t. subst (λ (y : Life). applied (failed_at v fault.Parse y)) (sym over) done)
+        (λ t. subst applied (sym (failed_stays closed x fault.Parse)) done)
         (λ f. done)
 
     -- a setup was answered, which sets no link up
@@ -281,7 +312,7 @@ setup_read_as before c started word kind piece link greeting g h good k is e = b
         let due : IsSetupDue after (enqueued read m) greet.WithoutUser = record {
           due = subst (λ n. setup_after after n ≡ Some n) (sym count) (taken_if (repeats (result_of after 0)) (Some 1) None (ap repeats last));
           user = subst (λ n. greet.WithoutUser ≡ greeting_at n) (sym count) refl;
-          queue = ap (λ (qs : List Queued). qs ++ m ∷ []) q.queue ∙ subst (λ n. m ∷ [] ≡ setup_queued (setup_steps after n) (setup_id greet.WithoutUser) ∷ []) (sym count) (ap (λ (i : RedisConnectionInfo). setup_queued (setup i false) (setup_id greet.WithoutUser) ∷ []) (sym h.sound.tied.setup.info_is));
+          queue = ap (λ (qs : List Queued). qs ++ m ∷ []) q.queue ∙ subst (λ n. m ∷ [] ≡ setup_queued (setup_steps after n) (setup_id greet.WithoutUser) ∷ []) (sym count) (ap (λ (i : RedisConnectionInfo). setup_queued (setup i false) (setup_id greet.WithoutUser) ∷ []) (sym told_so));
           row = row;
         } in
         let said : IsSettingUp after (enqueued read m) greet.WithoutUser = record { says = y.says; alone = y.alone; stage = inl due; awaited = subst (AllByRecursion (λ (x : Entry). x.awaited ≡ true)) (sym row) tt } in
@@ -332,9 +363,9 @@ setup_read_as before c started word kind piece link greeting g h good k is e = b
         subst (λ (z : Work). applied (finish (heard_on z (behind_first d.notices)))) (sym goes) (watches_next r y q x a is_so watches)
     by_result r unset own y q x a result.RepeatWithoutUser j is_so = again r y q x a is_so j
     by_result r unset own y q x a (result.Failed z) j is_so =
-        let u = acted (at_life (acted w act.Close) (Ended z)) (act.Created (Some z)) in
-        let v = opening_failed (acted w act.Close) z in
-        subst (λ (z : Work). applied (finish z)) (sym (left_if (is_ready v.conn.life) (noticed_each v (behind_first d.notices)) v (ap is_ready (waiting_leaves u z).life))) (failed r z unset is_so)
+        let closed = acted w act.Close in
+        let v = opening_failed closed z in
+        subst (λ (z : Work). applied (finish z)) (sym (left_if (is_ready v.conn.life) (noticed_each v (behind_first d.notices)) v (failed_down closed z))) (failed r z unset is_so)
     by_result r unset own y q x a result.NoMemory j is_so =
         let replies = cut after q.k (setup_shape (setup_steps after q.k)) in
         absurd (judged_memory (setup info (has_user greeting)) replies (ap (judged_by (setup info (has_user greeting))) (sym a.verdict_is) ∙ j))
@@ -367,7 +398,7 @@ setup_read_as before c started word kind piece link greeting g h good k is e = b
     setup_out r unset own y q (x ∷ xs) some =
         let last = sent_last l link greeting y q in
         let a = reads_answered l link greeting piece g x h.sound.tied.setup.sent q (settled_last name l link piece g d.row x xs d.out last r.of some) in
-        by_result r unset own y q x a (judged_by (steps_of conn greeting) x.verdict) refl (answered_result after greeting q.k x info given h.sound.tied.setup.info_is y.says a)
+        by_result r unset own y q x a (judged_by (steps_of conn greeting) x.verdict) refl (answered_result after greeting q.k x info given told_so y.says a)
 
     -- MONITOR was
     watch_out : IsReadUnset name conn.hears l link piece g → is_set_up after ≡ false → greeting ≡ greet.Monitor → (y : IsWatching l link) (q : IsWatchSent l link) → (out : List Settled) → d.out ≡ out → applied (then_done out)
@@ -405,7 +436,7 @@ setup_read_as before c started word kind piece link greeting g h good k is e = b
     --
     -- its connection then
     ready_conn : MultiplexedConnection
-    ready_conn = (with_link (all_fresh w) read).conn
+    ready_conn = made_of w.conn read
 
     -- what is shown then
     now_ready : Work
@@ -424,16 +455,17 @@ setup_read_as before c started word kind piece link greeting g h good k is e = b
         let v = now_ready in
         let u = told_each v 0 ps [] in
         let f = turned c kind in
+        let awake = going_awake c kind (came piece) is (λ z. cc) (ap is_resting e) (ap has_ended e) h.hushed in
         let still = told_leaves v 0 ps [] in
         let owned = named_tied name (owner_of conn.requests) after read (subst (SameNames name (owner_of conn.requests)) (sym row) tt) r.of.tied in
-        let made : IsMade after b.created conn.requests read = record { asked = s.asked; up = s.up; alive = s.alive; unshown = s.unshown; said = said; tied = owned; queue = queue; row = row } in
+        let made : IsMade after b.created conn.requests read = record { asked = s.asked; up = s.up; alive = s.alive; said = said; tied = owned; queue = queue; row = row } in
         let facts : IsReadied b c (heard_by b c (came piece)) info read untold = subst (λ (y : Ledger). IsReadied b c y info read untold) (sym same) (record {
-          info_is = h.sound.tied.setup.info_is;
+          info_is = told_so;
           sent = h.sound.tied.setup.sent;
-          wanted_is = h.sound.tied.creds.wanted_is;
+          wanted_is = wanted_so;
           has = s.has;
           made = made;
-          notices = heard_notices l piece g (hearing_in b.config) conn.hears r.taken.heard untold s.up r.taken.notices came_so h.sound.tied.notices;
+          notices = heard_notices l piece g (hearing_in b.config) conn.hears r.taken.heard untold s.up r.taken.notices came_so notices;
         }) in
         let readied_is = made_is w read in
         let shown = subst (λ (y : Work). IsShownReady front f y (readied conn.renewal.wanted (heard_by b c (came piece))) untold started) readied_is (makes_ready before c started word kind (came piece) info read untold h good k is (λ y. y) early facts) in
@@ -449,18 +481,19 @@ setup_read_as before c started word kind piece link greeting g h good k is e = b
         subst (λ (y : Work). applied (finish (told_each y 0 ps []))) (sym readied_is)
         (chosen applied (read.broken || (d.strange && is_ready u.conn.life)) (failed_at u fault.Parse u.conn.life) u
         (λ t.
-        ended_applied front f (failed_at u fault.Parse u.conn.life) reason.Closed started (λ z. absurd (omega arith))
+        inl (ended_applied front f (failed_at u fault.Parse u.conn.life) reason.Closed started (λ z. absurd (omega arith))
         (subst (λ (y : Life). (failed_at u fault.Parse y).conn.moved ≡ []) (sym still.life) (parted_moved u (row_hit why read.row ++ queue_closed read.queue) ∙ still.moved ∙ h.moved))
         (subst (λ (y : Life). HasEnded front f (failed_at u fault.Parse y) reason.Closed started) (sym still.life)
         (fault_ends front f u read why started done.holds still.life
-        (up ∙ taken_if (is_unreadable after) (Some (by_fault (felt l.hearing fault.Parse))) None (reads true t) ∙ ap (λ (x : Hearing). Some (by_fault (felt x fault.Parse))) (hears ∙ sym still.hears)))))
-        (λ t. record {
+        (up ∙ taken_if (is_unreadable after) (Some (by_fault (felt l.hearing fault.Parse))) None (reads true t) ∙ ap (λ (x : Hearing). Some (by_fault (felt x fault.Parse))) (hears ∙ sym still.hears))))))
+        (λ t. inl (record {
           sound = done.holds;
           ended = none_ends (book (trace_of_acts front f u.acts)) (seen f u.acts u.conn [] started) done.holds.tied (up ∙ left_if (is_unreadable after) (Some (by_fault (felt l.hearing fault.Parse))) None (reads false t));
           began = λ z. absurd (omega arith);
           moved = still.moved ∙ h.moved;
           fit = fit_by u.conn conn.size conn.boundary read still.size still.boundary still.life (λ y is_it. (let one : read ≡ y = cc in subst (IsFit conn.size conn.boundary) one (sound (first_false read.broken _ t))));
-        }))
+          hushed = λ over. absurd (not_both f.shut awake over);
+        })))
 
     -- so it does, whether somebody hears it or not
     ready : (r : IsReadSet name conn.hears l link piece g) → IsSetUp after → link.queue ≡ [] → read.row ≡ [] → applied (finish (told_each (made_ready w read) 0 (behind_first d.notices) []))
@@ -501,7 +534,7 @@ setup_read_as before c started word kind piece link greeting g h good k is e = b
         by_settled r full row said [] some = absurd (full_settled name conn.hears l link piece g (sent_last l link greeting y q) s.alive r.of s.tied full some)
         by_settled r full row said (x ∷ xs) some =
             let a = reads_answered l link greeting piece g x h.sound.tied.setup.sent q (settled_last name l link piece g d.row x xs d.out (sent_last l link greeting y q) r.of some) in
-            let came_to = answered_result after greeting q.k x info given h.sound.tied.setup.info_is y.says a in
+            let came_to = answered_result after greeting q.k x info given told_so y.says a in
             let judged_so = well_ready (judged_by (steps_of conn greeting) x.verdict) (sym (ap is_well came_to) ∙ set_is_greeted after set) in
             let plain = set_unwatched after y.alone set in
             by_ready r said q.queue row x xs judged_so (setup_greets w read greeting own ∙ left_if (is_watching conn.hears) (sets_up w read greet.Monitor) (made_ready w read) (ap is_watching (sym hears) ∙ plain))
@@ -535,5 +568,5 @@ setup_read_as before c started word kind piece link greeting g h good k is e = b
 -- the event has its effect
 pub setup_read : (before : List Action) (c : Core) (started : List ℕ) (word : ℕ) (kind : EventKind) (piece : List ℕ) (link : LinkState) (greeting : Greeting) → Between before c started → is_bad c kind ≡ false → IsNewsKind c.timers kind → news_of c.timers c.sources c.single.link kind ≡ came piece
     → c.single.connection.life ≡ SettingUp link greeting
-    → HasApplied (before ++ turn_of c word kind ∷ []) (with_work (record { core = turned c kind; acts = [] }) (read_setup (record { conn = c.single.connection; acts = [] }) greeting (read_with (read_on link (link.rest ++ piece)) (deals c.single.connection.hears false link piece)))) started
+    → HasEffect (before ++ turn_of c word kind ∷ []) (with_work (record { core = turned c kind; acts = [] }) (read_setup (record { conn = c.single.connection; acts = [] }) greeting (read_with (read_on link (link.rest ++ piece)) (deals c.single.connection.hears false link piece)))) started
 setup_read before c started word kind piece link greeting h good k is e = setup_read_as before c started word kind piece link greeting (bytes_are ((book before).link c.single.link) piece) h good k is e

@@ -8,7 +8,7 @@ use Rattle.driver_model.specs.declared.outcome.Shape.TheVariants.{Confirmation}
 use Rattle.driver_model.specs.Shape.{verdict_of}
 use Rattle.link_core.specs.Link.{LinkState}
 use Rattle.mux_conn.specs.declared.life.Life.{Life}
-use Rattle.mux_conn.specs.declared.life.Life.TheVariants.{Dialing, Wanting, SettingUp, Ready, Ended}
+use Rattle.mux_conn.specs.declared.life.Life.TheVariants.{Resting, Dialing, Wanting, SettingUp, Ready, Ended}
 use Rattle.mux_conn.specs.declared.renewal.Renewal.{Renewal}
 use Rattle.mux_conn.specs.Connection.{are_some, in_front, is_due, is_ready}
 use Rattle.mux_conn.specs.Renewals.{asked_next, told_next}
@@ -18,7 +18,8 @@ use Rattle.legal_trace.proofs.Renewals.{taken_begins}
 use Rattle.session_laws.proofs.Names.{get_more}
 use Rattle.containers.proofs.Places.{get_within}
 use Rattle.legal_trace.specs.Book.{Book}
-use Rattle.session_laws.proofs.Tied.{AreFullBefore, AreRenewed, Inner, Tied, TiedLife, IsLost, IsTold, NoneRenewed, TiedRenewal, timed_of, has_ended}
+use Rattle.session_laws.proofs.Server.{AreFullBefore, AreRenewed, IsLost, IsTold, NoneRenewed, TiedRenewal, timed_of}
+use Rattle.session_laws.proofs.Tied.{Inner, Tied, TiedLife, has_ended}
 use Rattle.session_laws.proofs.SetUp.{begun_open}
 
 -- what is told next
@@ -186,6 +187,7 @@ none_alike l m r creds starts h = record {
 
 -- by how far the link has come
 pub renewal_alike : (l m : Ledger) (r : Renewal) (life : Life) → m.creds ≡ l.creds → m.starts ≡ l.starts → m.dealt ≡ l.dealt → TiedRenewal l r life → TiedRenewal m r life
+renewal_alike l m r Resting creds starts dealt h = none_alike l m r creds starts h
 renewal_alike l m r Dialing creds starts dealt h = none_alike l m r creds starts h
 renewal_alike l m r (Wanting link) creds starts dealt h = none_alike l m r creds starts h
 renewal_alike l m r (SettingUp link greeting) creds starts dealt h = none_alike l m r creds starts h
@@ -217,6 +219,7 @@ none_ended l m r starts h = let none = ap renewal_count starts ∙ h.unstarted i
 
 -- by how far it had come
 pub renewal_ended : (l m : Ledger) (r : Renewal) (life : Life) → m.creds.timed ≡ l.creds.timed → m.starts ≡ l.starts → TiedRenewal l r life → ((r.within ≢ None) → renewal_count m.starts ≤ m.creds.timed) × (renewal_count m.starts ≤ r.asked)
+renewal_ended l m r Resting timed starts h = none_ended l m r starts h
 renewal_ended l m r Dialing timed starts h = none_ended l m r starts h
 renewal_ended l m r (Wanting link) timed starts h = none_ended l m r starts h
 renewal_ended l m r (SettingUp link greeting) timed starts h = none_ended l m r starts h
@@ -228,6 +231,7 @@ renewal_ended l m r (Ended e) timed starts h =
 
 -- a link that isn't set up has none
 pub early_renewal : (l : Ledger) (r : Renewal) (life : Life) → is_ready life ≡ false → has_ended life ≡ false → TiedRenewal l r life → NoneRenewed l r
+early_renewal l r Resting unready alive h = h
 early_renewal l r Dialing unready alive h = h
 early_renewal l r (Wanting link) unready alive h = h
 early_renewal l r (SettingUp link greeting) unready alive h = h

@@ -1,5 +1,5 @@
 -- News of new credentials: some came, no more come, or some are not answered in time.
-use Rattle.std.proofs.Common.{◌≡◌, ◌⊎◌, inl, inr, ℕ, suc, ◌+◌, ◌≤◌, ◌==◌, Bool, true, false, ◌&&◌, ◌||◌, not, is_some, if◌then◌else◌, List, [], ◌∷◌, ◌++◌, length, Option, Some, None, refl, sym, ap, ◌∙◌, subst, arith, length-append}
+use Rattle.std.proofs.Common.{◌≡◌, ◌⊎◌, inl, inr, ℕ, suc, ◌+◌, ◌==◌, Bool, true, false, ◌&&◌, ◌||◌, not, is_some, if◌then◌else◌, List, [], ◌∷◌, ◌++◌, Option, Some, None, refl, sym, ap, ◌∙◌, subst, arith, length-append, ◌≢◌}
 use Rattle.std.proofs.lemmas.List.{drop-append-le}
 use Rattle.containers.proofs.Choices.{by_test, chosen, taken_if, left_if, not_both, eq_from, eq_test, ne_from, ne_test, both_left, both_right}
 use Rattle.credentials.specs.Credentials.{Credentials}
@@ -8,29 +8,30 @@ use Rattle.driver_model.specs.declared.action.Action.{Action}
 use Rattle.driver_model.specs.declared.event.EventKind.{EventKind}
 use Rattle.driver_model.specs.declared.outcome.Shape.TheVariants.{Confirmation}
 use Rattle.driver_model.specs.Shape.{verdict_of}
-use Rattle.driver_model.specs.News.{News, news_of, renewed, unrenewed, late}
+use Rattle.driver_model.specs.News.{News, news_of, renewed, unrenewed, late, shut}
 use Rattle.link_core.specs.Link.{LinkState}
 use Rattle.link_laws.proofs.TiedLink.{said_tied}
 use Rattle.mux_conn.specs.declared.connection.MultiplexedConnection.{MultiplexedConnection}
 use Rattle.mux_conn.specs.declared.life.Life.{Life}
-use Rattle.mux_conn.specs.declared.life.Life.TheVariants.{Dialing, Wanting, SettingUp, Ready, Ended}
+use Rattle.mux_conn.specs.declared.life.Life.TheVariants.{Resting, Dialing, Wanting, SettingUp, Ready, Ended}
 use Rattle.mux_conn.specs.declared.renewal.Renewal.{Renewal}
-use Rattle.mux_conn.specs.Connection.{are_some, is_due, is_ready}
+use Rattle.mux_conn.specs.Connection.{are_some, is_due, is_ready, is_resting}
 use Rattle.mux_conn.specs.Renewals.{expected, expecting, is_unanswered, late_for, none_follow, takes_more, with_renewal}
 use Rattle.shared_session.specs.declared.core_state.Core.{Core}
 use Rattle.shared_session.specs.Turn.{is_bad, numbered, with_work}
-use Rattle.legal_trace.specs.Ledger.{Ledger, Sourced, cut, ending, ending_up, is_done, is_full, is_full_last, is_renewal_open, is_set_up, is_taken, last_renewal, lost_by, may_renew, renewal_count, renewal_due, renewed_by, unrenewed_by}
+use Rattle.legal_trace.specs.Ledger.{Ledger, cut, ending, ending_up, is_done, is_full, is_full_last, is_renewal_open, is_set_up, is_taken, last_renewal, lost_by, may_renew, renewal_count, renewal_due, renewed_by, unrenewed_by}
 use Rattle.legal_trace.specs.Book.{Book, book}
 use Rattle.legal_trace.proofs.Setups.{ends_where_set}
 use Rattle.session_laws.proofs.Announce.{IsNewsKind, StaysQuiet, quiet_still, heard_book, heard_tied_new, heard_is, turn_of, turned, announced_sound, first_book, holds_first}
 use Rattle.session_laws.proofs.Connect.{passed_over}
 use Rattle.session_laws.proofs.End.{up_tied}
-use Rattle.session_laws.proofs.Heard.{heard_by, book_kind, book_news, ended_quiet, none_ends, still_none, tame_between}
+use Rattle.session_laws.proofs.Heard.{heard_by, book_kind, book_news, ended_quiet, none_ends, still_none, tame_between, hushed_there}
 use Rattle.session_laws.proofs.Renewals.{due_is, due_well, none_renewed_due, renewed_alike}
 use Rattle.session_laws.proofs.Said.{recredited, setup_on, setup_recredited, well_on, well_recredited, mild_end, renoticed}
 use Rattle.session_laws.proofs.Settle.{renewal_over, seen, trace_of_acts}
 use Rattle.session_laws.proofs.States.{Between, HasApplied, trace_with}
-use Rattle.session_laws.proofs.Tied.{AreRenewed, AreSought, NoneRenewed, Tied, TiedCreds, TiedLife, TiedRenewal, TiedSetup, carried, has_ended, inner, sources_asked_in, whole_link}
+use Rattle.session_laws.proofs.Server.{AreRenewed, AreSought, NoneRenewed, TiedCreds, TiedRenewal, TiedSetup, on_link}
+use Rattle.session_laws.proofs.Tied.{Tied, TiedLife, carried, has_ended, inner, whole_link}
 use Rattle.session_laws.proofs.ComeUp.{early_sources}
 
 -- a link that has ended
@@ -46,17 +47,18 @@ over_renewal front f conn r e started over within wanted waiting asked h =
       began = h.began;
       moved = h.moved;
       fit = record { wanting = h.fit.wanting; setup = h.fit.setup; link = h.fit.link; none = h.fit.none };
+      hushed = h.hushed;
     }
 
 -- a link that is ready
 --
 -- of which other new credentials are known
 ready_renewal : (before : List Action) (c : Core) (started : List ℕ) (word : ℕ) (kind : EventKind) (n : News) (link : LinkState) (renewals : List Credentials) (over lost : Bool) (r : Renewal) → Between before c started → is_bad c kind ≡ false → IsNewsKind c.timers kind
-    → news_of c.timers c.sources c.single.link kind ≡ n → c.single.connection.life ≡ Ready link → r.within ≡ c.single.connection.renewal.within → r.wanted ≡ c.single.connection.renewal.wanted → StaysQuiet c r
+    → news_of c.timers c.sources c.single.link kind ≡ n → c.single.connection.life ≡ Ready link → r.within ≡ c.single.connection.renewal.within → r.wanted ≡ c.single.connection.renewal.wanted → StaysQuiet c r → n ≢ shut
     → (let l = (book before).link c.single.link in let m = recredited l l.creds.asked l.creds.renews renewals over l.creds.timed lost in
     heard_by (book before) c n ≡ record m { heard = n } → AreRenewed (record m { heard = n }) r → ending_up (record m { heard = n }) n ≡ None
     → HasApplied (before ++ turn_of c word kind ∷ []) (with_work (record { core = turned c kind; acts = [] }) (record { conn = with_renewal c.single.connection r; acts = [] })) started)
-ready_renewal before c started word kind n link renewals over lost r h good k is e within wanted quiet same are calm =
+ready_renewal before c started word kind n link renewals over lost r h good k is e within wanted quiet other same are calm =
     let b = book before in
     let h0 = h.sound.tied in
     let conn = c.single.connection in
@@ -71,17 +73,22 @@ ready_renewal before c started word kind n link renewals over lost r h good k is
     let f = turned c kind in
     let own = ap (heard_by b c) (book_news b c started kind n h0 is) ∙ same in
     let t = seen f [] (with_renewal conn r) [] started in
-    let tied : Tied (heard_book b c.turns word kind) t = heard_tied_new b c started word b.created kind conn.info r conn.life conn.fresh [] [] after h0 within quiet good own
+    let tied : Tied (heard_book b c.turns word kind) t = heard_tied_new b c started word b.created b.failed conn.told conn.opened kind conn.info r conn.life conn.fresh [] [] after h0 h0.creation within wanted quiet good (λ some. some) own
     (record {
       starts = refl;
+      hearing_kept = refl;
+      spoken = refl;
       lived = subst (λ (x : Life). TiedLife after b.created x) (sym e) (u.asked, u.up, u.alive, u.shown);
-      creds = subst (λ (x : Life). TiedCreds after.creds r.wanted x) (sym e) (record { wanted_is = h0.creds.wanted_is ∙ sym wanted; sought = sought });
+      course = h0.course;
+      creds = subst (λ (x : Life). TiedCreds after.creds r.wanted x) (sym e) (record { wanted_is = on_link conn.life (l.creds.wanted ≡ conn.renewal.wanted) (ap is_resting e) h0.creds.wanted_is ∙ sym wanted; sought = sought });
       renewal_is = subst (λ (x : Life). TiedRenewal after r x) (sym e) are;
       said = subst (λ (x : Life). TiedSetup after conn.info started x) (sym e) said;
       linked = λ z. said_tied (carried conn.life conn.requests) l (whole_link conn.life) l.info m.creds n (h0.link z);
       lines = h0.lines;
       told = h0.told;
       waits = h0.waits;
+      rounds = h0.rounds;
+      early = h0.early;
       notices = renoticed (tame_between before c started h) h0.notices;
     }) in
     let turn_is = heard_is b c.turns word kind (book_kind b c kind h0.numbers.timers k) in
@@ -94,19 +101,8 @@ ready_renewal before c started word kind n link renewals over lost r h good k is
       began = λ z. absurd (omega arith);
       moved = h.moved;
       fit = record { wanting = h.fit.wanting; setup = h.fit.setup; link = h.fit.link; none = h.fit.none };
+      hushed = hushed_there c kind n conn.life is other (ap is_resting e) (ap has_ended e) h.hushed;
     }
-
--- a second source
---
--- no link has one before it is set up
-early_second : (c : Sourced) (life : Life) (n : ℕ) → is_ready life ≡ false → has_ended life ≡ false → AreSought c life → n ≡ sources_asked_in c → 2 ≤ n → ⊥
-early_second c life n unready alive h count two = few_sources c.asked c.renews n (early_sources c life unready alive h) count two
-  where
-    few_sources : (a b : Bool) (n : ℕ) → b ≡ false → n ≡ (if a then 1 else 0) + (if b then 1 else 0) → 2 ≤ n → ⊥
-    few_sources true true n once count two = cc
-    few_sources false true n once count two = cc
-    few_sources true false n once count two = omega arith
-    few_sources false false n once count two = omega arith
 
 -- new credentials come
 --
@@ -137,9 +133,9 @@ may_is : (l : Ledger) (r : Renewal) → l.up ≡ true → is_set_up l ≡ true �
 may_is l r up well renews over = λ i. up i && well i && renews i && not (over i)
 
 -- so it does
-pub renewed_applied : (before : List Action) (c : Core) (started : List ℕ) (word : ℕ) (kind : EventKind) (a : Credentials) → Between before c started → is_bad c kind ≡ false → IsNewsKind c.timers kind → news_of c.timers c.sources c.single.link kind ≡ renewed a → 2 ≤ length c.sources
+pub renewed_applied : (before : List Action) (c : Core) (started : List ℕ) (word : ℕ) (kind : EventKind) (a : Credentials) → Between before c started → is_bad c kind ≡ false → IsNewsKind c.timers kind → news_of c.timers c.sources c.single.link kind ≡ renewed a → ((book before).link c.single.link).creds.renews ≡ true
     → HasApplied (before ++ turn_of c word kind ∷ []) (with_work (record { core = turned c kind; acts = [] }) (record { conn = expecting c.single.connection a; acts = [] })) started
-renewed_applied before c started word kind a h good k is two = by_life c.single.connection.life refl
+renewed_applied before c started word kind a h good k is renews = by_life c.single.connection.life refl
   where
     b : Book
     b = book before
@@ -158,26 +154,27 @@ renewed_applied before c started word kind a h good k is two = by_life c.single.
     unready x e unset d = subst done (sym (left_if (is_ready conn.life && takes_more conn.renewal) (with_renewal conn (expected conn.renewal a)) conn (ap (λ y. y && takes_more conn.renewal) (ap is_ready e ∙ unset)))) d
 
     early : (x : Life) → conn.life ≡ x → is_ready x ≡ false → has_ended x ≡ false → done (expecting conn a)
-    early x e unset alive = absurd (early_second l.creds conn.life (length c.sources) (ap is_ready e ∙ unset) (ap has_ended e ∙ alive) h.sound.tied.creds.sought h.sound.tied.count two)
+    early x e unset alive = absurd (not_both l.creds.renews (early_sources l.creds conn.life (ap is_ready e ∙ unset) (ap has_ended e ∙ alive) h.sound.tied.creds.sought) renews)
 
     ready : (link : LinkState) → conn.life ≡ Ready link → done (expecting conn a)
     ready link e =
         let u = up_tied b (inner c started) link e h.sound.tied in
         let sought = subst (λ (x : Life). AreSought l.creds x) e h.sound.tied.creds.sought in
         let tied : AreRenewed l conn.renewal = subst (λ (x : Life). TiedRenewal l conn.renewal x) e h.sound.tied.renewal in
-        let may = may_is l conn.renewal u.up u.well (sought.1 ∙ h.sound.tied.creds.wanted_is) tied.over_is in
+        let may = may_is l conn.renewal u.up u.well (sought.1 ∙ on_link conn.life (l.creds.wanted ≡ conn.renewal.wanted) (ap is_resting e) h.sound.tied.creds.wanted_is) tied.over_is in
         let now = expected conn.renewal a in
         let still = quiet_still b c started h.sound.tied in
         chosen done (is_ready conn.life && takes_more conn.renewal) (with_renewal conn now) conn
         (λ t.
         let so : may_renew l ≡ true = may ∙ ap (λ y. y && takes_more conn.renewal) (sym (ap is_ready e)) ∙ t in
         let wants : StaysQuiet c now = λ w. absurd (not_both conn.renewal.wanted (still w).0 (both_left conn.renewal.wanted (not conn.renewal.over) (both_right (is_ready conn.life) (takes_more conn.renewal) t))) in
-        ready_renewal before c started word kind (renewed a) link (l.creds.renewals ++ a ∷ []) l.creds.over l.creds.lost now h good k is e refl refl wants (ap (λ (x : Ledger). record x { heard = renewed a }) (taken_if (may_renew l) (renewed_by l a) l so)) (expects l conn.renewal a (renewed a) tied) refl)
+        ready_renewal before c started word kind (renewed a) link (l.creds.renewals ++ a ∷ []) l.creds.over l.creds.lost now h good k is e refl refl wants (λ z. cc) (ap (λ (x : Ledger). record x { heard = renewed a }) (taken_if (may_renew l) (renewed_by l a) l so)) (expects l conn.renewal a (renewed a) tied) refl)
         (λ f.
         let so : may_renew l ≡ false = may ∙ ap (λ y. y && takes_more conn.renewal) (sym (ap is_ready e)) ∙ f in
-        ready_renewal before c started word kind (renewed a) link l.creds.renewals l.creds.over l.creds.lost conn.renewal h good k is e refl refl still (ap (λ (x : Ledger). record x { heard = renewed a }) (left_if (may_renew l) (renewed_by l a) l so)) (renewed_alike l (record l { heard = renewed a }) conn.renewal refl refl refl tied) refl)
+        ready_renewal before c started word kind (renewed a) link l.creds.renewals l.creds.over l.creds.lost conn.renewal h good k is e refl refl still (λ z. cc) (ap (λ (x : Ledger). record x { heard = renewed a }) (left_if (may_renew l) (renewed_by l a) l so)) (renewed_alike l (record l { heard = renewed a }) conn.renewal refl refl refl tied) refl)
 
     by_life : (x : Life) → conn.life ≡ x → done (expecting conn a)
+    by_life Resting e = early Resting e refl refl
     by_life Dialing e = early Dialing e refl refl
     by_life (Wanting link) e = early (Wanting link) e refl refl
     by_life (SettingUp link greeting) e = early (SettingUp link greeting) e refl refl
@@ -204,9 +201,9 @@ none_follows l r n h = record {
 }
 
 -- the source has ended
-pub unrenewed_applied : (before : List Action) (c : Core) (started : List ℕ) (word : ℕ) (kind : EventKind) → Between before c started → is_bad c kind ≡ false → IsNewsKind c.timers kind → news_of c.timers c.sources c.single.link kind ≡ unrenewed → 2 ≤ length c.sources
+pub unrenewed_applied : (before : List Action) (c : Core) (started : List ℕ) (word : ℕ) (kind : EventKind) → Between before c started → is_bad c kind ≡ false → IsNewsKind c.timers kind → news_of c.timers c.sources c.single.link kind ≡ unrenewed → ((book before).link c.single.link).creds.renews ≡ true
     → HasApplied (before ++ turn_of c word kind ∷ []) (with_work (record { core = turned c kind; acts = [] }) (record { conn = none_follow c.single.connection; acts = [] })) started
-unrenewed_applied before c started word kind h good k is two = by_life c.single.connection.life refl
+unrenewed_applied before c started word kind h good k is renews = by_life c.single.connection.life refl
   where
     conn : MultiplexedConnection
     conn = c.single.connection
@@ -221,9 +218,10 @@ unrenewed_applied before c started word kind h good k is two = by_life c.single.
     done x = HasApplied (before ++ turn_of c word kind ∷ []) (with_work (record { core = turned c kind; acts = [] }) (record { conn = x; acts = [] })) started
 
     early : (x : Life) → conn.life ≡ x → is_ready x ≡ false → has_ended x ≡ false → done (none_follow conn)
-    early x e unset alive = absurd (early_second l.creds conn.life (length c.sources) (ap is_ready e ∙ unset) (ap has_ended e ∙ alive) h.sound.tied.creds.sought h.sound.tied.count two)
+    early x e unset alive = absurd (not_both l.creds.renews (early_sources l.creds conn.life (ap is_ready e ∙ unset) (ap has_ended e ∙ alive) h.sound.tied.creds.sought) renews)
 
     by_life : (x : Life) → conn.life ≡ x → done (none_follow conn)
+    by_life Resting e = early Resting e refl refl
     by_life Dialing e = early Dialing e refl refl
     by_life (Wanting link) e = early (Wanting link) e refl refl
     by_life (SettingUp link greeting) e = early (SettingUp link greeting) e refl refl
@@ -231,7 +229,7 @@ unrenewed_applied before c started word kind h good k is two = by_life c.single.
         let u = up_tied (book before) (inner c started) link e h.sound.tied in
         let tied : AreRenewed l conn.renewal = subst (λ (x : Life). TiedRenewal l conn.renewal x) e h.sound.tied.renewal in
         let still = quiet_still (book before) c started h.sound.tied in
-        ready_renewal before c started word kind unrenewed link l.creds.renewals true l.creds.lost over h good k is e refl refl still (ap (λ (x : Ledger). record x { heard = unrenewed }) (taken_if l.up (unrenewed_by l) l u.up)) (none_follows l conn.renewal unrenewed tied) refl
+        ready_renewal before c started word kind unrenewed link l.creds.renewals true l.creds.lost over h good k is e refl refl still (λ z. cc) (ap (λ (x : Ledger). record x { heard = unrenewed }) (taken_if l.up (unrenewed_by l) l u.up)) (none_follows l conn.renewal unrenewed tied) refl
     by_life (Ended x) e = over_renewal (before ++ turn_of c word kind ∷ []) (turned c kind) conn over x started e refl refl refl refl (ended_quiet before c started word kind unrenewed x h good k is e)
 
 -- some are not answered in time
@@ -331,7 +329,7 @@ renewal_late before c started word kind m h good k is = by_life c.single.connect
         left_if (is_some (renewal_due l)) (m == renewal_count l.starts) ((suc m == renewal_count l.starts) && not (is_full_last l (last_renewal l.starts 0 None))) (ap is_some (none_renewed_due l conn.renewal none))
         ∙ ap (λ (y : Bool). y && not (is_full_last l (last_renewal l.starts 0 None))) (ne_test (suc m) (renewal_count l.starts) (λ same. absurd (let zero_is = none.unstarted in omega (arith, same, zero_is)))) in
         subst done (sym (left_if (is_unanswered conn.renewal m) (with_renewal conn gone) conn unasked))
-        (passed_over before c started word kind (late m) h good k is (ap (λ (x : Ledger). record x { heard = late m }) (left_if (l.up && is_renewal_open l m) (lost_by l) l (ap (λ y. l.up && y) unopen ∙ none_of l.up)))
+        (passed_over before c started word kind (late m) h good k is (λ z. cc) (ap (λ (x : Ledger). record x { heard = late m }) (left_if (l.up && is_renewal_open l m) (lost_by l) l (ap (λ y. l.up && y) unopen ∙ none_of l.up)))
         (mild_end l l.taken l.offer (late m) tt (still_none before c started h c.single.link)))
 
     -- a link that is ready
@@ -346,21 +344,22 @@ renewal_late before c started word kind m h good k is = by_life c.single.connect
         let was : conn.renewal ≡ gone = (λ i. record conn.renewal { lost = lost i }) in
         let lost_too : done (with_renewal conn gone) = by_test open_is (done (with_renewal conn gone))
         (λ t.
-        ready_renewal before c started word kind (late m) link l.creds.renewals l.creds.over true gone h good k is e refl refl still (ap (λ (x : Ledger). record x { heard = late m }) (taken_if open_is (lost_by l) l t)) (late_lost l conn.renewal true (late m) (λ z. refl) (inr lost) tied) refl)
+        ready_renewal before c started word kind (late m) link l.creds.renewals l.creds.over true gone h good k is e refl refl still (λ z. cc) (ap (λ (x : Ledger). record x { heard = late m }) (taken_if open_is (lost_by l) l t)) (late_lost l conn.renewal true (late m) (λ z. refl) (inr lost) tied) refl)
         (λ f.
-        ready_renewal before c started word kind (late m) link l.creds.renewals l.creds.over l.creds.lost gone h good k is e refl refl still (ap (λ (x : Ledger). record x { heard = late m }) (left_if open_is (lost_by l) l f)) (late_lost l conn.renewal l.creds.lost (late m) (λ z. z) (inr lost) tied) refl) in
+        ready_renewal before c started word kind (late m) link l.creds.renewals l.creds.over l.creds.lost gone h good k is e refl refl still (λ z. cc) (ap (λ (x : Ledger). record x { heard = late m }) (left_if open_is (lost_by l) l f)) (late_lost l conn.renewal l.creds.lost (late m) (λ z. z) (inr lost) tied) refl) in
         chosen done (is_unanswered conn.renewal m) (with_renewal conn gone) conn (λ t. lost_too) (λ f. subst (λ r. done (with_renewal conn r)) (sym was) lost_too))
         (λ kept.
         let same : is_renewal_open l m ≡ is_unanswered conn.renewal m = open_is_unanswered l conn.renewal m u.up kept (λ due. (h.still.renewed link e due).0) tied in
         chosen done (is_unanswered conn.renewal m) (with_renewal conn gone) conn
         (λ t.
-        ready_renewal before c started word kind (late m) link l.creds.renewals l.creds.over true gone h good k is e refl refl still (ap (λ (x : Ledger). record x { heard = late m }) (taken_if open_is (lost_by l) l (λ i. u.up i && (same ∙ t) i))) (late_lost l conn.renewal true (late m) (λ z. refl) (inl refl) tied)
+        ready_renewal before c started word kind (late m) link l.creds.renewals l.creds.over true gone h good k is e refl refl still (λ z. cc) (ap (λ (x : Ledger). record x { heard = late m }) (taken_if open_is (lost_by l) l (λ i. u.up i && (same ∙ t) i))) (late_lost l conn.renewal true (late m) (λ z. refl) (inl refl) tied)
         refl)
         (λ f.
-        ready_renewal before c started word kind (late m) link l.creds.renewals l.creds.over l.creds.lost conn.renewal h good k is e refl refl still (ap (λ (x : Ledger). record x { heard = late m }) (left_if open_is (lost_by l) l (ap (λ y. l.up && y) (same ∙ f) ∙ none_of l.up)))
+        ready_renewal before c started word kind (late m) link l.creds.renewals l.creds.over l.creds.lost conn.renewal h good k is e refl refl still (λ z. cc) (ap (λ (x : Ledger). record x { heard = late m }) (left_if open_is (lost_by l) l (ap (λ y. l.up && y) (same ∙ f) ∙ none_of l.up)))
         (renewed_alike l (record l { heard = late m }) conn.renewal refl refl refl tied) refl))
 
     by_life : (x : Life) → conn.life ≡ x → done (late_for conn m)
+    by_life Resting e = early (subst (λ (x : Life). TiedRenewal l conn.renewal x) e h.sound.tied.renewal)
     by_life Dialing e = early (subst (λ (x : Life). TiedRenewal l conn.renewal x) e h.sound.tied.renewal)
     by_life (Wanting link) e = early (subst (λ (x : Life). TiedRenewal l conn.renewal x) e h.sound.tied.renewal)
     by_life (SettingUp link greeting) e = early (subst (λ (x : Life). TiedRenewal l conn.renewal x) e h.sound.tied.renewal)

@@ -35,8 +35,7 @@ use Rattle.legal_trace.specs.Legal.{MayRenew, MayTimeRenewal, NoneEnds}
 use Rattle.legal_trace.specs.Story.{Story}
 use Rattle.legal_trace.proofs.Setups.{count_more}
 use Rattle.session_laws.proofs.Ahead.{held_by}
-use Rattle.session_laws.proofs.Behind.{some_more}
-use Rattle.session_laws.proofs.Going.{HasRenewed, applied_up, none_ends_kept, none_ends_mine, renewals_timed, setups_started, undue_asked, monitors_started}
+use Rattle.session_laws.proofs.Going.{HasRenewed, applied_up, none_ends_kept, none_ends_mine, renewals_timed, setups_started, monitors_started}
 use Rattle.session_laws.proofs.InLine.{kept_ids}
 use Rattle.session_laws.proofs.Kept.{mine_noted, others_kept, tied_by}
 use Rattle.session_laws.proofs.Names.{get_more}
@@ -47,22 +46,24 @@ use Rattle.session_laws.proofs.Settle.{Holds, book_of_more, renewal_tied, seen, 
 use Rattle.session_laws.proofs.Start.{not_setting, on_link, owners-append, owners_each-append, owners_length, setup_owners-append}
 use Rattle.session_laws.proofs.Starts.{begins_ends_none}
 use Rattle.session_laws.proofs.States.{IsFit}
-use Rattle.session_laws.proofs.Tied.{AreAimed, AreRenewed, Inner, IsAim, IsEntry, IsUnknown, Tied, TiedRenewal, TiedTries, numbers_kept, owner_of, owners_each, queue_ids, setup_owners, timed_of}
+use Rattle.session_laws.proofs.Server.{AreRenewed, TiedRenewal, setup_owners, timed_of}
+use Rattle.session_laws.proofs.Tied.{AreAimed, Inner, IsAim, IsEntry, Tied, TiedTries, numbers_kept, owner_of, owners_each, queue_ids}
+use Rattle.session_laws.proofs.Unrepeated.{repeats_started, repeats_timed, unrepeated_lined}
 use Rattle.session_laws.proofs.Took.{queue_waits}
 use Rattle.mux_conn.specs.declared.life.Greeting.TheVariants as greet
 use Rattle.driver_model.specs.Hearing.{is_watching}
 
 -- their timer
 --
--- a link that was never asked for has no new credentials to tell
-unknown_asked : (b : Book) (m : ℕ) → IsUnknown (b.link m) → renewals_asked (b.link m) ≡ 0
-unknown_asked b m u = undue_asked (b.link m) (down_renewed_due (b.link m) u.up) ∙ ap renewal_count u.starts
+-- where a time is set, there is one
+time_is_set : (within : Option ℕ) (ms : ℕ) → within ≡ Some ms → within ≢ None
+time_is_set within ms e none = let no : ◌≡◌ {A = Option ℕ} None (Some ms) = sym none ∙ e in cc
 
 -- a timer more for the link
 aims_renewed : (timers : List Purpose) (link count number : ℕ) → AreAimed timers link count → AreAimed (timers ++ purpose.Renewal link number ∷ []) link count
-aims_renewed timers link count number h k what e = elim (get_more timers (purpose.Renewal link number) k what e) [
+aims_renewed timers link count number h k what e = let own : link ≤ link = omega arith in elim (get_more timers (purpose.Renewal link number) k what e) [
   | inl i ↦ h k what i
-  | inr x ↦ subst (λ w. IsAim w link count) x.1 refl
+  | inr x ↦ subst (λ w. IsAim w link count) x.1 own
 ]
 
 -- where the time is set, as many timers were asked for as new credentials were to be told
@@ -81,13 +82,15 @@ may_time_renewal b t link number ms counted none due within h ended =
     let unasked : pending ≡ 0 = left_if r.pending 1 0 none in
     let one : renewals_asked l ≡ renewal_count l.starts + 1 = ap (λ x. renewal_count l.starts + (if x then 1 else 0)) (due_is l r h.life.1 h.renewal ∙ due) in
     record {
-      applied = applied_up b was h refl (refl, refl) refl ended;
+      applied = applied_up b was h refl (refl, refl) refl refl ended;
       setups = setups_started b was h (λ x u e. absurd (not_setting link x u e));
       monitors = monitors_started b was h (λ x e. absurd (not_setting link x greet.Monitor e));
+      repeats_timed = repeats_timed b h.numbers.unrepeated;
+      repeated = repeats_started b h.numbers.unrepeated;
       l = t.link;
       within = h.numbers.within ∙ within;
       asked = omega (arith, timed, one, unasked, h.renewal.asked_is);
-      in_order = λ m less. let none_asked = unknown_asked b m (h.others m (λ e. omega (arith, e))) in omega arith;
+      in_order = λ m less. (h.others m (λ e. omega (arith, e))).timed (time_is_set r.within ms within);
       next = counted ∙ ap length (sym h.numbers.timers);
       is_for = ap (purpose.Renewal t.link) (sym timed);
     }
@@ -99,32 +102,40 @@ time_tied b t link number ms none due within h =
     let l = b.link t.link in
     let r = t.renewal in
     let what = purpose.Renewal t.link r.asked in
-    let k = numbers_kept b b.link b.story (on_link t link) (Ready link) t.free t.requests t.waiting t.admitted t.fresh t.moved t.letting [] t.started h.numbers in
+    let k = numbers_kept b b.link b.story b.tracked b.errors (on_link t link) (Ready link) t.free t.requests t.waiting t.admitted t.fresh t.moved t.letting [] t.started h.numbers.unrepeated h.numbers in
     tied_by (entered b (action.Timer number ms what)) (record (on_link t link) { timers = t.timers ++ what ∷ []; renewal = asked_next r }) (noted l times) (mine_noted l t.link times) (record {
       numbers = record {
         turns = k.turns;
         links = k.links;
         timers = ap (λ ts. ts ++ what ∷ []) h.numbers.timers;
         sources = k.sources;
-        uses = k.uses;
         aims = aims_renewed t.timers t.link (length t.table) r.asked h.numbers.aims;
-        timed = λ config word opens bounded nothing. some_more b.timers what nothing;
+        timed = k.timed;
         submissions = k.submissions;
         timeout = k.timeout;
         shut = k.shut;
         within = k.within;
         few = k.few;
+        unrepeated = unrepeated_lined b.link t.link times refl h.numbers.unrepeated;
         settings = record { size_is = k.settings.size_is; bound_is = k.settings.bound_is; limit_is = k.settings.limit_is; some = k.settings.some; limited = k.settings.limited };
         kind_is = k.kind_is;
         quiet = λ w. let q = h.numbers.quiet w in record { none = q.none; unwanted = q.unwanted; unrenewed = q.unrenewed };
-        one = k.one;
-        only = k.only;
+        comes_back = k.comes_back;
+        lazy = k.lazy;
+        current_is = k.current_is;
+        speaks = k.speaks;
+        address_is = k.address_is;
+        wants = k.wants;
+        alone = k.alone;
       };
       others = others_kept b t.link times h.others;
       notices = h.notices;
       life = h.life;
+      course = h.course;
+      calm = h.calm;
       creds = record { wanted_is = h.creds.wanted_is; sought = h.creds.sought };
-      count = h.count;
+      creation = h.creation;
+      uses = h.uses;
       renewal = timed_renewed l r ms none due within h.renewal;
       setup = record { info_is = h.setup.info_is; sent = h.setup.sent; said = record { well = h.setup.said.well; none = h.setup.said.none } };
       link = λ e. timed_tied (owner_of t.requests) l link (h.link refl);
@@ -135,6 +146,8 @@ time_tied b t link number ms none due within h =
       told = h.told;
       waits = h.waits;
       permits = h.permits;
+      rounds = h.rounds;
+      early = h.early;
       late = h.late;
     })
 
@@ -169,7 +182,7 @@ tries_told l story requests link started s few owned plain h =
         | inl a ↦ h.tried j m inside a ∙ ap (λ y. record { link = link; message = y + j } ∷ []) (sym same)
         | inr a ↦ absurd (let k = a.1 in omega (arith, k, inside, few))
       ];
-      untried = λ m r i out. h.untried m r i (λ j. out (in_left m started (renewal_id ∷ []) j));
+      untried = λ m r i out on. h.untried m r i (λ j. out (in_left m started (renewal_id ∷ []) j)) on;
     }
   where
     past : (j m : ℕ) → slice_get started j ≡ Some m → setup_count l.starts + j ≡ length l.starts → ⊥
@@ -195,14 +208,16 @@ may_renew b t link c cs due pending waits fit free h ended =
     let was = on_link t link in
     let l = b.link t.link in
     record {
-      applied = applied_up b was h refl (refl, refl) refl ended;
+      applied = applied_up b was h refl (refl, refl) refl refl ended;
       setups = setups_started b was h (λ x u e. absurd (not_setting link x u e));
       monitors = monitors_started b was h (λ x e. absurd (not_setting link x greet.Monitor e));
+      repeats_timed = repeats_timed b h.numbers.unrepeated;
+      repeated = repeats_started b h.numbers.unrepeated;
       timed = renewals_timed b was h (λ x e d. pending);
       credentials = c;
       due = due_first l t.renewal c cs h.life.1 h.renewal due waits;
       free = held_by b was (owner_of t.requests) link h.numbers fit.bound_is (h.link refl) ∙ free;
-      in_order = λ m other less some. absurd (none_due m other (down_renewed_due (b.link m) (h.others m (λ e. omega (arith, e))).up) some);
+      in_order = λ m other less some. absurd (none_due m other (down_renewed_due (b.link m) (h.others m (λ e. omega (arith, e))).down) some);
       next = (h.link refl).started;
       needs_its_items = refl;
       long_as_its_bytes = refl;
@@ -224,14 +239,13 @@ auth_tied b t link c cs due pending waits h =
     let plain : is_watching t.hears ≡ true → ⊥ = λ w. (let no : [] ≡ c ∷ cs = sym (h.numbers.quiet w).unrenewed ∙ waits in cc) in
     let unwatched : is_watching l.hearing ≡ false = by_test (is_watching l.hearing) _ (λ w. absurd (plain (ap is_watching (sym h.notices.hearing_is) ∙ w))) (λ f. f) in
     let few : length t.requests ≤ renewal_id = omega (arith, h.names.few, h.numbers.few) in
-    let k = numbers_kept b b.link b.story (on_link t link) (Ready (begun link q)) t.free t.requests t.waiting t.admitted t.fresh t.moved t.letting [] (t.started ++ renewal_id ∷ []) h.numbers in
+    let k = numbers_kept b b.link b.story b.tracked b.errors (on_link t link) (Ready (begun link q)) t.free t.requests t.waiting t.admitted t.fresh t.moved t.letting [] (t.started ++ renewal_id ∷ []) h.numbers.unrepeated h.numbers in
     tied_by (entered b (auth_action t link c)) (after_auth t link c cs) (noted l (begins s)) (mine_noted l t.link (begins (message_of b t.link owner.Auth)) ∙ ap (λ x. noted l (begins x)) told) (record {
       numbers = record {
         turns = k.turns;
         links = k.links;
         timers = k.timers;
         sources = k.sources;
-        uses = k.uses;
         aims = k.aims;
         timed = k.timed;
         submissions = k.submissions;
@@ -239,17 +253,26 @@ auth_tied b t link c cs due pending waits h =
         shut = k.shut;
         within = k.within;
         few = k.few;
+        unrepeated = unrepeated_lined b.link t.link (begins (message_of b t.link owner.Auth)) refl h.numbers.unrepeated;
         settings = record { size_is = k.settings.size_is; bound_is = k.settings.bound_is; limit_is = k.settings.limit_is; some = k.settings.some; limited = k.settings.limited };
         kind_is = k.kind_is;
         quiet = λ w. absurd (plain w);
-        one = k.one;
-        only = k.only;
+        comes_back = k.comes_back;
+        lazy = k.lazy;
+        current_is = k.current_is;
+        speaks = k.speaks;
+        address_is = k.address_is;
+        wants = k.wants;
+        alone = k.alone;
       };
       others = others_kept b t.link (begins (message_of b t.link owner.Auth)) h.others;
       notices = h.notices;
       life = h.life;
+      course = h.course;
+      calm = h.calm;
       creds = record { wanted_is = h.creds.wanted_is; sought = h.creds.sought };
-      count = h.count;
+      creation = h.creation;
+      uses = h.uses;
       renewal = auth_renewed l t.renewal s c cs owned refl up.within due pending waits h.renewal;
       setup = record { info_is = h.setup.info_is; sent = setups_begins l s (ap is_of_setup owned) h.setup.sent; said = set_up_begins l s (ap is_of_setup owned) h.setup.said };
       link = λ e. begun_tied name l link q (auth_some c) up;
@@ -270,6 +293,8 @@ auth_tied b t link c cs due pending waits h =
       told = λ e. h.told refl;
       waits = queue_waits b.story t.requests link (begun link q) t.fresh t.moved (λ p i. i) h.waits;
       permits = h.permits;
+      rounds = h.rounds;
+      early = h.early;
       late = h.late;
     })
 
@@ -327,7 +352,7 @@ asked_told before f w started link life holds ended fit moved due =
         let tied = subst (λ (x : Life). Tied (entered b (action.Timer number ms what)) (record t { life = x; timers = t.timers ++ what ∷ []; renewal = asked_next r })) (sym life) (time_tied b t link number ms n due e was) in
         record {
           life = life;
-          holds = sound_act before f w.acts a (record w.conn { renewal = asked_next r }) [] started holds.stands (inr (inr may)) tied;
+          holds = sound_act before f w.acts a (record w.conn { renewal = asked_next r }) [] started holds.stands (inr (inr (inl may))) tied;
           ended = subst NoneEnds (sym (book_of_more before f w.acts a)) (none_ends_kept b f.single.link times (λ l x. x) ended);
           fit = fit;
           moved = moved;

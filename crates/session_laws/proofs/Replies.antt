@@ -38,7 +38,8 @@ use Rattle.session_laws.proofs.Names.{auth_owner}
 use Rattle.session_laws.proofs.Numbers.{IsIn, in_left, in_right, in_either}
 use Rattle.session_laws.proofs.Owes.{wanted_entry}
 use Rattle.session_laws.proofs.Settle.{replied_each}
-use Rattle.session_laws.proofs.Tied.{AreFullBefore, AreRenewed, IsEntry, IsLost, IsTold, owner_of}
+use Rattle.session_laws.proofs.Server.{AreFullBefore, AreRenewed, IsLost, IsTold}
+use Rattle.session_laws.proofs.Tied.{IsEntry, owner_of}
 use Rattle.session_laws.proofs.More.{full_more}
 use Rattle.session_laws.proofs.New.{read_new}
 use Rattle.session_laws.proofs.Renewals.{renewed_alike}
@@ -70,6 +71,7 @@ auth_is : (o : Owner) → is_of_renewal o ≡ true → o ≡ owner.Auth
 auth_is owner.Auth e = refl
 auth_is owner.Setup e = cc
 auth_is (owner.Try n round) e = cc
+auth_is owner.Resub e = cc
 auth_is owner.Monitor e = cc
 
 -- and none is behind the last

@@ -10,19 +10,21 @@ use Rattle.driver_model.specs.declared.action.SourceUse.{SourceUse}
 use Rattle.link_laws.proofs.TiedLink.{TiedLink}
 use Rattle.mux_conn.specs.Connection.{is_spent_in, started_in, is_due, is_ready, is_used_up}
 use Rattle.mux_conn.specs.declared.life.Life.{Life}
-use Rattle.mux_conn.specs.declared.life.Life.TheVariants.{Dialing, Ended, Ready, Wanting, SettingUp}
+use Rattle.mux_conn.specs.declared.life.Life.TheVariants.{Resting, Dialing, Ended, Ready, Wanting, SettingUp}
 use Rattle.shared_session.specs.Replay.{AreGood, AreGoodOn, is_bad_after, is_spent_after, opening_core, run_on, state_after, trace_of, IsSound, AreUnspent, AreUnspentOn}
-use Rattle.shared_session.specs.Turn.{is_bad, has_run_out, spends, next_turn, moved_on, effect, counted}
+use Rattle.shared_session.specs.Turn.{is_bad, has_run_out, spends, next_turn}
 use Rattle.shared_session.specs.declared.core_state.Core.{Core}
 use Rattle.legal_trace.specs.Book.{Book, book}
 use Rattle.legal_trace.specs.Events.{HasRunOut}
 use Rattle.shared_session.proofs.Replays.{state_after-more, trace_of-more, turns_after}
-use Rattle.session_laws.proofs.Legality.{replay_between, turn_between, room_behind}
-use Rattle.session_laws.proofs.Tied.{Inner, Tied, TiedLife, carried, has_ended, inner, whole_link, AreRenewed, IsUnknown, NoneRenewed, TiedRenewal}
+use Rattle.session_laws.proofs.Legality.{turn_behind}
+use Rattle.session_laws.proofs.Opening.{opening_unasked}
+use Rattle.session_laws.proofs.Server.{AreRenewed, NoneRenewed, TiedRenewal}
+use Rattle.session_laws.proofs.Tied.{Inner, Tied, TiedLife, carried, has_ended, inner, whole_link}
 use Rattle.driver_model.specs.declared.action.Action.{Action}
-use Rattle.session_laws.proofs.Grown.{HasGrown, turn_grown}
+use Rattle.session_laws.proofs.Grown.{IsGrown, turn_grown}
 use Rattle.session_laws.proofs.Renewals.{due_is, down_renewed_due, none_renewed_due}
-use Rattle.legal_trace.specs.Ledger.{Ledger, Start, renewal_count, renewal_due, renewals_asked}
+use Rattle.legal_trace.specs.Ledger.{Ledger, renewal_count, renewal_due, renewals_asked}
 use Rattle.credentials.specs.Credentials.{Credentials}
 use Rattle.mux_conn.specs.declared.connection.MultiplexedConnection.{MultiplexedConnection}
 use Rattle.mux_conn.specs.declared.renewal.Renewal.{Renewal}
@@ -53,6 +55,7 @@ spent_up : (b : Book) (t : Inner) → Tied b t → is_spent_in t.life ≡ true �
 spent_up b t h e = by_life t.life h.life e
   where
     by_life : (life : Life) → TiedLife (b.link t.link) b.created life → is_spent_in life ≡ true → (b.link t.link).up ≡ true
+    by_life Resting k s = absurd (let far = le_from (2 ^ 32) 0 s in omega arith)
     by_life Dialing k s = absurd (let far = le_from (2 ^ 32) 0 s in omega arith)
     by_life (Wanting link) k s = k.1
     by_life (SettingUp link greeting) k s = k.1
@@ -64,19 +67,21 @@ up_started : (b : Book) (t : Inner) → Tied b t → (b.link t.link).up ≡ true
 up_started b t h up = by_life t.life h.life h.link
   where
     by_life : (life : Life) → TiedLife (b.link t.link) b.created life → (has_ended life ≡ false → TiedLink (carried life t.requests) (b.link t.link) (whole_link life)) → started_in life ≡ length (b.link t.link).starts
+    by_life Resting k tied = absurd (not_both (b.link t.link).up k.1 up)
     by_life Dialing k tied = absurd (not_both (b.link t.link).up k.1 up)
     by_life (Wanting link) k tied = (tied refl).started
     by_life (SettingUp link greeting) k tied = (tied refl).started
     by_life (Ready link) k tied = (tied refl).started
     by_life (Ended x) k tied = absurd (not_both (b.link t.link).up k.0 up)
 
--- one of five tests
-either_true : (a b c d e : Bool) → (a || (b || (c || (d || e)))) ≡ true → (a ≡ true) ⊎ ((b ≡ true) ⊎ ((c ≡ true) ⊎ ((d ≡ true) ⊎ (e ≡ true))))
-either_true true b c d e is = inl refl
-either_true false true c d e is = inr (inl refl)
-either_true false false true d e is = inr (inr (inl refl))
-either_true false false false true e is = inr (inr (inr (inl refl)))
-either_true false false false false e is = inr (inr (inr (inr is)))
+-- one of six tests
+either_true : (a b c d e f : Bool) → (a || (b || (c || (d || (e || f))))) ≡ true → (a ≡ true) ⊎ ((b ≡ true) ⊎ ((c ≡ true) ⊎ ((d ≡ true) ⊎ ((e ≡ true) ⊎ (f ≡ true)))))
+either_true true b c d e f is = inl refl
+either_true false true c d e f is = inr (inl refl)
+either_true false false true d e f is = inr (inr (inl refl))
+either_true false false false true e f is = inr (inr (inr (inl refl)))
+either_true false false false false true f is = inr (inr (inr (inr (inl refl))))
+either_true false false false false false f is = inr (inr (inr (inr (inr is))))
 
 -- one of two
 one_of : (a b : Bool) → (a || b) ≡ true → (a ≡ true) ⊎ (b ≡ true)
@@ -103,23 +108,28 @@ as_many bound n m l e = omega arith
 
 -- a session that has begun so many turns before this one has given out the last number of a sort
 abbrev IsSpentBy : ℕ → Inner → Bool
-IsSpentBy turns t = nat_le (2 ^ 32) turns || ((is_spent_in t.life || nat_le (2 ^ 32) t.renewal.asked) || (nat_le (2 ^ 32) (length t.table) || (nat_le (2 ^ 32) (length t.timers) || nat_le (2 ^ 32) (length t.sources))))
+IsSpentBy turns t =
+    nat_le (2 ^ 32) turns
+    || (nat_le (2 ^ 32) t.links || ((is_spent_in t.life || nat_le (2 ^ 32) t.renewal.asked) || (nat_le (2 ^ 32) (length t.table) || (nat_le (2 ^ 32) (length t.timers) || nat_le (2 ^ 32) (length t.sources)))))
 
 -- by the numbers of the session
 pub run_out_of : (b : Book) (t : Inner) (turns : ℕ) → Tied b t → t.turns ≡ turns + 1 → (2 ^ 32 ≤ t.renewal.asked → 2 ^ 32 ≤ renewals_asked (b.link t.link)) → IsSpentBy turns t ≡ true → HasRunOut b
 run_out_of b t turns h count renewals e =
-    elim (either_true (nat_le (2 ^ 32) turns) (is_spent_in t.life || nat_le (2 ^ 32) t.renewal.asked) (nat_le (2 ^ 32) (length t.table)) (nat_le (2 ^ 32) (length t.timers)) (nat_le (2 ^ 32) (length t.sources)) e) [
+    elim (either_true (nat_le (2 ^ 32) turns) (nat_le (2 ^ 32) t.links) (is_spent_in t.life || nat_le (2 ^ 32) t.renewal.asked) (nat_le (2 ^ 32) (length t.table)) (nat_le (2 ^ 32) (length t.timers)) (nat_le (2 ^ 32) (length t.sources)) e) [
       | inl x ↦ inl (turns_out (2 ^ 32) turns b.turns t.turns (le_from (2 ^ 32) turns x) h.numbers.turns count)
-      | inr x ↦ elim x [
-        | inl both ↦ elim (one_of (is_spent_in t.life) (nat_le (2 ^ 32) t.renewal.asked) both) [
-          | inl y ↦ let up = spent_up b t h y in inr (inr (inr (inr (inr (inl (t.link, up, as_many (2 ^ 32) (started_in t.life) (length (b.link t.link).starts) (le_from (2 ^ 32) (started_in t.life) y) (sym (up_started b t h up))))))))
-          | inr y ↦ inr (inr (inr (inr (inr (inr (t.link, renewals (le_from (2 ^ 32) t.renewal.asked y)))))))
-        ]
-        | inr y ↦ elim y [
-          | inl z ↦ inr (inl (as_many (2 ^ 32) (length t.table) b.submissions (le_from (2 ^ 32) (length t.table) z) h.numbers.submissions))
-          | inr z ↦ elim z [
-            | inl w ↦ inr (inr (inr (inl (subst (λ (ts : List Purpose). 2 ^ 32 ≤ length ts) (sym h.numbers.timers) (le_from (2 ^ 32) (length t.timers) w)))))
-            | inr w ↦ inr (inr (inr (inr (inl (subst (λ (ss : List SourceUse). 2 ^ 32 ≤ length ss) (sym h.numbers.sources) (le_from (2 ^ 32) (length t.sources) w))))))
+      | inr v ↦ elim v [
+        | inl many ↦ inr (inr (inl (as_many (2 ^ 32) t.links b.links (le_from (2 ^ 32) t.links many) h.numbers.links)))
+        | inr x ↦ elim x [
+          | inl both ↦ elim (one_of (is_spent_in t.life) (nat_le (2 ^ 32) t.renewal.asked) both) [
+            | inl y ↦ let up = spent_up b t h y in inr (inr (inr (inr (inr (inl (t.link, up, as_many (2 ^ 32) (started_in t.life) (length (b.link t.link).starts) (le_from (2 ^ 32) (started_in t.life) y) (sym (up_started b t h up))))))))
+            | inr y ↦ inr (inr (inr (inr (inr (inr (t.link, renewals (le_from (2 ^ 32) t.renewal.asked y)))))))
+          ]
+          | inr y ↦ elim y [
+            | inl z ↦ inr (inl (as_many (2 ^ 32) (length t.table) b.submissions (le_from (2 ^ 32) (length t.table) z) h.numbers.submissions))
+            | inr z ↦ elim z [
+              | inl w ↦ inr (inr (inr (inl (subst (λ (ts : List Purpose). 2 ^ 32 ≤ length ts) (sym h.numbers.timers) (le_from (2 ^ 32) (length t.timers) w)))))
+              | inr w ↦ inr (inr (inr (inr (inl (subst (λ (ss : List SourceUse). 2 ^ 32 ≤ length ss) (sym h.numbers.sources) (le_from (2 ^ 32) (length t.sources) w))))))
+            ]
           ]
         ]
       ]
@@ -127,94 +137,66 @@ run_out_of b t turns h count renewals e =
 
 -- and where they have, it is
 --
-first_true : (a b c d e : Bool) → a ≡ true → (a || (b || (c || (d || e)))) ≡ true
-first_true true b c d e is = refl
-first_true false b c d e is = cc
+first_true : (a b c d e f : Bool) → a ≡ true → (a || (b || (c || (d || (e || f))))) ≡ true
+first_true true b c d e f is = refl
+first_true false b c d e f is = cc
 
--- the second of five tests
-second_true : (a b c d e : Bool) → b ≡ true → (a || (b || (c || (d || e)))) ≡ true
-second_true true b c d e is = refl
-second_true false true c d e is = refl
-second_true false false c d e is = cc
+-- the second of six tests
+second_true : (a b c d e f : Bool) → b ≡ true → (a || (b || (c || (d || (e || f))))) ≡ true
+second_true a b c d e f is = or_second a (b || (c || (d || (e || f)))) (or_first b (c || (d || (e || f))) is)
 
--- the third of five tests
-third_true : (a b c d e : Bool) → c ≡ true → (a || (b || (c || (d || e)))) ≡ true
-third_true true b c d e is = refl
-third_true false true c d e is = refl
-third_true false false true d e is = refl
-third_true false false false d e is = cc
+-- the third
+third_true : (a b c d e f : Bool) → c ≡ true → (a || (b || (c || (d || (e || f))))) ≡ true
+third_true a b c d e f is = or_second a (b || (c || (d || (e || f)))) (or_second b (c || (d || (e || f))) (or_first c (d || (e || f)) is))
 
--- the fourth of five tests
-fourth_true : (a b c d e : Bool) → d ≡ true → (a || (b || (c || (d || e)))) ≡ true
-fourth_true true b c d e is = refl
-fourth_true false true c d e is = refl
-fourth_true false false true d e is = refl
-fourth_true false false false true e is = refl
-fourth_true false false false false e is = cc
+-- the fourth
+fourth_true : (a b c d e f : Bool) → d ≡ true → (a || (b || (c || (d || (e || f))))) ≡ true
+fourth_true a b c d e f is = or_second a (b || (c || (d || (e || f)))) (or_second b (c || (d || (e || f))) (or_second c (d || (e || f)) (or_first d (e || f) is)))
+
+-- the fifth
+fifth_true : (a b c d e f : Bool) → e ≡ true → (a || (b || (c || (d || (e || f))))) ≡ true
+fifth_true a b c d e f is = or_second a (b || (c || (d || (e || f)))) (or_second b (c || (d || (e || f))) (or_second c (d || (e || f)) (or_second d (e || f) (or_first e f is))))
 
 -- and the last
-last_true : (a b c d e : Bool) → e ≡ true → (a || (b || (c || (d || e)))) ≡ true
-last_true true b c d e is = refl
-last_true false true c d e is = refl
-last_true false false true d e is = refl
-last_true false false false true e is = refl
-last_true false false false false e is = is
+last_true : (a b c d e f : Bool) → f ≡ true → (a || (b || (c || (d || (e || f))))) ≡ true
+last_true a b c d e f is = or_second a (b || (c || (d || (e || f)))) (or_second b (c || (d || (e || f))) (or_second c (d || (e || f)) (or_second d (e || f) (or_second e f is))))
 
 -- the turn before
 turns_then : (bound turns now next : ℕ) → bound < now → now ≡ next → next ≡ turns + 1 → bound ≤ turns
 turns_then bound turns now next l e i = omega arith
 
--- one link is not that many
-one_link : (b : Book) (t : Inner) → Tied b t → 2 ^ 32 ≤ b.links → ⊥
-one_link b t h many =
-    let links = h.numbers.links in
-    let one = h.numbers.one in
-    let first = h.numbers.only 0 (omega arith) in
-    let more : 1 < b.links = more_than_one b.links many in
-    let second = h.numbers.only 1 (omega arith) in
-    omega arith
-  where
-    more_than_one : (n : ℕ) → 2 ^ 32 ≤ n → 1 < n
-    more_than_one n l = omega arith
-
--- a link that was never asked for has none
-none_asked : (l : Ledger) → IsUnknown l → 2 ^ 32 ≤ renewals_asked l → ⊥
-none_asked l h many = too_few (renewals_asked l) (ap (λ (ss : List Start). renewal_count ss + (if is_some (renewal_due l) then 1 else 0)) h.starts ∙ ap (λ (o : Option Credentials). 0 + (if is_some o then 1 else 0)) (down_renewed_due l h.up)) many
-  where
-    too_few : (n : ℕ) → n ≡ 0 + 0 → 2 ^ 32 ≤ n → ⊥
-    too_few n e l = omega arith
-
 -- by the numbers of the session
 pub spent_of : (b : Book) (t : Inner) (turns : ℕ) → Tied b t → t.turns ≡ turns + 1 → (2 ^ 32 ≤ renewals_asked (b.link t.link) → 2 ^ 32 ≤ t.renewal.asked) → HasRunOut b → IsSpentBy turns t ≡ true
 spent_of b t turns h count renewals out =
     let first = nat_le (2 ^ 32) turns in
-    let second = is_spent_in t.life || nat_le (2 ^ 32) t.renewal.asked in
-    let third = nat_le (2 ^ 32) (length t.table) in
-    let fourth = nat_le (2 ^ 32) (length t.timers) in
+    let second = nat_le (2 ^ 32) t.links in
+    let third = is_spent_in t.life || nat_le (2 ^ 32) t.renewal.asked in
+    let fourth = nat_le (2 ^ 32) (length t.table) in
+    let fifth = nat_le (2 ^ 32) (length t.timers) in
     let last = nat_le (2 ^ 32) (length t.sources) in
     elim out [
-      | inl l ↦ first_true first second third fourth last (le_test (2 ^ 32) turns (turns_then (2 ^ 32) turns b.turns t.turns l h.numbers.turns count))
+      | inl l ↦ first_true first second third fourth fifth last (le_test (2 ^ 32) turns (turns_then (2 ^ 32) turns b.turns t.turns l h.numbers.turns count))
       | inr x ↦ elim x [
-        | inl l ↦ third_true first second third fourth last (le_test (2 ^ 32) (length t.table) (as_many (2 ^ 32) b.submissions (length t.table) l (sym h.numbers.submissions)))
+        | inl l ↦ fourth_true first second third fourth fifth last (le_test (2 ^ 32) (length t.table) (as_many (2 ^ 32) b.submissions (length t.table) l (sym h.numbers.submissions)))
         | inr y ↦ elim y [
-          | inl l ↦ absurd (one_link b t h l)
+          | inl l ↦ second_true first second third fourth fifth last (le_test (2 ^ 32) t.links (as_many (2 ^ 32) b.links t.links l (sym h.numbers.links)))
           | inr z ↦ elim z [
-            | inl l ↦ fourth_true first second third fourth last (le_test (2 ^ 32) (length t.timers) (subst (λ (ts : List Purpose). 2 ^ 32 ≤ length ts) h.numbers.timers l))
+            | inl l ↦ fifth_true first second third fourth fifth last (le_test (2 ^ 32) (length t.timers) (subst (λ (ts : List Purpose). 2 ^ 32 ≤ length ts) h.numbers.timers l))
             | inr w ↦ elim w [
-              | inl l ↦ last_true first second third fourth last (le_test (2 ^ 32) (length t.sources) (subst (λ (ss : List SourceUse). 2 ^ 32 ≤ length ss) h.numbers.sources l))
+              | inl l ↦ last_true first second third fourth fifth last (le_test (2 ^ 32) (length t.sources) (subst (λ (ss : List SourceUse). 2 ^ 32 ≤ length ss) h.numbers.sources l))
               | inr x ↦ elim x [
                 | inl m ↦ by_test (m.0 == t.link) _
                     (λ e.
                     let same = eq_from m.0 t.link e in
                     let up = subst (λ l. (b.link l).up ≡ true) same m.1 in
                     let here = subst (λ l. 2 ^ 32 ≤ length (b.link l).starts) same m.2 in
-                    second_true first second third fourth last (or_first (is_spent_in t.life) (nat_le (2 ^ 32) t.renewal.asked) (le_test (2 ^ 32) (started_in t.life) (as_many (2 ^ 32) (length (b.link t.link).starts) (started_in t.life) here (up_started b t h up)))))
-                    (λ o. absurd (not_both (b.link m.0).up (h.others m.0 (ne_from m.0 t.link o)).up m.1))
+                    third_true first second third fourth fifth last (or_first (is_spent_in t.life) (nat_le (2 ^ 32) t.renewal.asked) (le_test (2 ^ 32) (started_in t.life) (as_many (2 ^ 32) (length (b.link t.link).starts) (started_in t.life) here (up_started b t h up)))))
+                    (λ o. absurd (not_both (b.link m.0).up (h.others m.0 (ne_from m.0 t.link o)).down m.1))
                 | inr m ↦ by_test (m.0 == t.link) _
                     (λ e.
                     let here = subst (λ l. 2 ^ 32 ≤ renewals_asked (b.link l)) (eq_from m.0 t.link e) m.1 in
-                    second_true first second third fourth last (or_second (is_spent_in t.life) (nat_le (2 ^ 32) t.renewal.asked) (le_test (2 ^ 32) t.renewal.asked (renewals here))))
-                    (λ o. absurd (none_asked (b.link m.0) (h.others m.0 (ne_from m.0 t.link o)) m.1))
+                    third_true first second third fourth fifth last (or_second (is_spent_in t.life) (nat_le (2 ^ 32) t.renewal.asked) (le_test (2 ^ 32) t.renewal.asked (renewals here))))
+                    (λ o. absurd (let few = (h.others m.0 (ne_from m.0 t.link o)).few in let many = m.1 in omega arith))
               ]
             ]
           ]
@@ -229,16 +211,16 @@ next_between : (config : Config) (word : ℕ) (events : List Event) (e : Event) 
     → (let after = (next_turn (state_after config word events) e.kind).core in
     (started : List ℕ) × Tied (book (trace_of config word (events ++ e ∷ []))) (inner after started) × ((link : LinkState) → after.single.connection.life ≡ Ready link → is_due after.single.connection.renewal ≡ true → after.single.connection.renewal.pending ≡ true))
 next_between config word events e sound good unspent fine =
-    let c = state_after config word events in
-    let h = turn_between (trace_of config word events) c e (replay_between config word events sound good unspent) fine (room_behind config word events unspent) in
-    (h.started, subst (λ (x : List Action). Tied (book x) (inner (next_turn c e.kind).core h.started)) (sym (trace_of-more config word events e)) h.between.sound.tied, λ link is due. (h.between.still.renewed link is due).0)
+    let after = (next_turn (state_after config word events) e.kind).core in
+    let h = turn_behind config word events e sound good unspent fine in
+    (h.started, subst (λ (x : List Action). Tied (book x) (inner after h.started)) (sym (trace_of-more config word events e)) h.tied, h.renewed)
 
 -- new credentials that were to be told have not run out before
 asked_next_few : (c : Core) (e : Event) → spends c e ≡ false → (next_turn c e.kind).core.single.connection.renewal.asked < 2 ^ 32
 unfolding spends has_run_out
 asked_next_few c e unspent =
     let conn = (next_turn c e.kind).core.single.connection in
-    not_le_from (2 ^ 32) conn.renewal.asked (or_right (is_spent_in conn.life) _ (or_left (is_used_up conn) _ (or_right (nat_le (2 ^ 32) c.turns) _ unspent)))
+    not_le_from (2 ^ 32) conn.renewal.asked (or_right (is_spent_in conn.life) _ (or_left (is_used_up conn) _ (or_right (nat_le (2 ^ 32) (next_turn c e.kind).core.links) _ (or_right (nat_le (2 ^ 32) c.turns) _ unspent))))
 
 -- nor behind a history
 asked_on : (c : Core) (es : List Event) → c.single.connection.renewal.asked < 2 ^ 32 → AreUnspentOn c es → (run_on c es).single.connection.renewal.asked < 2 ^ 32
@@ -248,12 +230,13 @@ asked_on c (e ∷ es) few unspent = asked_on (next_turn c e.kind).core es (asked
 -- from the opening on
 asked_behind : (config : Config) (word : ℕ) (events : List Event) → AreUnspent config word events → (state_after config word events).single.connection.renewal.asked < 2 ^ 32
 unfolding state_after AreUnspent
-asked_behind config word events unspent = asked_on (opening_core config word) events (omega arith) unspent
+asked_behind config word events unspent = asked_on (opening_core config word) events (let none = (opening_unasked config word).told in omega arith) unspent
 
 -- so where they have, they have in its book
-last_asked : (b : Book) (t : Inner) (n : ℕ) (conn : MultiplexedConnection) → t.life ≡ conn.life → t.renewal ≡ conn.renewal → Tied b t → n < 2 ^ 32 → HasGrown n conn → 2 ^ 32 ≤ t.renewal.asked → 2 ^ 32 ≤ renewals_asked (b.link t.link)
-last_asked b t n conn life renewal h few (inl same) many = absurd (let so = ap (λ (r : Renewal). r.asked) renewal ∙ same in omega (arith, few, so, many))
-last_asked b t n conn life renewal h few (inr more) many = by_life t.life refl
+last_asked : (b : Book) (t : Inner) (n : ℕ) (conn : MultiplexedConnection) → t.life ≡ conn.life → t.renewal ≡ conn.renewal → Tied b t → n < 2 ^ 32 → IsGrown n conn → 2 ^ 32 ≤ t.renewal.asked → 2 ^ 32 ≤ renewals_asked (b.link t.link)
+last_asked b t n conn life renewal h few (inr dialing) many = absurd (let none = (subst (TiedRenewal (b.link t.link) t.renewal) (life ∙ dialing) h.renewal).unasked in omega (arith, many, none))
+last_asked b t n conn life renewal h few (inl (inl same)) many = absurd (let so = ap (λ (r : Renewal). r.asked) renewal in omega (arith, few, so, same, many))
+last_asked b t n conn life renewal h few (inl (inr more)) many = by_life t.life refl
   where
     ready : is_ready t.life ≡ true
     ready = ap is_ready life ∙ more.0
@@ -266,6 +249,7 @@ last_asked b t n conn life renewal h few (inr more) many = by_life t.life refl
     told = subst (λ (r : Renewal). (r.pending ≡ false) ⊎ (is_due r ≡ true)) (sym renewal) more.1
 
     by_life : (x : Life) → t.life ≡ x → 2 ^ 32 ≤ renewals_asked (b.link t.link)
+    by_life Resting e = absurd (not_both (is_ready t.life) (ap is_ready e) ready)
     by_life Dialing e = absurd (not_both (is_ready t.life) (ap is_ready e) ready)
     by_life (Wanting link) e = absurd (not_both (is_ready t.life) (ap is_ready e) ready)
     by_life (SettingUp link greeting) e = absurd (not_both (is_ready t.life) (ap is_ready e) ready)
@@ -297,6 +281,7 @@ book_asked b t h waits many = by_life t.life refl
     none r = too_few (renewals_asked l) (ap (λ n. n + (if is_some (renewal_due l) then 1 else 0)) r.unstarted ∙ ap (λ (o : Option Credentials). 0 + (if is_some o then 1 else 0)) (none_renewed_due l t.renewal r)) many
 
     by_life : (x : Life) → t.life ≡ x → 2 ^ 32 ≤ t.renewal.asked
+    by_life Resting e = absurd (none (subst (TiedRenewal l t.renewal) e h.renewal))
     by_life Dialing e = absurd (none (subst (TiedRenewal l t.renewal) e h.renewal))
     by_life (Wanting link) e = absurd (none (subst (TiedRenewal l t.renewal) e h.renewal))
     by_life (SettingUp link greeting) e = absurd (none (subst (TiedRenewal l t.renewal) e h.renewal))
@@ -321,14 +306,14 @@ book_asked b t h waits many = by_life t.life refl
 -- a spent step gives out the last number
 pub spent_run_out : (config : Config) (word : ℕ) (events : List Event) (e : Event) → IsSound config → AreGood config word events → AreUnspent config word events → is_bad_after config word events e ≡ false → is_spent_after config word events e ≡ true
     → HasRunOut (book (trace_of config word (events ++ e ∷ [])))
-unfolding spends has_run_out next_turn
+unfolding spends has_run_out
 spent_run_out config word events e sound good unspent fine spent =
     let c = state_after config word events in
     let h = next_between config word events e sound good unspent fine in
     let b = book (trace_of config word (events ++ e ∷ [])) in
     let t = inner (next_turn c e.kind).core h.0 in
     run_out_of b t c.turns h.1 (turn_counted config word events e)
-    (last_asked b t c.single.connection.renewal.asked (moved_on (effect (counted c) e.kind)).core.single.connection refl refl h.1 (asked_behind config word events unspent) (turn_grown c e.kind)) spent
+    (last_asked b t c.single.connection.renewal.asked (next_turn c e.kind).core.single.connection refl refl h.1 (asked_behind config word events unspent) (turn_grown c e.kind)) spent
 
 -- and one that gives it out is spent
 pub run_out_spent : (config : Config) (word : ℕ) (events : List Event) (e : Event) → IsSound config → AreGood config word events → AreUnspent config word events → is_bad_after config word events e ≡ false → HasRunOut (book (trace_of config word (events ++ e ∷ [])))

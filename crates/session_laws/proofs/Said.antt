@@ -6,20 +6,22 @@ use Rattle.redis_error.specs.declared.redis_error.RedisError.TheVariants as erro
 use Rattle.connection_info.specs.declared.address.RedisConnectionInfo.{RedisConnectionInfo}
 use Rattle.connection_setup.specs.declared.judgement.SetupResult.TheVariants.{Failed}
 use Rattle.driver_model.specs.declared.action.Owner.TheVariants as owner
-use Rattle.driver_model.specs.News.{News, silence, connected, refused, overdue, took, came, failed, authorized, denied, deserted, shut, renewed, unrenewed, late, dropped}
+use Rattle.driver_model.specs.News.{News, silence, connected, refused, overdue, took, came, failed, authorized, denied, deserted, shut, renewed, unrenewed, late, unrepeated, dropped}
 use Rattle.link_core.specs.Link.{LinkState}
 use Rattle.link_laws.proofs.TiedLink.{TiedLink}
 use Rattle.mux_conn.specs.declared.life.Greeting.{Greeting}
 use Rattle.mux_conn.specs.declared.life.Life.{Life}
-use Rattle.mux_conn.specs.declared.life.Life.TheVariants.{Dialing, Wanting, SettingUp, Ready, Ended}
+use Rattle.mux_conn.specs.declared.life.Life.TheVariants.{Resting, Dialing, Wanting, SettingUp, Ready, Ended}
 use Rattle.mux_conn.specs.declared.request.Request.{Request}
-use Rattle.legal_trace.specs.Ledger.{Ledger, End, Ending, by_opening, hears, noted, authorized_by, awaits_credentials, is_over, dials, refused_in, bytes_came, ending, ending_up, ending_asked, ending_unready, ending_by, ending_alive, error_in, is_well, is_set_up, is_ready, lacks_credentials, setup_after, setup_result, is_renewal_open, lost_by, may_renew, renewed_by, unrenewed_by, source_due, is_unreadable, opening_error, by_fault, Heard}
+use Rattle.legal_trace.specs.Ledger.{Ledger, End, Ending, by_opening, hears, noted, authorized_by, awaits_credentials, is_over, dials, refused_in, bytes_came, ending, ending_up, ending_asked, ending_unready, ending_by, ending_alive, error_in, is_well, is_set_up, is_ready, lacks_credentials, setup_after, setup_result, is_renewal_open, lost_by, may_renew, renewed_by, unrenewed_by, source_due, is_unreadable, opening_error, by_fault, Heard, is_fault, lasting, is_repeating, unrepeated_by}
 use Rattle.legal_trace.proofs.Setups.{ends_where_set, ungreeted_is_unset}
 use Rattle.legal_trace.specs.Book.{Book}
 use Rattle.legal_trace.specs.Legal.{ReadyIsShown, SourcesAreAsked}
+use Rattle.legal_trace.proofs.Endings.{lasting_is_fault}
 use Rattle.session_laws.proofs.Creds.{down_unawaited, unawaited_is, wanting_lacks, down_may_renew, down_sourced, asked_sourced, has_sourced, ready_sourced}
 use Rattle.session_laws.proofs.SetUp.{not_set_up, lacking_unset, IsUnset}
-use Rattle.session_laws.proofs.Tied.{AreSought, Inner, HasSaid, Tied, TiedLife, TiedSetup, carried, owner_of, whole_link, TiedNotices, IsGreeting, greeter, is_reading, brings_bytes}
+use Rattle.session_laws.proofs.Server.{AreSought, HasSaid, TiedSetup, IsGreeting, hearing_at}
+use Rattle.session_laws.proofs.Tied.{Inner, Tied, TiedLife, carried, owner_of, whole_link, TiedNotices, greeter, is_reading, brings_bytes}
 use Rattle.credentials.specs.Credentials.{Credentials}
 use Rattle.session_laws.proofs.SameSaid.{SameSaid, after_alike, greeting_link, said_alike, set_alike, setup_alike}
 use Rattle.driver_model.specs.declared.hearing.Hearing.{Hearing}
@@ -31,6 +33,7 @@ use Rattle.resp_read.specs.Values.{is_spoiled}
 --
 -- they are the same where names are
 pub carried_same : (life : Life) (requests other : List Request) → owner_of requests ≡ owner_of other → carried life requests ≡ carried life other
+carried_same Resting requests other e = λ i p. e i p
 carried_same Dialing requests other e = λ i p. e i p
 carried_same (Wanting link) requests other e = λ i p. owner.Setup
 carried_same (SettingUp link greeting) requests other e = λ i p. greeter greeting
@@ -120,6 +123,7 @@ BringsNothing (authorized c) = ⊥
 BringsNothing (renewed c) = ⊥
 BringsNothing unrenewed = ⊥
 BringsNothing (late k) = ⊥
+BringsNothing unrepeated = Unit {0}
 BringsNothing silence = Unit {0}
 BringsNothing connected = Unit {0}
 BringsNothing (refused f) = Unit {0}
@@ -154,6 +158,11 @@ setup_hears l turn (authorized c) info started life k h = absurd k
 setup_hears l turn (renewed c) info started life k h = absurd k
 setup_hears l turn unrenewed info started life k h = absurd k
 setup_hears l turn (late m) info started life k h = absurd k
+setup_hears l turn unrepeated info started life k h =
+    let m = record (unrepeated_by l) { heard = unrepeated } in
+    chosen (λ (x : Ledger). TiedSetup (record x { heard = unrepeated }) info started life) (is_repeating l) (unrepeated_by l) l
+    (λ t. record { info_is = h.info_is; sent = h.sent; said = said_alike l m started life (record { starts = refl; dealt = refl; info = refl; hearing = refl; wanted = refl; given = refl }) h.said })
+    (λ f. setup_on l l.asked l.up l.end l.taken l.offer l.rest unrepeated info started life h)
 setup_hears l turn (denied text) info started life k h = setup_on l l.asked l.up l.end l.taken l.offer l.rest (denied text) info started life h
 setup_hears l turn deserted info started life k h = setup_on l l.asked l.up l.end l.taken l.offer l.rest deserted info started life h
 setup_hears l turn dropped info started life k h = setup_on l l.asked l.up l.end l.taken l.offer l.rest dropped info started life h
@@ -177,6 +186,7 @@ setup_unheard l turn unrenewed info started life down h =
     if_false (λ (x : Ledger). TiedSetup (record x { heard = unrenewed }) info started life) l.up (unrenewed_by l) l down (setup_on l l.asked l.up l.end l.taken l.offer l.rest unrenewed info started life h)
 setup_unheard l turn (late m) info started life down h =
     if_false (λ (x : Ledger). TiedSetup (record x { heard = late m }) info started life) (l.up && is_renewal_open l m) (lost_by l) l (ap (λ u. u && is_renewal_open l m) down) (setup_on l l.asked l.up l.end l.taken l.offer l.rest (late m) info started life h)
+setup_unheard l turn unrepeated info started life down h = setup_hears l turn unrepeated info started life tt h
 setup_unheard l turn (denied text) info started life down h = setup_hears l turn (denied text) info started life tt h
 setup_unheard l turn deserted info started life down h = setup_hears l turn deserted info started life tt h
 setup_unheard l turn dropped info started life down h = setup_hears l turn dropped info started life tt h
@@ -188,6 +198,14 @@ setup_unheard l turn shut info started life down h = setup_hears l turn shut inf
 abbrev pub PushesOf : Hearing → Hearing → Ledger → Type 0
 PushesOf heard mine l = TiedNotices heard mine l.hearing l.notices l.told l.end l.parted l.strange (is_reading l) [] false
 
+-- by how far the link has come
+abbrev pub PushesAt : Life → Hearing → Hearing → Ledger → Type 0
+PushesAt life heard mine l = TiedNotices heard mine (hearing_at life mine l.hearing) l.notices l.told l.end l.parted l.strange (is_reading l) [] false
+
+-- where there is one
+pub pushes_there : (life now : Life) (heard mine : Hearing) (l : Ledger) → life ≡ now → PushesAt life heard mine l → PushesAt now heard mine l
+pushes_there life now heard mine l e h = subst (λ (x : Life). PushesAt x heard mine l) e h
+
 -- another turn brings it, where no value came that ends the link
 pub renoticed : {heard hears hearing : Hearing} {notices : List Heard} {told : ℕ} {end : Option End} {parted strange was now : Bool} {untold : List Heard} {parting : Bool} → (end ≡ None → strange ≡ false)
     → TiedNotices heard hears hearing notices told end parted strange was untold parting → TiedNotices heard hears hearing notices told end parted strange now untold parting
@@ -198,28 +216,29 @@ abbrev pub IsTame : Ledger → Type 0
 IsTame l = l.end ≡ None → l.strange ≡ false
 
 -- so it does whatever news come that bring a link that is up nothing
-pub pushes_hear : (l : Ledger) (turn : ℕ) (n : News) (heard mine : Hearing) → IsTame l → BringsNothing n ⊎ (l.up ≡ false) → PushesOf heard mine l → PushesOf heard mine (noted l (hears turn n))
-pushes_hear l turn silence heard mine tame k h = renoticed tame h
-pushes_hear l turn overdue heard mine tame k h = renoticed tame h
-pushes_hear l turn (refused f) heard mine tame k h =
-    chosen (λ (x : Ledger). PushesOf heard mine (record x { heard = refused f })) (dials l) (refused_in l turn (error.Io f)) l
-    (λ t. record { heard_is = h.heard_is; hearing_is = h.hearing_is; within = h.within; untold_is = h.untold_is; parts = λ y d cut. cc; alive = λ e. cc; due = h.due; tame = λ e. cc })
+pub pushes_hear : (life : Life) (l : Ledger) (turn : ℕ) (n : News) (heard mine : Hearing) → IsTame l → BringsNothing n ⊎ (l.up ≡ false) → PushesAt life heard mine l → PushesAt life heard mine (noted l (hears turn n))
+pushes_hear life l turn silence heard mine tame k h = renoticed tame h
+pushes_hear life l turn overdue heard mine tame k h = renoticed tame h
+pushes_hear life l turn (refused f) heard mine tame k h =
+    chosen (λ (x : Ledger). PushesAt life heard mine (record x { heard = refused f })) (dials l) (refused_in l turn (error.Io f)) l
+    (λ t. record { heard_is = h.heard_is; hearing_is = h.hearing_is; within = h.within; untold_is = h.untold_is; parts = λ y d cut. absurd (not_both (is_fault (lasting l.last (by_opening (error.Io f)))) (lasting_is_fault l.last (by_opening (error.Io f))) cut); alive = λ e. cc; due = h.due; tame = λ e. cc })
     (λ t. renoticed tame h)
-pushes_hear l turn connected heard mine tame k h = chosen (λ (x : Ledger). PushesOf heard mine (record x { heard = connected })) (is_over l) l (record l { up = true }) (λ t. renoticed tame h) (λ f. renoticed tame h)
-pushes_hear l turn (took count) heard mine tame k h = chosen (λ (x : Ledger). PushesOf heard mine (record x { heard = took count })) l.up (record l { taken = l.taken ++ take count l.offer; offer = [] }) l (λ t. renoticed tame h) (λ f. renoticed tame h)
-pushes_hear l turn (came piece) heard mine tame k h = elim k [
+pushes_hear life l turn connected heard mine tame k h = chosen (λ (x : Ledger). PushesAt life heard mine (record x { heard = connected })) (is_over l) l (record l { up = true }) (λ t. renoticed tame h) (λ f. renoticed tame h)
+pushes_hear life l turn (took count) heard mine tame k h = chosen (λ (x : Ledger). PushesAt life heard mine (record x { heard = took count })) l.up (record l { taken = l.taken ++ take count l.offer; offer = [] }) l (λ t. renoticed tame h) (λ f. renoticed tame h)
+pushes_hear life l turn (came piece) heard mine tame k h = elim k [
   | inl piece_is ↦ absurd piece_is
-  | inr down ↦ if_false (λ (x : Ledger). PushesOf heard mine (record x { heard = came piece })) l.up (bytes_came l piece) l down (renoticed tame h)
+  | inr down ↦ if_false (λ (x : Ledger). PushesAt life heard mine (record x { heard = came piece })) l.up (bytes_came l piece) l down (renoticed tame h)
 ]
-pushes_hear l turn (failed f) heard mine tame k h = renoticed tame h
-pushes_hear l turn (authorized c) heard mine tame k h = chosen (λ (x : Ledger). PushesOf heard mine (record x { heard = authorized c })) (awaits_credentials l) (authorized_by l c) l (λ t. renoticed tame h) (λ f. renoticed tame h)
-pushes_hear l turn (renewed c) heard mine tame k h = chosen (λ (x : Ledger). PushesOf heard mine (record x { heard = renewed c })) (may_renew l) (renewed_by l c) l (λ t. renoticed tame h) (λ f. renoticed tame h)
-pushes_hear l turn unrenewed heard mine tame k h = chosen (λ (x : Ledger). PushesOf heard mine (record x { heard = unrenewed })) l.up (unrenewed_by l) l (λ t. renoticed tame h) (λ f. renoticed tame h)
-pushes_hear l turn (late m) heard mine tame k h = chosen (λ (x : Ledger). PushesOf heard mine (record x { heard = late m })) (l.up && is_renewal_open l m) (lost_by l) l (λ t. renoticed tame h) (λ f. renoticed tame h)
-pushes_hear l turn (denied text) heard mine tame k h = renoticed tame h
-pushes_hear l turn deserted heard mine tame k h = renoticed tame h
-pushes_hear l turn dropped heard mine tame k h = renoticed tame h
-pushes_hear l turn shut heard mine tame k h = renoticed tame h
+pushes_hear life l turn (failed f) heard mine tame k h = renoticed tame h
+pushes_hear life l turn (authorized c) heard mine tame k h = chosen (λ (x : Ledger). PushesAt life heard mine (record x { heard = authorized c })) (awaits_credentials l) (authorized_by l c) l (λ t. renoticed tame h) (λ f. renoticed tame h)
+pushes_hear life l turn (renewed c) heard mine tame k h = chosen (λ (x : Ledger). PushesAt life heard mine (record x { heard = renewed c })) (may_renew l) (renewed_by l c) l (λ t. renoticed tame h) (λ f. renoticed tame h)
+pushes_hear life l turn unrenewed heard mine tame k h = chosen (λ (x : Ledger). PushesAt life heard mine (record x { heard = unrenewed })) l.up (unrenewed_by l) l (λ t. renoticed tame h) (λ f. renoticed tame h)
+pushes_hear life l turn (late m) heard mine tame k h = chosen (λ (x : Ledger). PushesAt life heard mine (record x { heard = late m })) (l.up && is_renewal_open l m) (lost_by l) l (λ t. renoticed tame h) (λ f. renoticed tame h)
+pushes_hear life l turn unrepeated heard mine tame k h = chosen (λ (x : Ledger). PushesAt life heard mine (record x { heard = unrepeated })) (is_repeating l) (unrepeated_by l) l (λ t. renoticed tame h) (λ f. renoticed tame h)
+pushes_hear life l turn (denied text) heard mine tame k h = renoticed tame h
+pushes_hear life l turn deserted heard mine tame k h = renoticed tame h
+pushes_hear life l turn dropped heard mine tame k h = renoticed tame h
+pushes_hear life l turn shut heard mine tame k h = renoticed tame h
 
 -- what ends by an error, or by this, by nothing ends
 both_none : (x : Option RedisError) (y : Option Ending) → ending_by x y ≡ None → y ≡ None
@@ -272,6 +291,7 @@ is_tame b t h none lives = by_news (b.link t.link).heard refl
     by_news (renewed c) e = other (renewed c) e refl
     by_news unrenewed e = other unrenewed e refl
     by_news (late k) e = other (late k) e refl
+    by_news unrepeated e = other unrepeated e refl
     by_news dropped e = other dropped e refl
     by_news shut e = other shut e refl
 
@@ -362,6 +382,7 @@ dropped_end l deaf none = by_test l.up _
 --
 -- by how far it has come
 ready_by : (l : Ledger) (created : ℕ) (info : RedisConnectionInfo) (started : List ℕ) (life : Life) → TiedLife l created life → AreSought l.creds life → TiedSetup l info started life → is_ready l ≡ true → created ≢ 0
+ready_by l created info started Resting h c s r = absurd (not_both l.up h.1 (both_left l.up (is_set_up l) r))
 ready_by l created info started Dialing h c s r = absurd (not_both l.up h.1 (both_left l.up (is_set_up l) r))
 ready_by l created info started (Wanting link) h c s r = absurd (not_both (is_set_up l) (lacking_unset l (wanting_lacks l.creds link c)).unset (both_right l.up (is_set_up l) r))
 ready_by l created info started (SettingUp link greeting) h c s r = absurd (not_both (is_set_up l) (not_set_up l link greeting s.said.1).unset (both_right l.up (is_set_up l) r))
@@ -372,12 +393,13 @@ ready_by l created info started (Ended e) h c s r = absurd (not_both l.up h.0 (b
 pub ready_shown : (b : Book) (t : Inner) → Tied b t → ReadyIsShown b
 ready_shown b t h m ready = by_test (m == t.link) _
     (λ same. ready_by (b.link t.link) b.created t.info t.started t.life h.life h.creds.sought h.setup (subst (λ k. is_ready (b.link k) ≡ true) (eq_from m t.link same) ready))
-    (λ other. absurd (not_both (b.link m).up (h.others m (ne_from m t.link other)).up (both_left (b.link m).up (is_set_up (b.link m)) ready)))
+    (λ other. absurd (not_both (b.link m).up (h.others m (ne_from m t.link other)).down (both_left (b.link m).up (is_set_up (b.link m)) ready)))
 
 -- every source was asked for that is to be
 --
 -- by how far a link has come
 pub life_sourced : (l : Ledger) (created : ℕ) (started : List ℕ) (life : Life) → TiedLife l created life → AreSought l.creds life → HasSaid l started life → source_due l ≡ false
+life_sourced l created started Resting h s said = down_sourced l h.1
 life_sourced l created started Dialing h s said = down_sourced l h.1
 life_sourced l created started (Wanting link) h s said = asked_sourced l s.1 (inl (lacking_unset l (wanting_lacks l.creds link s)).unset)
 life_sourced l created started (SettingUp link greeting) h s said = has_sourced l s.0 (not_set_up l link greeting said.1).unset
@@ -388,4 +410,4 @@ life_sourced l created started (Ended e) h s said = down_sourced l h.0
 pub sources_asked : (b : Book) (t : Inner) → Tied b t → SourcesAreAsked b
 sources_asked b t h m = by_test (m == t.link) _
     (λ same. subst (λ k. source_due (b.link k) ≡ false) (sym (eq_from m t.link same)) (life_sourced (b.link t.link) b.created t.started t.life h.life h.creds.sought h.setup.said))
-    (λ other. down_sourced (b.link m) (h.others m (ne_from m t.link other)).up)
+    (λ other. down_sourced (b.link m) (h.others m (ne_from m t.link other)).down)

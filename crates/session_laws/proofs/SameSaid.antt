@@ -10,10 +10,11 @@ use Rattle.link_core.specs.Link.{LinkState}
 use Rattle.mux_conn.specs.declared.life.Greeting.{Greeting}
 use Rattle.mux_conn.specs.declared.life.Greeting.TheVariants as greet
 use Rattle.mux_conn.specs.declared.life.Life.{Life}
-use Rattle.mux_conn.specs.declared.life.Life.TheVariants.{Dialing, Wanting, SettingUp, Ready, Ended}
+use Rattle.mux_conn.specs.declared.life.Life.TheVariants.{Resting, Dialing, Wanting, SettingUp, Ready, Ended}
 use Rattle.mux_conn.specs.Effects.{setup_id, setup_queued}
 use Rattle.legal_trace.specs.Ledger.{Ledger, Start, is_answered, is_full, is_greeted, is_set_up, is_well, lacks_credentials, last_result, monitor_among, monitor_of, repeats, result_of, setup_after, setup_count, setup_result, setup_steps}
-use Rattle.session_laws.proofs.Tied.{HasSaid, IsGreeting, IsSettingUp, IsWatching, greeting_at, owners_of, setup_owners, greeter}
+use Rattle.session_laws.proofs.Server.{HasSaid, IsGreeting, IsSettingUp, IsWatching, greeting_at, owners_of, setup_owners}
+use Rattle.session_laws.proofs.Tied.{greeter}
 use Rattle.driver_model.specs.declared.action.Owner.TheVariants as owner
 
 -- of the second ledger the same is known of what is said to its server as of the first
@@ -117,6 +118,7 @@ greeting_alike l m link greet.Monitor h s = watching_alike l m link h s
 
 -- and all that is said
 pub said_alike : (l m : Ledger) (started : List ℕ) (life : Life) → SameSaid l m → HasSaid l started life → HasSaid m started life
+said_alike l m started Resting h s = (h.starts ∙ s.0, s.1)
 said_alike l m started Dialing h s = (h.starts ∙ s.0, s.1)
 said_alike l m started (Wanting link) h s = (h.starts ∙ s.0, s.1, s.2, s.3)
 said_alike l m started (SettingUp link greeting) h s = (s.0, greeting_alike l m link greeting h s.1)

@@ -7,7 +7,7 @@ use Rattle.connection_setup.specs.declared.judgement.SetupResult.{SetupResult}
 use Rattle.connection_setup.specs.declared.judgement.SetupResult.TheVariants as result
 use Rattle.driver_model.specs.declared.action.Owner.TheVariants as owner
 use Rattle.driver_model.specs.Setup.{says_nothing}
-use Rattle.driver_model.specs.News.{News, silence, connected, refused, overdue, took, came, failed, authorized, denied, deserted, shut, renewed, unrenewed, late, dropped}
+use Rattle.driver_model.specs.News.{News, silence, connected, refused, overdue, took, came, failed, authorized, denied, deserted, shut, renewed, unrenewed, late, unrepeated, dropped}
 use Rattle.legal_trace.specs.Ledger.{Ledger, Start, begins, ending_up, is_full, is_of_setup, is_well, lacks_credentials, last_result, noted, reach, repeats, result_of, setup_after, setup_count, setup_due, setup_result, setup_steps, error_in, is_set_up, is_of_monitor, monitor_among}
 use Rattle.legal_trace.proofs.Ledgers.{reach_more, takes_one}
 use Rattle.legal_trace.proofs.Setups.{IsUndecided, count_more, count_within, repeats_open, second_holds, set_begins, set_came, set_is_said, setup_said, ungreeted_is_unset}
@@ -15,7 +15,7 @@ use Rattle.link_core.specs.Link.{LinkState}
 use Rattle.link_laws.proofs.TiedLink.{has_heard}
 use Rattle.session_laws.proofs.Creds.{lacking_undecided}
 use Rattle.mux_conn.specs.declared.life.Greeting.{Greeting}
-use Rattle.session_laws.proofs.Tied.{AreSetups, IsSetUp, IsSettingUp, IsSetupSent, owners_of, setup_owners, IsGreeting, IsWatching}
+use Rattle.session_laws.proofs.Server.{AreSetups, IsSetUp, IsSettingUp, IsSetupSent, owners_of, setup_owners, IsGreeting, IsWatching}
 use Rattle.legal_trace.proofs.Came.{holds_bytes}
 use Rattle.legal_trace.proofs.Watching.{unanswered_is_unset}
 use Rattle.mux_conn.specs.declared.life.Greeting.TheVariants as greet
@@ -175,6 +175,7 @@ ending_up_same l ss (authorized c) = refl
 ending_up_same l ss (renewed c) = refl
 ending_up_same l ss unrenewed = refl
 ending_up_same l ss (late k) = refl
+ending_up_same l ss unrepeated = refl
 ending_up_same l ss (denied text) = refl
 ending_up_same l ss deserted = refl
 ending_up_same l ss dropped = refl

@@ -40,7 +40,9 @@ use Rattle.session_laws.proofs.SetUp.{begun_open, count_length, count_next, down
 use Rattle.session_laws.proofs.Settle.{quiet_asks, seen, trace_of_acts}
 use Rattle.session_laws.proofs.Start.{owners-append, with_queue}
 use Rattle.session_laws.proofs.States.{IsFit}
-use Rattle.session_laws.proofs.Tied.{AreSetups, Inner, IsSettingUp, Tied, TiedTries, numbers_kept, owners_of, setup_owners, AreSetupsAlone, HasGreetedAlone, greeter, greeting_at, is_of_greeting}
+use Rattle.session_laws.proofs.Server.{AreSetups, IsSettingUp, owners_of, setup_owners, AreSetupsAlone, greeting_at}
+use Rattle.session_laws.proofs.Tied.{Inner, Tied, TiedTries, numbers_kept, HasGreetedAlone, greeter, is_of_greeting}
+use Rattle.session_laws.proofs.Unrepeated.{unrepeated_lined}
 use Rattle.session_laws.proofs.Renewals.{none_begins, full_begins}
 use Rattle.session_laws.proofs.SameSaid.{greeter_at, greeting_of, setting_of}
 use Rattle.mux_conn.specs.declared.life.Greeting.TheVariants as greet
@@ -174,11 +176,11 @@ set_up_may b t link greeting due fit free h ended =
     let q = due_queued l greeting in
     let was = setting_on t (with_queue link (q ∷ [])) greeting in
     record {
-      applied = applied_up b was h refl (refl, refl) refl ended;
+      applied = applied_up b was h refl (refl, refl) refl refl ended;
       k = c;
       due = taken_if l.up (setup_after l c) None h.life.1 ∙ due;
       free = held_by b was (λ (p : ℕ). greeter greeting) (with_queue link (q ∷ [])) h.numbers fit.bound_is (h.link refl) ∙ free;
-      in_order = λ m i less e. absurd (let no : ◌≡◌ {A = Option ℕ} None (Some i) = sym (down_undue (b.link m) (h.others m (λ same. absurd (omega arith))).up) ∙ e in cc);
+      in_order = λ m i less e. absurd (let no : ◌≡◌ {A = Option ℕ} None (Some i) = sym (down_undue (b.link m) (h.others m (λ same. absurd (omega arith))).down) ∙ e in cc);
       next = (h.link refl).started;
       needs_its_items = refl;
       long_as_its_bytes = refl;
@@ -203,12 +205,15 @@ set_up_tied b t link greeting due user h =
     let all = setting.alone in
     tied_by (entered b (set_up_action t link q)) now (noted l (begins s)) (mine_noted l t.link (begins s))
     (record {
-      numbers = numbers_kept b _ _ was _ _ _ _ _ _ _ _ _ _ h.numbers;
+      numbers = numbers_kept b _ _ _ _ was _ _ _ _ _ _ _ _ _ _ (unrepeated_lined b.link t.link (begins s) refl h.numbers.unrepeated) h.numbers;
       others = others_kept b t.link (begins s) h.others;
       notices = h.notices;
       life = h.life;
+      course = h.course;
+      calm = h.calm;
       creds = record { wanted_is = h.creds.wanted_is; sought = h.creds.sought };
-      count = h.count;
+      creation = h.creation;
+      uses = h.uses;
       renewal = none_begins l t.renewal s refl h.renewal;
       setup = record { info_is = h.setup.info_is; sent = setups_next l all h.setup.sent; said = (said.0, greeting_of (noted l (begins s)) (with_queue (begun link q) []) greeting own (setting_next l link greeting all tied.within due user setting)) };
       link = λ e. subst (λ (who : Owner). TiedLink (λ (p : ℕ). who) (noted l (begins s)) (with_queue (begun link q) [])) (sym own)
@@ -220,6 +225,8 @@ set_up_tied b t link greeting due user h =
       told = h.told;
       waits = setting_waits b.story t.requests (with_queue link (q ∷ [])) (with_queue (begun link q) []) greeting greeting t.fresh t.moved h.waits;
       permits = h.permits;
+      rounds = h.rounds;
+      early = h.early;
       late = h.late;
     })
 

@@ -15,7 +15,7 @@ use Rattle.mux_conn.specs.declared.act.LinkAct.{LinkAct}
 use Rattle.mux_conn.specs.declared.act.LinkAct.TheVariants as act
 use Rattle.mux_conn.specs.declared.connection.MultiplexedConnection.{MultiplexedConnection}
 use Rattle.mux_conn.specs.declared.life.Life.{Life}
-use Rattle.mux_conn.specs.declared.life.Life.TheVariants.{Dialing, Wanting, SettingUp, Ready, Ended}
+use Rattle.mux_conn.specs.declared.life.Life.TheVariants.{Resting, Dialing, Wanting, SettingUp, Ready, Ended}
 use Rattle.mux_conn.specs.declared.request.Progress.TheVariants as progress
 use Rattle.mux_conn.specs.declared.request.Request.{Request}
 use Rattle.mux_conn.specs.declared.request.Waiting.{Waiting}
@@ -31,7 +31,8 @@ use Rattle.legal_trace.specs.Book.{Book, blank_book, book, entered}
 use Rattle.legal_trace.specs.Owed.{owed}
 use Rattle.legal_trace.specs.Legal.{AllStand, MayStand, MayAnswer, IsBefore, is_heard}
 use Rattle.session_laws.proofs.Numbers.{Rising, requests_in, rising_from}
-use Rattle.session_laws.proofs.Tied.{Inner, link_in, TiedLife, Tied, Sound, waiting_ids, has_ended, TiedRenewal}
+use Rattle.session_laws.proofs.Server.{OnLink, TiedRenewal}
+use Rattle.session_laws.proofs.Tied.{Inner, link_in, TiedLife, Tied, Sound, waiting_ids, has_ended, AreAside}
 use Rattle.session_laws.proofs.Entered.{book_more, quiet_sources, quiet_timers, sound_more, shown_more, sources_more, timers_more}
 use Rattle.session_laws.proofs.Names.{open_within, name_with, length_with, with_then}
 use Rattle.session_laws.proofs.InLine.{line_of, IsInLine, open_in_line, first_is_least}
@@ -41,11 +42,12 @@ use Rattle.session_laws.proofs.Answer.{may_answer, after_closes, none_before, ow
 -- credentials
 abbrev pub seen : Core → List LinkAct → MultiplexedConnection → List ℕ → List ℕ → Inner
 seen f acts conn pending started = record {
+  manager = f.manager;
   turns = f.turns;
   links = f.links;
   link = f.single.link;
   timers = f.timers ++ timers_of f.single.link acts;
-  sources = f.sources ++ sources_of f.single.link (length f.sources) acts;
+  sources = f.sources ++ sources_of f.single.link acts;
   shut = f.shut;
   table = f.table;
   timeout = f.timeout;
@@ -58,13 +60,18 @@ seen f acts conn pending started = record {
   untold = [];
   parting = false;
   info = conn.info;
+  address = conn.address;
   renewal = conn.renewal;
   life = conn.life;
+  last = conn.last;
+  told = conn.told;
+  opened = conn.opened;
   requests = conn.requests;
   waiting = conn.waiting;
   admitted = conn.admitted;
   fresh = conn.fresh;
   moved = conn.moved;
+  rounds = conn.rounds;
   letting = [];
   pending = pending;
   started = started;
@@ -72,7 +79,7 @@ seen f acts conn pending started = record {
 
 -- the number of the source that the next act asks for, if it asks for one
 abbrev pub next_source : Core → List LinkAct → ℕ
-next_source f acts = length f.sources + length (sources_of f.single.link (length f.sources) acts)
+next_source f acts = length f.sources + length (sources_of f.single.link acts)
 
 -- the trace up to the last act
 abbrev pub trace_of_acts : List Action → Core → List LinkAct → List Action
@@ -108,25 +115,25 @@ add_is xs (y ∷ ys) = refl
 abbrev pub seen_more : Core → List LinkAct → LinkAct → MultiplexedConnection → List ℕ → List ℕ → Inner
 seen_more f acts a conn pending started =
     let l = f.single.link in
-    record (seen f acts conn pending started) { timers = added (f.timers ++ timers_of f.single.link acts) (timer_of f.single.link a); sources = added (f.sources ++ sources_of l (length f.sources) acts) (source_of l (next_source f acts) a) }
+    record (seen f acts conn pending started) { timers = added (f.timers ++ timers_of f.single.link acts) (timer_of f.single.link a); sources = added (f.sources ++ sources_of l acts) (source_of l a) }
 
 -- it is the session with that act
 seen_is : (f : Core) (acts : List LinkAct) (a : LinkAct) (conn : MultiplexedConnection) (pending started : List ℕ) → seen_more f acts a conn pending started ≡ seen f (acts ++ a ∷ []) conn pending started
 seen_is f acts a conn pending started =
     let l = f.single.link in
     let ts = add_is (f.timers ++ timers_of f.single.link acts) (timer_of f.single.link a) ∙ append_assoc f.timers (timers_of f.single.link acts) (timer_of f.single.link a) ∙ ap (λ ts. f.timers ++ ts) (sym (timers_more l acts a)) in
-    let ss = add_is (f.sources ++ sources_of l (length f.sources) acts) (source_of l (next_source f acts) a) ∙ append_assoc f.sources (sources_of l (length f.sources) acts) (source_of l (next_source f acts) a) ∙ ap (λ ss. f.sources ++ ss) (sym (sources_more l (length f.sources) acts a)) in
+    let ss = add_is (f.sources ++ sources_of l acts) (source_of l a) ∙ append_assoc f.sources (sources_of l acts) (source_of l a) ∙ ap (λ ss. f.sources ++ ss) (sym (sources_more l acts a)) in
     λ i. record (seen f acts conn pending started) { timers = ts i; sources = ss i }
 
 -- a session with what acts have asked for
 abbrev pub asked_by : Core → Inner → List LinkAct → Inner
-asked_by f t acts = record t { timers = f.timers ++ timers_of f.single.link acts; sources = f.sources ++ sources_of f.single.link (length f.sources) acts }
+asked_by f t acts = record t { timers = f.timers ++ timers_of f.single.link acts; sources = f.sources ++ sources_of f.single.link acts }
 
 -- an act that asks for no timer and for no source leaves it
-pub quiet_asks : (f : Core) (t : Inner) (acts : List LinkAct) (a : LinkAct) → timer_of f.single.link a ≡ [] → source_of f.single.link (next_source f acts) a ≡ [] → asked_by f t acts ≡ asked_by f t (acts ++ a ∷ [])
+pub quiet_asks : (f : Core) (t : Inner) (acts : List LinkAct) (a : LinkAct) → timer_of f.single.link a ≡ [] → source_of f.single.link a ≡ [] → asked_by f t acts ≡ asked_by f t (acts ++ a ∷ [])
 quiet_asks f t acts a timers sources =
     let ts = quiet_timers f.single.link acts a timers in
-    let ss = quiet_sources f.single.link (length f.sources) acts a sources in
+    let ss = quiet_sources f.single.link acts a sources in
     sym (λ i. record t { timers = f.timers ++ ts i; sources = f.sources ++ ss i })
 
 -- also where these notices are still to be told, and the end of the link is
@@ -171,6 +178,7 @@ answering before f w pending started h line = record { holds = h; line = line; l
 
 -- a link that is over has ended
 over_life : (l : Ledger) (created : ℕ) (life : Life) → TiedLife l created life → is_over l ≡ true → has_ended life ≡ true
+over_life l created Resting h over = absurd (not_both (is_over l) (ap is_some h.2) over)
 over_life l created Dialing h over = absurd (not_both (is_over l) (ap is_some h.2) over)
 over_life l created (Wanting link) h over = absurd (not_both (is_over l) (ap is_some h.2) over)
 over_life l created (SettingUp link greeting) h over = absurd (not_both (is_over l) (ap is_some h.2) over)
@@ -264,7 +272,6 @@ renewal_tied b t r within wanted waiting tied h = record {
     links = h.numbers.links;
     timers = h.numbers.timers;
     sources = h.numbers.sources;
-    uses = h.numbers.uses;
     aims = h.numbers.aims;
     timed = h.numbers.timed;
     submissions = h.numbers.submissions;
@@ -272,17 +279,26 @@ renewal_tied b t r within wanted waiting tied h = record {
     shut = h.numbers.shut;
     within = h.numbers.within ∙ sym within;
     few = h.numbers.few;
+    unrepeated = h.numbers.unrepeated;
     settings = record { size_is = h.numbers.settings.size_is; bound_is = h.numbers.settings.bound_is; limit_is = h.numbers.settings.limit_is; some = h.numbers.settings.some; limited = h.numbers.settings.limited };
     kind_is = h.numbers.kind_is;
     quiet = λ w. let q = h.numbers.quiet w in record { none = q.none; unwanted = wanted ∙ q.unwanted; unrenewed = waiting ∙ q.unrenewed };
-    one = h.numbers.one;
-    only = h.numbers.only;
+    comes_back = h.numbers.comes_back;
+    lazy = h.numbers.lazy;
+    current_is = h.numbers.current_is;
+    speaks = h.numbers.speaks;
+    address_is = h.numbers.address_is;
+    wants = h.numbers.wants ∙ sym wanted;
+    alone = h.numbers.alone;
   };
-  others = h.others;
+  others = subst (λ o. AreAside t.link t.links b.link t.hears o b.created) (sym within) h.others;
   notices = h.notices;
   life = h.life;
-  creds = record { wanted_is = h.creds.wanted_is ∙ sym wanted; sought = h.creds.sought };
-  count = h.count;
+  course = h.course;
+  calm = h.calm;
+  creds = record { wanted_is = subst (λ (x : Bool). OnLink t.life ((b.link t.link).creds.wanted ≡ x)) (sym wanted) h.creds.wanted_is; sought = h.creds.sought };
+  creation = h.creation;
+  uses = h.uses;
   renewal = tied;
   setup = h.setup;
   link = h.link;
@@ -293,6 +309,8 @@ renewal_tied b t r within wanted waiting tied h = record {
   told = h.told;
   waits = h.waits;
   permits = h.permits;
+  rounds = h.rounds;
+  early = h.early;
   late = h.late;
 }
 

@@ -1,7 +1,7 @@
 -- The waits of a turn are shown, and the turn is settled.
 use Rattle.mux_conn.specs.Turn.{written}
 use Rattle.std.proofs.Common.{Bool, List, None, Option, Some, [], ap, false, inl, inr, length, refl, subst, suc, sym, true, ℕ, ◌++◌, ◌+◌, ◌<◌, ◌∙◌, ◌∷◌, ◌≡◌, ◌≢◌, ◌⊎◌, arith}
-use Rattle.std.specs.Prelude.{if◌then◌else◌, ◌&&◌}
+use Rattle.std.specs.Prelude.{if◌then◌else◌, ◌&&◌, is_some}
 use Rattle.containers.proofs.Choices.{by_test, both_left, both_right, chosen, le_test, left_if, not_both}
 use Rattle.driver_model.specs.declared.action.Action.{Action}
 use Rattle.driver_model.specs.declared.action.WaitKind.{WaitKind}
@@ -12,31 +12,33 @@ use Rattle.link_laws.proofs.Started.{row_open}
 use Rattle.link_laws.specs.Settles.{StandsAs, awaited_ids, wanted}
 use Rattle.mux_conn.specs.Connection.{Work, first_queued, is_ready, in_front}
 use Rattle.mux_conn.specs.Passes.{passed}
-use Rattle.mux_conn.specs.Requests.{is_admitted_at, is_open_at, is_placed_at, is_waiting, is_waiting_at, name_at}
+use Rattle.mux_conn.specs.Requests.{is_admitted_at, is_open_at, is_placed_at, is_waiting_at, name_at, is_unbegun_at}
 use Rattle.mux_conn.specs.Turn.{early_wait, flushed, fresh_each_shown, fresh_wait, is_from, moved_each_shown, moved_wait, wait_shown, waits_shown}
 use Rattle.mux_conn.specs.declared.act.LinkAct.TheVariants as act
 use Rattle.mux_conn.specs.declared.connection.MultiplexedConnection.{MultiplexedConnection}
 use Rattle.redis_error.specs.declared.redis_error.RedisError.{RedisError}
 use Rattle.mux_conn.specs.declared.life.Life.{Life}
-use Rattle.mux_conn.specs.declared.life.Life.TheVariants.{Dialing, Ended, Ready, Wanting, SettingUp}
+use Rattle.mux_conn.specs.declared.life.Life.TheVariants.{Resting, Dialing, Ended, Ready, Wanting, SettingUp}
 use Rattle.shared_session.specs.Turn.{Turning, moved_on, numbered, with_work, work_of}
 use Rattle.shared_session.specs.declared.core_state.Core.{Core}
 use Rattle.legal_trace.specs.Book.{Book, book}
 use Rattle.legal_trace.specs.Ledger.{setup_count}
 use Rattle.legal_trace.specs.Legal.{IsMoved, IsSettled, IsStarted, IsWaiting, IsWritten, NoneEnds, WaitHolds}
 use Rattle.legal_trace.specs.Story.{last_of}
-use Rattle.session_laws.proofs.Ahead.{dialing_step, placed_open, setup_step, waiting_open, admitted_open, creds_step, HasSeats}
-use Rattle.session_laws.proofs.Going.{is_moved}
+use Rattle.session_laws.proofs.Rounded.{rounds_new}
+use Rattle.session_laws.proofs.Ahead.{dialing_step, placed_open, setup_step, waiting_open, admitted_open, creds_step, HasSeats, resting_step}
+use Rattle.session_laws.proofs.Going.{is_moved, StaysPut}
 use Rattle.session_laws.proofs.InLine.{awaited_in, first_is_least, kept_ids, wanted_in}
-use Rattle.session_laws.proofs.Moved.{IsReady, passed_moved}
-use Rattle.session_laws.proofs.Names.{open_within, there_within}
+use Rattle.session_laws.proofs.Moved.{passed_moved, HasMoved}
+use Rattle.session_laws.proofs.Names.{open_within}
 use Rattle.session_laws.proofs.Numbers.{IsIn, Rising, in_left, in_right, rising_in, rising_left, rising_right, requests_in}
-use Rattle.session_laws.proofs.Owes.{IsOpenRequest, lives, none_open, open_request, request_story, row_link, stands_started, wanted_entry}
+use Rattle.session_laws.proofs.Owes.{IsOpenRequest, lives, none_open, open_request, request_story, row_link, stands_started, wanted_entry, open_on}
 use Rattle.session_laws.proofs.Settle.{book_of_more, seen, sound_act, trace_of_acts}
-use Rattle.session_laws.proofs.States.{Between, HasApplied, IsFitIn, IsStill, trace_with}
-use Rattle.session_laws.proofs.Tied.{Inner, Sound, Tied, TiedLife, TiedWaits, has_ended, link_in, owner_of, queue_ids, relined, shown_wait, waiting_ids}
+use Rattle.session_laws.proofs.States.{Between, HasApplied, IsFitIn, IsStill, trace_with, AreBegun, IsStopped, HasEffect}
+use Rattle.session_laws.proofs.Tied.{Inner, Sound, Tied, TiedLife, TiedWaits, has_ended, link_in, owner_of, queue_ids, relined, shown_wait, waiting_ids, IsHeeded}
 use Rattle.session_laws.proofs.Waits.{IsEarly, IsPlacedOrKept, IsQuiet, WaitsSo, admitted_there, admitted_unplaced, awaited_placed, behind_places, down_admits, fresh_waits, located, moved_waits, passed_waits, permit_holds, place_holds, placed_there, room_holds, stale_waits, wait_may, wait_tied, waiting_apart, waiting_is, waiting_there, waits_at, with_unshown}
-use Rattle.session_laws.proofs.Write.{HasWritten, IsOfferedIn, is_written, written_holds}
+use Rattle.session_laws.proofs.Write.{HasWritten, IsOfferedIn, is_written, written_holds, HasReturned, hushed_in, plain_returned}
+use Rattle.session_laws.proofs.Comes.{NoneComes, wait_comes}
 
 -- the bytes of a turn are offered, and its waits are shown but for these: of those that were moved, and of those that came
 -- in it
@@ -47,6 +49,9 @@ pub record IsShowing (before : List Action) (f : Core) (w : Work) (moved fresh s
   pub fit : IsFitIn w.conn
   pub still : IsStill w.conn
   pub offered : IsOfferedIn w.conn.life
+  pub hushed : f.shut ≡ true → IsStopped w.conn.life w.conn.waiting
+  pub put : StaysPut (book (trace_of_acts before f w.acts)) w.conn.life
+  pub heeded : (let b = book (trace_of_acts before f w.acts) in IsHeeded b.rest b.failed w.conn.life f.manager)
 
 -- the session then
 abbrev unshown : Core → Work → List ℕ → List ℕ → List ℕ → Inner
@@ -54,15 +59,19 @@ unshown f w moved fresh started = with_unshown (seen f w.acts w.conn [] started)
 
 -- nothing moves in it
 showing_quiet : (before : List Action) (f : Core) (w : Work) (moved fresh started : List ℕ) → IsShowing before f w moved fresh started → IsQuiet (unshown f w moved fresh started)
-showing_quiet before f w moved fresh started h = record { settled = refl; alone = refl; fit = h.fit.link; setup_fit = h.fit.setup; none = h.fit.none; setup_held = h.still.setup; held = h.still.held; full = h.still.full; seats = h.seats; waiting = h.still.waiting; gone = h.still.none_waits }
+showing_quiet before f w moved fresh started h = record { settled = refl; alone = refl; fit = h.fit.link; setup_fit = h.fit.setup; none = h.fit.none; setup_held = h.still.setup; held = h.still.held; full = h.still.full; seats = h.seats; waiting = h.still.waiting; begun = h.still.begun; gone = h.still.none_waits }
 
 -- and its book has all its writes
 showing_written : (before : List Action) (f : Core) (w : Work) (moved fresh started : List ℕ) → IsShowing before f w moved fresh started → IsWritten (book (trace_of_acts before f w.acts))
 showing_written before f w moved fresh started h =
     let b = book (trace_of_acts before f w.acts) in
     let t = unshown f w moved fresh started in
-    let all : IsMoved b = is_moved b t h.sound.tied refl (refl, refl) refl h.ended h.fit.link h.fit.none h.still.held h.still.full h.still.waiting h.still.none_waits h.fit.setup h.still.setup h.seats h.still.renewed in
+    let all : IsMoved b = is_moved b t h.sound.tied refl (refl, refl) refl h.ended h.fit.link h.fit.none h.still.held h.still.full h.still.waiting h.still.none_waits (λ over. hushed_in w.conn.life w.conn.waiting (h.hushed over)) h.put h.fit.setup h.still.setup h.seats h.still.renewed h.still.begun in
     is_written b t h.sound.tied all h.offered
+
+-- whoever waits for its round came in this turn, since nobody does
+still_new : (w : Work) (newer : List ℕ) → AreBegun w.conn.rounds w.conn.life w.conn.requests → (p : ℕ) → w.conn.rounds ≡ true → is_ready w.conn.life ≡ true → is_unbegun_at w.conn.requests p ≡ true → IsIn p newer
+still_new w newer begun p shows up u = absurd (not_both (is_unbegun_at w.conn.requests p) (begun shows up p) u)
 
 -- other waits are still to be shown
 retied : (before : List Action) (f : Core) (w : Work) (moved fresh started later newer : List ℕ) → ((p : ℕ) → IsIn p later → IsIn p moved) → IsShowing before f w moved fresh started → TiedWaits (book (trace_of_acts before f w.acts)).story w.conn.requests w.conn.life newer later → IsShowing before f w later newer started
@@ -71,11 +80,14 @@ retied before f w moved fresh started later newer fewer h waits =
     let t = unshown f w moved fresh started in
     record {
       seats = λ p i. h.seats p (fewer p i);
-      sound = record { stands = h.sound.stands; tied = relined b t t.waiting t.admitted newer later [] h.sound.tied h.sound.tied.lines waits h.sound.tied.late };
+      sound = record { stands = h.sound.stands; tied = relined b t t.waiting t.admitted newer later [] h.sound.tied h.sound.tied.lines waits (rounds_new b.story w.conn.requests fresh newer (still_new w newer h.still.begun) h.sound.tied.rounds) h.sound.tied.late };
       ended = h.ended;
       fit = h.fit;
       still = h.still;
       offered = h.offered;
+      hushed = h.hushed;
+      put = h.put;
+      heeded = h.heeded;
     }
 
 -- one wait is shown
@@ -91,7 +103,7 @@ one_shown before f w p kind moved fresh started later newer h fewer up o may wai
     let n = name_at w.conn.requests p in
     let a = act.Wait n kind in
     let stands = wait_may b t p kind h.sound.tied (showing_quiet before f w moved fresh started h) up (showing_written before f w moved fresh started h) o may.0 may.1 may.2 may.3 may.4 in
-    let tied = wait_tied b t p kind later newer (open_within w.conn.requests p o) h.sound.tied waits in
+    let tied = wait_tied b t p kind later newer (open_within w.conn.requests p o) h.sound.tied (still_new w newer h.still.begun) waits in
     record {
       seats = λ q i. h.seats q (fewer q i);
       sound = sound_act before f w.acts a (record w.conn { moved = later; fresh = newer }) [] started h.sound.stands (refl, stands) tied;
@@ -99,6 +111,9 @@ one_shown before f w p kind moved fresh started later newer h fewer up o may wai
       fit = h.fit;
       still = h.still;
       offered = h.offered;
+      hushed = h.hushed;
+      put = λ stays. subst NoneComes (sym (book_of_more before f w.acts a)) (wait_comes b n kind (h.put stays));
+      heeded = subst (λ (x : Book). IsHeeded x.rest x.failed w.conn.life f.manager) (sym (book_of_more before f w.acts a)) h.heeded;
     }
 
 -- those that were moved
@@ -213,7 +228,9 @@ moved_each_up before f w (p ∷ ps) fresh started link e h =
 
 -- on a link that isn't up there is none in the queue
 none_from : (life : Life) (p : ℕ) (placed : Bool) → is_ready life ≡ false → (placed && is_from (first_queued life) p) ≡ false
+none_from Resting p true f = refl
 none_from Dialing p true f = refl
+none_from Resting p false f = refl
 none_from Dialing p false f = refl
 none_from (Wanting link) p true f = refl
 none_from (Wanting link) p false f = refl
@@ -224,7 +241,7 @@ none_from (Ended e) p true f = refl
 none_from (Ended e) p false f = refl
 
 -- so nothing is shown where nobody waits for a place
-unmoved : (w : Work) (ps : List ℕ) → is_ready w.conn.life ≡ false → ((p : ℕ) → is_admitted_at w.conn.requests p ≡ false) → moved_each_shown w ps ≡ w
+pub unmoved : (w : Work) (ps : List ℕ) → is_ready w.conn.life ≡ false → ((p : ℕ) → is_admitted_at w.conn.requests p ≡ false) → moved_each_shown w ps ≡ w
 unmoved w [] down none = refl
 unmoved w (p ∷ ps) down none =
     let room = is_placed_at w.conn.requests p && is_from (first_queued w.conn.life) p in
@@ -235,6 +252,7 @@ unmoved w (p ∷ ps) down none =
 down_waits : (b : Book) (t : Inner) → Tied b t → is_ready t.life ≡ false → ((p : ℕ) → is_admitted_at t.requests p ≡ false) → TiedWaits b.story t.requests t.life t.fresh []
 down_waits b t h down none = record {
   early = h.waits.early;
+  backoff = h.waits.backoff;
   connect = h.waits.connect;
   creds = h.waits.creds;
   setup = h.waits.setup;
@@ -243,6 +261,7 @@ down_waits b t h down none = record {
   room = λ p r. absurd (no_queue t.life p down r);
   newer = h.waits.newer;
   rising = omega arith;
+  no_backoff = h.waits.no_backoff;
   no_connect = h.waits.no_connect;
   no_creds = h.waits.no_creds;
   no_setup = h.waits.no_setup;
@@ -253,6 +272,7 @@ down_waits b t h down none = record {
 }
   where
     no_queue : (life : Life) (p : ℕ) → is_ready life ≡ false → IsIn p (awaited_ids (link_in life).queue) → ⊥
+    no_queue Resting p f i = i
     no_queue Dialing p f i = i
     no_queue (Wanting link) p f i = i
     no_queue (SettingUp link greeting) p f i = i
@@ -263,7 +283,7 @@ down_waits b t h down none = record {
 ended_none : (b : Book) (t : Inner) (p : ℕ) (x : RedisError) → Tied b t → IsQuiet t → t.life ≡ Ended x → is_open_at t.requests p ≡ true → ⊥
 ended_none b t p x h q e o =
     let empty : kept_ids t.admitted t.waiting ≡ [] = (λ i. kept_ids (q.none (λ link r. (let no : Ended x ≡ Ready link = sym e ∙ r in cc)) i) (q.gone (ap has_ended e) i)) in
-    none_open b t x (name_at t.requests p) h q.settled e empty ((request_story b t p h (open_within t.requests p o)).open_is ∙ o)
+    none_open b t (Ended x) (name_at t.requests p) refl h q.settled e empty ((request_story b t p h (open_within t.requests p o)).open_is ∙ o)
 
 -- so nobody waits for a place
 ended_admits : (b : Book) (t : Inner) (p : ℕ) (x : RedisError) → Tied b t → IsQuiet t → t.life ≡ Ended x → is_admitted_at t.requests p ≡ false
@@ -272,21 +292,23 @@ ended_admits b t p x h q e = by_test (is_admitted_at t.requests p) _ (λ a. absu
 -- those that came in this turn, or whose connect was answered in it
 --
 -- which wait they show
-early_kind : (t : Inner) → has_ended t.life ≡ false → IsEarly t (early_wait t.life)
-early_kind t up = record {
-  either = by_life t.life up;
+early_kind : (b : Book) (t : Inner) → Tied b t → has_ended t.life ≡ false → IsEarly t (early_wait t.life)
+early_kind b t h up = record {
+  either = by_life t.life refl up;
+  backoff = λ e. ap early_wait e;
   connect = λ e. ap early_wait e;
   creds = λ link e. ap early_wait e;
   setup = λ link u e. ap early_wait e;
   permit = λ link e. ap early_wait e;
 }
   where
-    by_life : (x : Life) → has_ended x ≡ false → (early_wait x ≡ wait.Connect) ⊎ ((early_wait x ≡ wait.Creds) ⊎ ((early_wait x ≡ wait.Setup) ⊎ (early_wait x ≡ wait.Permit)))
-    by_life Dialing f = inl refl
-    by_life (Wanting link) f = inr (inl refl)
-    by_life (SettingUp link greeting) f = inr (inr (inl refl))
-    by_life (Ready link) f = inr (inr (inr refl))
-    by_life (Ended x) f = cc
+    by_life : (x : Life) → t.life ≡ x → has_ended x ≡ false → (early_wait x ≡ wait.Backoff) ⊎ ((early_wait x ≡ wait.Connect) ⊎ ((early_wait x ≡ wait.Creds) ⊎ ((early_wait x ≡ wait.Setup) ⊎ (early_wait x ≡ wait.Permit))))
+    by_life Resting e f = inl refl
+    by_life Dialing e f = inr (inl refl)
+    by_life (Wanting link) e f = inr (inr (inl refl))
+    by_life (SettingUp link greeting) e f = inr (inr (inr (inl refl)))
+    by_life (Ready link) e f = inr (inr (inr (inr refl)))
+    by_life (Ended x) e f = cc
 
 -- its wait is true, and was not shown
 record EarlyHolds (b : Book) (t : Inner) (p : ℕ) (kind : WaitKind) : Type 0 where
@@ -301,12 +323,14 @@ early_holds b t p ps h q is up w = by_life t.life refl
     first = subst (IsIn p) (sym is) (inl refl)
 
     by_life : (x : Life) → t.life ≡ x → EarlyHolds b t p (early_wait t.life)
+    by_life Resting e = subst (λ (x : Life). EarlyHolds b t p (early_wait x)) (sym e)
+        (record { new = λ same. (let no : ◌≡◌ {A = Option WaitKind} None (Some wait.Backoff) = sym (h.waits.no_backoff p first w e) ∙ same in cc); holds = resting_step b t p h e (open_on b t p h (waiting_open t.requests p w)) })
     by_life Dialing e = subst (λ (x : Life). EarlyHolds b t p (early_wait x)) (sym e)
-        (record { new = h.waits.no_connect p first w e; holds = dialing_step b t p h e (there_within is_waiting t.requests p w) })
+        (record { new = h.waits.no_connect p first w e; holds = dialing_step b t p h e (open_on b t p h (waiting_open t.requests p w)) })
     by_life (Wanting link) e = subst (λ (x : Life). EarlyHolds b t p (early_wait x)) (sym e)
-        (record { new = h.waits.no_creds p link first w e; holds = creds_step b t p link h e (there_within is_waiting t.requests p w) })
+        (record { new = h.waits.no_creds p link first w e; holds = creds_step b t p link h e (open_on b t p h (waiting_open t.requests p w)) })
     by_life (SettingUp link greeting) e = subst (λ (x : Life). EarlyHolds b t p (early_wait x)) (sym e)
-        (record { new = h.waits.no_setup p link greeting first w e; holds = setup_step b t p link greeting h e (there_within is_waiting t.requests p w) })
+        (record { new = h.waits.no_setup p link greeting first w e; holds = setup_step b t p link greeting h e (open_on b t p h (waiting_open t.requests p w)) })
     by_life (Ready link) e = subst (λ (x : Life). EarlyHolds b t p (early_wait x)) (sym e)
         (record { new = h.waits.no_permit p link first w e; holds = permit_holds b t p link h q e w (waiting_there b t p h q.settled w) })
     by_life (Ended x) e = absurd (ended_none b t p x h q e (waiting_open t.requests p w))
@@ -316,6 +340,7 @@ waiting_alive : (b : Book) (t : Inner) (p : ℕ) → Tied b t → IsQuiet t → 
 waiting_alive b t p h q w = by_life t.life refl
   where
     by_life : (x : Life) → t.life ≡ x → has_ended t.life ≡ false
+    by_life Resting e = ap has_ended e
     by_life Dialing e = ap has_ended e
     by_life (Wanting link) e = ap has_ended e
     by_life (SettingUp link greeting) e = ap has_ended e
@@ -336,7 +361,7 @@ fresh_shown_one before f w p ps started h =
     let may = early_holds b t p ps h.sound.tied q refl up v in
     one_shown before f w p kind [] (p ∷ ps) started [] ps h (λ m i. i) up o
     (inr (inr (v, waiting_there b t p h.sound.tied refl v)), may.new, may.holds, (λ m l i. i), (λ m l u i. behind_first p ps (length w.conn.requests) m h.sound.tied.waits.newer l i))
-    (fresh_waits b t p kind ps h.sound.tied refl v (early_kind t up)))
+    (fresh_waits b t p kind ps h.sound.tied refl v (early_kind b t h.sound.tied up)))
     (λ n. retied before f w [] (p ∷ ps) started [] ps (λ m i. i) h (stale_waits b t p ps h.sound.tied refl n))
 
 -- and so do all
@@ -373,8 +398,11 @@ showing_unmoved before f w moved fresh started h = record {
   sound = h.sound;
   ended = h.ended;
   fit = record { wanting = h.fit.wanting; setup = h.fit.setup; link = h.fit.link; none = h.fit.none };
-  still = record { setup = h.still.setup; held = h.still.held; full = h.still.full; renewed = h.still.renewed; waiting = h.still.waiting; none_waits = h.still.none_waits };
+  still = record { setup = h.still.setup; held = h.still.held; full = h.still.full; renewed = h.still.renewed; waiting = h.still.waiting; begun = h.still.begun; none_waits = h.still.none_waits };
   offered = h.offered;
+  hushed = h.hushed;
+  put = h.put;
+  heeded = h.heeded;
 }
 
 -- in either way
@@ -384,13 +412,18 @@ showing_unfresh before f w moved fresh started h = record {
   sound = h.sound;
   ended = h.ended;
   fit = record { wanting = h.fit.wanting; setup = h.fit.setup; link = h.fit.link; none = h.fit.none };
-  still = record { setup = h.still.setup; held = h.still.held; full = h.still.full; renewed = h.still.renewed; waiting = h.still.waiting; none_waits = h.still.none_waits };
+  still = record { setup = h.still.setup; held = h.still.held; full = h.still.full; renewed = h.still.renewed; waiting = h.still.waiting; begun = h.still.begun; none_waits = h.still.none_waits };
   offered = h.offered;
+  hushed = h.hushed;
+  put = h.put;
+  heeded = h.heeded;
 }
 
 -- it begins
-showing : (before : List Action) (f : Core) (w : Work) (h : HasWritten before f w) → IsShowing before f (none_moved w) w.conn.moved w.conn.fresh h.moved.started
-showing before f w h = showing_unmoved before f w w.conn.moved w.conn.fresh h.moved.started (record { seats = h.moved.seats; sound = h.moved.holds; ended = h.moved.ended; fit = h.moved.fit; still = h.moved.still; offered = h.offered })
+showing : (before : List Action) (f : Core) (w : Work) (h : HasWritten before f w) → IsShowing before f (none_moved w) w.conn.moved w.conn.fresh h.returned.moved.started
+showing before f w h =
+    let m = h.returned.moved in
+    showing_unmoved before f w w.conn.moved w.conn.fresh m.started (record { seats = m.seats; sound = m.holds; ended = m.ended; fit = m.fit; still = m.still; offered = h.offered; hushed = m.hushed; put = h.returned.put; heeded = h.returned.heeded })
 
 -- where those that were moved are shown, the others are too
 shown_early : (before : List Action) (f : Core) (v : Work) (started : List ℕ) → v.conn.moved ≡ [] → IsShowing before f v [] v.conn.fresh started → HasShown before f (fresh_each_shown (none_fresh v) v.conn.fresh)
@@ -406,7 +439,7 @@ pub waits_hold : (before : List Action) (f : Core) (w : Work) → HasWritten bef
 waits_hold before f w h = by_life w.conn.life refl
   where
     started : List ℕ
-    started = h.moved.started
+    started = h.returned.moved.started
 
     first : IsShowing before f (none_moved w) w.conn.moved w.conn.fresh started
     first = showing before f w h
@@ -429,6 +462,7 @@ waits_hold before f w h = by_life w.conn.life refl
         subst last (sym (unmoved (none_moved w) w.conn.moved off none)) (shown_early before f (none_moved w) started refl settled)
 
     by_life : (life : Life) → w.conn.life ≡ life → HasShown before f (waits_shown w)
+    by_life Resting e = down (ap is_ready e) (λ p. down_admits b t p Resting first.sound.tied quiet refl e)
     by_life Dialing e = down (ap is_ready e) (λ p. down_admits b t p Dialing first.sound.tied quiet refl e)
     by_life (Wanting link) e = down (ap is_ready e) (λ p. down_admits b t p (Wanting link) first.sound.tied quiet refl e)
     by_life (SettingUp link greeting) e = down (ap is_ready e) (λ p. down_admits b t p (SettingUp link greeting) first.sound.tied quiet refl e)
@@ -474,6 +508,7 @@ is_settled b t h q fresh moved written = record {
 }
   where
     by_life : (n : ℕ) (r : IsOpenRequest t n) → IsIn r.number (wanted (link_in t.life).row) → (life : Life) → t.life ≡ life → IsStarted b n ⊎ IsWaiting b n
+    by_life n r i Resting e = absurd (subst (λ (x : Life). IsIn r.number (wanted (link_in x).row)) e i)
     by_life n r i Dialing e = absurd (subst (λ (x : Life). IsIn r.number (wanted (link_in x).row)) e i)
     by_life n r i (Wanting link) e = absurd (subst (λ (x : Life). IsIn r.number (wanted (link_in x).row)) e i)
     by_life n r i (SettingUp link greeting) e = absurd (subst (λ (x : Life). IsIn r.number (wanted (link_in x).row)) e i)
@@ -494,7 +529,7 @@ shown_between before f w began h =
     let t = seen f w.acts w.conn [] h.started in
     let s = h.showing in
     let sound : Sound trace t = subst (λ ns. Sound trace (with_unshown t ns w.conn.fresh)) (sym h.moved) (subst (λ ns. Sound trace (with_unshown t [] ns)) (sym h.fresh) s.sound) in
-    let quiet : IsQuiet t = record { settled = refl; alone = refl; fit = s.fit.link; setup_fit = s.fit.setup; none = s.fit.none; setup_held = s.still.setup; held = s.still.held; full = s.still.full; seats = λ p i. absurd (subst (IsIn p) h.moved i); waiting = s.still.waiting; gone = s.still.none_waits } in
+    let quiet : IsQuiet t = record { settled = refl; alone = refl; fit = s.fit.link; setup_fit = s.fit.setup; none = s.fit.none; setup_held = s.still.setup; held = s.still.held; full = s.still.full; seats = λ p i. absurd (subst (IsIn p) h.moved i); waiting = s.still.waiting; begun = s.still.begun; gone = s.still.none_waits } in
     record {
       started = h.started;
       between = record {
@@ -505,12 +540,20 @@ shown_between before f w began h =
         moved = h.moved;
         fit = s.fit;
         still = s.still;
+        hushed = s.hushed;
+        heeded = s.heeded;
       };
     }
 
--- all is moved, and all is shown
-pub moved_on_between : (before : List Action) (t : Turning) (started : List ℕ) → HasApplied before t started → IsBetween (trace_with before (moved_on t)) (numbered (moved_on t)).core
-moved_on_between before t started h =
-    let w = work_of t in
-    let ready : IsReady before t.core w started = record { holds = h.sound; ended = h.ended; fit = h.fit; moved = h.moved } in
-    shown_between before t.core (flushed (passed w)) h.began (waits_hold before t.core (written (passed w)) (written_holds before t.core (passed w) (passed_moved before t.core w started ready)))
+-- all is moved
+pub applied_moved : (before : List Action) (t : Turning) (started : List ℕ) → HasApplied before t started → HasMoved before t.core (passed (work_of t))
+applied_moved before t started h = passed_moved before t.core (work_of t) started (record { holds = h.sound; ended = h.ended; fit = h.fit; moved = h.moved; hushed = h.hushed })
+
+-- and then all is shown, once nothing more is done of its own
+pub returned_between : (before : List Action) (f : Core) (w : Work) → f.turns ≢ 0 → HasReturned before f w → IsBetween (trace_of_acts before f (flushed w).acts) (numbered (with_work (record { core = f; acts = [] }) (flushed w))).core
+returned_between before f w began h = shown_between before f (flushed w) began (waits_hold before f (written w) (written_holds before f w h))
+
+-- so it is of what doesn't come back
+pub moved_on_between : (before : List Action) (t : Turning) (started : List ℕ) → is_some t.core.manager ≡ false → HasEffect before t started → IsBetween (trace_with before (moved_on t)) (numbered (moved_on t)).core
+moved_on_between before t started plain (inl h) = returned_between before t.core (passed (work_of t)) h.began (plain_returned before t.core (passed (work_of t)) plain (applied_moved before t started h))
+moved_on_between before t started plain (inr h) = absurd (not_both (is_some t.core.manager) plain h.retiring.comes)

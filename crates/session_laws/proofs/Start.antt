@@ -19,12 +19,13 @@ use Rattle.link_laws.specs.Settles.{awaited_ids, wanted}
 use Rattle.link_laws.specs.Starts.{begun, start_from}
 use Rattle.mux_conn.specs.Requests.{is_admitted_at, is_open_at, is_placed_at, is_waiting_at, name_at}
 use Rattle.mux_conn.specs.declared.life.Greeting.{Greeting}
-use Rattle.mux_conn.specs.declared.life.Life.TheVariants.{Dialing, Ready, Wanting, SettingUp}
+use Rattle.mux_conn.specs.declared.life.Life.TheVariants.{Dialing, Ready, Wanting, SettingUp, Resting}
 use Rattle.mux_conn.specs.declared.request.Request.{Request}
 use Rattle.mux_conn.specs.declared.request.Waiting.{Waiting}
 use Rattle.legal_trace.specs.Book.{Book, entered, if_own, message_of}
 use Rattle.legal_trace.specs.Ledger.{Ledger, Start, begins, is_of_setup, noted, setup_count, is_of_renewal}
 use Rattle.legal_trace.specs.Story.{Story, is_told, shape, shape_in, tried}
+use Rattle.session_laws.proofs.Rounded.{SameRounds, rounds_same}
 use Rattle.session_laws.proofs.Ahead.{queue_within, admitted_open, early_open}
 use Rattle.session_laws.proofs.Behind.{nil_told, open_untold, some_more}
 use Rattle.session_laws.proofs.InLine.{awaited_in, first_is_apart, kept_ids}
@@ -37,7 +38,9 @@ use Rattle.legal_trace.proofs.Setups.{count_more}
 use Rattle.session_laws.proofs.SetUp.{set_up_begins, setups_begins}
 use Rattle.mux_conn.specs.Renewals.{renewal_id}
 use Rattle.session_laws.proofs.Renewals.{begins_renewed}
-use Rattle.session_laws.proofs.Tied.{AreQueued, Inner, IsEntry, IsQueued, IsRequest, Tied, TiedLines, TiedTries, TiedWaits, owner_of, owners_each, owners_of, queue_ids, setup_owners, shown_wait, numbers_kept}
+use Rattle.session_laws.proofs.Server.{owners_of, setup_owners}
+use Rattle.session_laws.proofs.Tied.{AreQueued, Inner, IsEntry, IsQueued, IsRequest, Tied, TiedLines, TiedTries, TiedWaits, owner_of, owners_each, queue_ids, shown_wait, numbers_kept}
+use Rattle.session_laws.proofs.Unrepeated.{unrepeated_lined}
 use Rattle.driver_model.specs.Hearing.{is_watching}
 
 -- the action that its start shows
@@ -76,6 +79,10 @@ tried_holds m link k story n =
 -- and whether its time is over
 tried_late : (m link k : ℕ) (story : ℕ → Story) (n : ℕ) → (tried_at m link k story n).overdue ≡ (story n).overdue
 tried_late m link k story n = chosen (λ (x : Story). x.overdue ≡ (story n).overdue) (m == n) (tried (story n) link k) (story n) (λ t. refl) (λ f. refl)
+
+-- and its round
+tried_rounds : (m link k : ℕ) (story : ℕ → Story) → SameRounds story (tried_at m link k story)
+tried_rounds m link k story n = chosen (λ (x : Story). x.rounded ≡ (story n).rounded) (m == n) (tried (story n) link k) (story n) (λ t. refl) (λ f. refl)
 
 -- and each outcome
 tried_outcomes : (m link k : ℕ) (story : ℕ → Story) → SameOutcomes story (tried_at m link k story)
@@ -171,9 +178,9 @@ tries_started l story requests link k started s p other new one owned shaped cou
             subst (λ y. (tried_at n link k story (name_at requests y)).tries ≡ record { link = link; message = setup_count (l.starts ++ s ∷ []) + j } ∷ []) a.1
             (ap (λ (x : Story). x.tries) (taken_if (n == n) (tried (story n) link k) (story n) (eq_test n n refl)) ∙ (λ i. none i ++ record { link = link; message = k } ∷ []) ∙ ap (λ y. record { link = link; message = y } ∷ []) here)
       ];
-      untried = λ m r i out.
-          ap (λ (x : Story). x.tries) (left_if (n == r.name) (tried (story r.name) link k) (story r.name) (ne_test n r.name (λ e. out (in_right m started (p ∷ []) (inl (sym (one m r i (sym e))))))))
-          ∙ h.untried m r i (λ j. out (in_left m started (p ∷ []) j));
+      untried = λ m r i out on.
+          let still = left_if (n == r.name) (tried (story r.name) link k) (story r.name) (ne_test n r.name (λ e. out (in_right m started (p ∷ []) (inl (sym (one m r i (sym e))))))) in
+          ap (λ (x : Story). x.tries) still ∙ h.untried m r i (λ j. out (in_left m started (p ∷ []) j)) (sym (ap (λ (x : Story). x.link) still) ∙ on);
     }
 
 -- the line, and what is shown of waits
@@ -210,6 +217,9 @@ lines_started story requests link waiting admitted started q qs k l other h = re
 }
 
 -- a link that is up is not dialing
+pub not_resting : (link : LinkState) → Ready link ≡ Resting → ⊥
+not_resting link e = cc
+
 pub not_dialing : (link : LinkState) → Ready link ≡ Dialing → ⊥
 not_dialing link e = cc
 
@@ -232,7 +242,8 @@ pub waits_up : (f g : ℕ → Story) (requests : List Request) (link link' : Lin
     → ((p : ℕ) → IsIn p (awaited_ids link'.queue) → IsIn p (awaited_ids link.queue) × (shown_wait g requests p ≡ shown_wait f requests p))
     → TiedWaits f requests (Ready link) fresh moved → TiedWaits g requests (Ready link') fresh moved
 waits_up f g requests link link' fresh moved lost waiting admitted queued h = record {
-  early = λ p w. elim (h.early p w) [ inl k ↦ inl (waiting p w ∙ k) | inr k ↦ inr (elim k [ inl x ↦ inl (waiting p w ∙ x) | inr x ↦ inr (elim x [ inl y ↦ inl (waiting p w ∙ y) | inr y ↦ inr (elim y [ inl z ↦ inl (waiting p w ∙ z) | inr z ↦ inr (waiting p w ∙ z) ]) ]) ]) ];
+  early = λ p w. elim (h.early p w) [ inl k ↦ inl (waiting p w ∙ k) | inr k ↦ inr (elim k [ inl x ↦ inl (waiting p w ∙ x) | inr x ↦ inr (elim x [ inl y ↦ inl (waiting p w ∙ y) | inr y ↦ inr (elim y [ inl z ↦ inl (waiting p w ∙ z) | inr z ↦ inr (elim z [ inl v ↦ inl (waiting p w ∙ v) | inr v ↦ inr (waiting p w ∙ v) ]) ]) ]) ]) ];
+  backoff = λ p w e. absurd (not_resting link' e);
   connect = λ p w e. absurd (not_dialing link' e);
   creds = λ p l w e. absurd (not_wanting link' l e);
   setup = λ p l u w e. absurd (not_setting link' l u e);
@@ -241,6 +252,7 @@ waits_up f g requests link link' fresh moved lost waiting admitted queued h = re
   room = λ p i. let q = queued p i in elim (h.room p q.0) [ inl j ↦ inl j | inr k ↦ inr (q.1 ∙ k) ];
   newer = h.newer;
   rising = h.rising;
+  no_backoff = λ p i w e. absurd (not_resting link' e);
   no_connect = λ p i w e. absurd (not_dialing link' e);
   no_creds = λ p l i w e. absurd (not_wanting link' l e);
   no_setup = λ p l u i w e. absurd (not_setting link' l u e);
@@ -286,15 +298,18 @@ waits_started b t link q qs k l h =
     h.waits
 
 -- who was told and has not started is in the queue still
-told_started : (b : Book) (t : Inner) (link : LinkState) (q : Queued) (qs : List Queued) (k l : ℕ) → AreQueued b.story t.requests (with_queue link (q ∷ qs))
-    → AreQueued (tried_at (name_at t.requests q.id) k l b.story) t.requests (with_queue (begun link q) qs)
-told_started b t link q qs k l h n =
+told_started : (b : Book) (t : Inner) (link : LinkState) (q : Queued) (qs : List Queued) (k l : ℕ) → AreQueued b.story t.requests t.link (with_queue link (q ∷ qs))
+    → AreQueued (tried_at (name_at t.requests q.id) k l b.story) t.requests t.link (with_queue (begun link q) qs)
+told_started b t link q qs k l h =
     let m = name_at t.requests q.id in
-    chosen (λ (x : Story). is_told x ≡ true → x.tries ≡ [] → (p : ℕ) × (p < length t.requests) × (name_at t.requests p ≡ n) × IsIn p (queue_ids qs)) (m == n) (tried (b.story n) k l) (b.story n)
-    (λ e told none. absurd (some_more (b.story n).tries _ none))
-    (λ f told none.
-    let i = h n told none in
-    (i.0, i.1, i.2, elim i.3 [ inl same ↦ absurd (ne_from m n f (ap (name_at t.requests) same ∙ i.2)) | inr j ↦ j ]))
+    record {
+      told = λ n. chosen (λ (x : Story). is_told x ≡ true → x.tries ≡ [] → x.link ≡ t.link → (p : ℕ) × (p < length t.requests) × (name_at t.requests p ≡ n) × IsIn p (queue_ids qs)) (m == n) (tried (b.story n) k l) (b.story n)
+          (λ e told none on. absurd (some_more (b.story n).tries _ none))
+          (λ f told none on.
+          let i = h.told n told none on in
+          (i.0, i.1, i.2, elim i.3 [ inl same ↦ absurd (ne_from m n f (ap (name_at t.requests) same ∙ i.2)) | inr j ↦ j ]));
+      here = λ p i. (tried_holds m k l b.story (name_at t.requests p)).link ∙ h.here p (inr i);
+    }
 
 -- a request is one still
 tried_request : (s : Story) (requests : List Request) (link p k l : ℕ) → IsRequest s requests link p → IsRequest (tried s k l) requests link p
@@ -324,12 +339,15 @@ start_tied b t link q qs h =
     tied_by (entered b (start_action t link q)) (after_start t link q qs) (noted l (begins s))
     (mine_noted l t.link (begins (message_of b t.link (owner.Try n 0))) ∙ ap (λ x. noted l (begins x)) (same_start b t.link t.requests q other is))
     (record {
-      numbers = numbers_kept b _ _ was _ _ _ _ _ _ _ _ _ _ h.numbers;
+      numbers = numbers_kept b _ _ _ _ was _ _ _ _ _ _ _ _ _ _ (unrepeated_lined b.link t.link (begins (message_of b t.link (owner.Try n 0))) refl h.numbers.unrepeated) h.numbers;
       others = others_kept b t.link (begins (message_of b t.link (owner.Try n 0))) h.others;
       notices = h.notices;
       life = h.life;
+      course = h.course;
+      calm = h.calm;
       creds = record { wanted_is = h.creds.wanted_is; sought = h.creds.sought };
-      count = h.count;
+      creation = h.creation;
+      uses = h.uses;
       renewal = begins_renewed l t.renewal s (ap is_of_renewal try_is) h.renewal;
       setup = record { info_is = h.setup.info_is; sent = setups_begins l s (ap is_of_setup try_is) h.setup.sent; said = set_up_begins l s (ap is_of_setup try_is) h.setup.said };
       link = λ e. queue_tied name (noted l (begins s)) (begun (with_queue link (q ∷ qs)) q) qs (begun_tied name l (with_queue link (q ∷ qs)) q (queued_some b was q h within is) up);
@@ -339,10 +357,12 @@ start_tied b t link q qs h =
           (λ m inside i e. new (subst (λ x. IsIn x t.started) (same_name t.table t.requests m q.id h.names inside within e) i))
           (λ m r i e. same_name t.table t.requests m q.id h.names (get_within t.requests m r i) within (name_of_some t.requests m r i ∙ e))
           refl is.is_of.shape_is up.started
-          (ap (λ x. (b.story x).tries) (name_of_some t.requests q.id g.0 g.1) ∙ h.tries.untried q.id g.0 g.1 new) (asked_unwatched b was q.id h within) h.tries;
+          (ap (λ x. (b.story x).tries) (name_of_some t.requests q.id g.0 g.1) ∙ h.tries.untried q.id g.0 g.1 new (sym (ap (λ x. (b.story x).link) (name_of_some t.requests q.id g.0 g.1)) ∙ (h.told refl).here q.id (inl refl))) (asked_unwatched b was q.id h within) h.tries;
       lines = lines_started b.story t.requests link t.waiting t.admitted t.started q qs t.link link.started other h.lines;
       told = λ e. told_started b t link q qs t.link link.started (h.told refl);
       waits = waits_started b t link q qs t.link link.started h;
       permits = permits_same b.story (tried_at n t.link link.started b.story) b.submissions t.requests t.link t.limit t.free t.letting (tried_holds n t.link link.started b.story) h.permits;
+      rounds = rounds_same b.story (tried_at n t.link link.started b.story) t.requests t.fresh (tried_rounds n t.link link.started b.story) h.rounds;
+      early = h.early;
       late = λ p o e. h.late p o (sym (tried_late n t.link link.started b.story (name_at t.requests p)) ∙ e);
     })

@@ -1,5 +1,5 @@
 -- Messages start as far as they can.
-use Rattle.std.proofs.Common.{List, None, [], ap, append_assoc, arith, false, inl, inr, length, refl, subst, sym, true, ℕ, ◌+◌, ◌++◌, ◌∙◌, ◌∷◌, ◌≡◌, ◌⊎◌}
+use Rattle.std.proofs.Common.{List, None, [], ap, append_assoc, arith, false, inl, inr, length, refl, subst, sym, true, ℕ, ◌++◌, ◌∙◌, ◌∷◌, ◌≡◌, ◌⊎◌}
 use Rattle.std.proofs.lemmas.List.{append-nil}
 use Rattle.containers.proofs.Choices.{chosen, not_both}
 use Rattle.driver_model.specs.Shape.{need_of}
@@ -22,15 +22,15 @@ use Rattle.legal_trace.specs.Book.{Book, book, message_of}
 use Rattle.legal_trace.specs.Ledger.{Ledger, Start, begins, ending, is_of_setup, noted}
 use Rattle.legal_trace.specs.Legal.{MayStart, NoneEnds}
 use Rattle.legal_trace.specs.Steps.{starts_or_waits}
-use Rattle.session_laws.proofs.Ahead.{HasSeats, IsRunning, queue_step, queue_unstarted, queue_within}
+use Rattle.session_laws.proofs.Ahead.{HasSeats, IsRunning, queue_step, queue_unstarted}
 use Rattle.session_laws.proofs.Entered.{shown_more, sources_of-append, timers_of-append}
 use Rattle.session_laws.proofs.Going.{HasRenewed, IsGoing, begun_up, first_in_queue, going_more, none_ends_mine}
-use Rattle.session_laws.proofs.Owes.{request_story}
 use Rattle.legal_trace.proofs.Setups.{ends_where_set}
 use Rattle.session_laws.proofs.SetUp.{ending_up_same, set_up_begins}
 use Rattle.session_laws.proofs.Start.{after_start, on_link, start_action, start_tied, with_queue}
 use Rattle.session_laws.proofs.States.{IsFit}
-use Rattle.session_laws.proofs.Tied.{Inner, IsSetUp, Tied, queue_ids}
+use Rattle.session_laws.proofs.Server.{IsSetUp}
+use Rattle.session_laws.proofs.Tied.{Inner, Tied, queue_ids}
 
 -- a session on a link that is up, with this queue
 pub running_on : (t : Inner) (link : LinkState) (qs : List Queued) → IsFit t.size t.bound (with_queue link qs) → HasSeats t.moved (in_front t.renewal) (with_queue link qs) t.size → IsRunning (on_link t (with_queue link qs))
@@ -43,13 +43,12 @@ start_may b t link q qs fit seats free h ended renewed =
     let was = on_link t (with_queue link (q ∷ qs)) in
     let is = h.lines.queued.0 in
     let running = running_on t link (q ∷ qs) fit seats in
-    let r = request_story b was q.id h (queue_within b was q.id h (inl refl)) in
     record {
       begun = begun_up b was h running (refl, refl) ended renewed;
       unstarted = queue_unstarted b was q.id h (inl refl);
       starts = queue_step b was q.id h running (inl refl) ∙ ap starts_or_waits free;
       in_order = first_in_queue b was q.id (queue_ids qs) h running refl;
-      on_its_link = sym r.on;
+      on_its_link = sym ((h.told refl).here q.id (inl refl));
       next = (h.link refl).started;
       needs_its_items = ap need_of is.is_of.shape_is;
       long_as_its_bytes = ap length is.is_of.packs;
@@ -110,12 +109,12 @@ shows_timers l acts requests ss = timers_of-append l acts (shows requests ss) �
     none (s ∷ ss) = none ss
 
 -- nor for a source of credentials
-pub shows_sources : (l n : ℕ) (acts : List LinkAct) (requests : List Request) (ss : List Started) → sources_of l n (acts ++ shows requests ss) ≡ sources_of l n acts
-shows_sources l n acts requests ss = sources_of-append l n acts (shows requests ss) ∙ ap (λ us. sources_of l n acts ++ us) (none (n + length (sources_of l n acts)) ss) ∙ append-nil (sources_of l n acts)
+pub shows_sources : (l : ℕ) (acts : List LinkAct) (requests : List Request) (ss : List Started) → sources_of l (acts ++ shows requests ss) ≡ sources_of l acts
+shows_sources l acts requests ss = sources_of-append l acts (shows requests ss) ∙ ap (λ us. sources_of l acts ++ us) (none ss) ∙ append-nil (sources_of l acts)
   where
-    none : (m : ℕ) (ss : List Started) → sources_of l m (shows requests ss) ≡ []
-    none m [] = refl
-    none m (s ∷ ss) = none (m + 0) ss
+    none : (ss : List Started) → sources_of l (shows requests ss) ≡ []
+    none [] = refl
+    none (s ∷ ss) = none ss
 
 -- what is in a queue starts as long as nothing holds it back
 pub each_going : (before : List Action) (n c : ℕ) (acts : List LinkAct) (t : Inner) (s : Starting) (qs : List Queued) → IsFit t.size t.bound (with_queue s.link qs) → HasSeats t.moved (in_front t.renewal) (with_queue s.link qs) t.size

@@ -1,8 +1,9 @@
 -- A submission is handed in: it is answered at once, or it is the next request.
 use Rattle.std.proofs.lemmas.List.{append-nil}
+use Rattle.std.specs.Prelude.{max}
 use Rattle.std.proofs.Common.{slice_get, ◌≤◌, ◌≡◌, ◌≢◌, ◌⊎◌, inl, inr, ℕ, ◌+◌, ◌<◌, ◌==◌, Bool, true, false, ◌||◌, ◌&&◌, not, List, [], ◌∷◌, ◌++◌, length, Option, Some, None, if◌then◌else◌, refl, sym, ap, ◌∙◌, subst, arith, length-append, ◌^◌}
 use Rattle.containers.proofs.Places.{get_within}
-use Rattle.containers.proofs.Choices.{by_test, taken_if, left_if, eq_from, eq_test, ne_from, ne_test, not_both}
+use Rattle.containers.proofs.Choices.{by_test, taken_if, left_if, eq_from, eq_test, ne_from, ne_test, not_both, or_left}
 use Rattle.redis_error.specs.declared.fault_kind.FaultKind.TheVariants as kinds
 use Rattle.redis_error.specs.declared.redis_error.RedisError.{RedisError}
 use Rattle.redis_error.specs.declared.redis_error.RedisError.TheVariants as error
@@ -14,30 +15,33 @@ use Rattle.driver_model.specs.News.{silence}
 use Rattle.driver_model.specs.Request.{packed_bytes, has_no_form}
 use Rattle.link_laws.proofs.TiedLink.{told_tied}
 use Rattle.mux_conn.specs.declared.request.Request.{Request}
-use Rattle.mux_conn.specs.Requests.{is_open as is_open_progress, is_waiting, is_admitted, is_placed, if_there}
+use Rattle.mux_conn.specs.Requests.{is_open as is_open_progress, is_waiting, is_admitted, is_placed, if_there, is_unbegun}
 use Rattle.mux_conn.specs.declared.request.Progress.{Progress}
 use Rattle.shared_session.specs.declared.core_state.Core.{Core}
 use Rattle.legal_trace.specs.Ledger.{is_over, next_notice}
 use Rattle.legal_trace.specs.Story.{Story, Try, blank_story, is_open, is_no_error, is_told, is_awaited, bytes_of, handed_in, answered, last_of}
-use Rattle.legal_trace.specs.Book.{Book, entered, if_own, current, is_unspoken, kind_in}
-use Rattle.legal_trace.specs.Owed.{owed, owed_to_try}
+use Rattle.legal_trace.specs.Book.{Book, entered, if_own, is_unspoken, kind_in}
+use Rattle.legal_trace.specs.Owed.{owed, owed_to_try, owed_waiting}
 use Rattle.legal_trace.specs.Legal.{IsOpen, link_of, NoneIsOwed, NoneEnds, MayAnswer, FailuresAreShown}
+use Rattle.session_laws.proofs.Rounded.{rounds_longer}
+use Rattle.session_laws.proofs.Aside.{aside_silent}
 use Rattle.session_laws.proofs.Renewals.{renewal_alike}
 use Rattle.session_laws.proofs.Numbers.{IsIn, in_left, in_right, Rising, rising_in, requests_in, request_in}
-use Rattle.session_laws.proofs.Tied.{carried, inner, link_in, queue_ids, waiting_ids, whole_link, IsRefused, TiedStory, Tied, no_opening}
+use Rattle.session_laws.proofs.Tied.{carried, inner, link_in, queue_ids, waiting_ids, whole_link, IsRefused, TiedStory, Tied, AreCalm}
 use Rattle.session_laws.proofs.Names.{there_within, names_refused, submits_unwatched}
 use Rattle.session_laws.proofs.Owes.{started_within, ends_told, notices_told}
 use Rattle.session_laws.proofs.Answer.{owed_in, no_push}
 use Rattle.session_laws.proofs.Settle.{seen}
-use Rattle.session_laws.proofs.Announce.{aims_longer, aims_on, turn_of, turned, uses_on, counted_on, time_still}
+use Rattle.session_laws.proofs.Announce.{aims_longer, aims_on, turn_of, turned, uses_on, uses_on, time_still, still_unrepeated}
 use Rattle.session_laws.proofs.Heard.{told_life, silent_no_end}
 use Rattle.session_laws.proofs.Said.{setup_on, sources_asked, IsTame, renoticed}
 use Rattle.session_laws.proofs.Further.{get_beyond, no_longer, SameBefore, further_story, tries_longer, queue_longer, packs_longer, told_longer, IsNext, waits_longer, permits_longer, late_longer}
 use Rattle.session_laws.proofs.InLine.{kept_ids, awaited_in}
+use Rattle.session_laws.proofs.Comes.{course_later}
 
 -- the stories once it is handed in
 abbrev pub stories_with : Book → Submission → ℕ → Story
-stories_with b what n = if_own (b.submissions == n) (handed_in (b.story n) what b.shut (is_unspoken b what) (current b) b.timeout) (b.story n)
+stories_with b what n = if_own (b.submissions == n) (handed_in (b.story n) what b.shut (is_unspoken b what) (max 1 b.generation) b.current b.timeout) (b.story n)
 
 -- any other story stays
 stories_before : (b : Book) (what : Submission) (n : ℕ) → n ≢ b.submissions → stories_with b what n ≡ b.story n
@@ -45,7 +49,7 @@ stories_before b what n other = left_if (b.submissions == n) _ (b.story n) (ne_t
 
 -- its own
 abbrev pub new_story : Book → Submission → Story
-new_story b what = handed_in blank_story what b.shut (is_unspoken b what) (current b) b.timeout
+new_story b what = handed_in blank_story what b.shut (is_unspoken b what) (max 1 b.generation) b.current b.timeout
 
 -- the next submission has no story before
 next_is_blank : (b : Book) (c : Core) (started : List ℕ) → Tied b (inner c started) → b.story (length c.table) ≡ blank_story
@@ -55,7 +59,7 @@ next_is_blank b c started h = subst (TiedStory (b.story (length c.table)) c.sing
 pub story_is_new : (b : Book) (c : Core) (started : List ℕ) (what : Submission) → Tied b (inner c started) → stories_with b what (length c.table) ≡ new_story b what
 story_is_new b c started what h =
     taken_if (b.submissions == length c.table) _ (b.story (length c.table)) (eq_test b.submissions (length c.table) h.numbers.submissions)
-    ∙ ap (λ (s : Story). handed_in s what b.shut (is_unspoken b what) (current b) b.timeout) (next_is_blank b c started h)
+    ∙ ap (λ (s : Story). handed_in s what b.shut (is_unspoken b what) (max 1 b.generation) b.current b.timeout) (next_is_blank b c started h)
 
 -- the others, by the table
 pub others_before : (b : Book) (c : Core) (started : List ℕ) (what : Submission) → Tied b (inner c started) → SameBefore b.story (stories_with b what) (length c.table)
@@ -67,12 +71,17 @@ within_line requests started queue last p r i = let k = rising_in 0 (started ++ 
 
 -- it is answered at once
 --
+-- nothing more is shut
+pub or_none : (a : Bool) → (a || false) ≡ a
+or_none true = refl
+or_none false = refl
+
 -- what the others are owed stays
 others_owed : (b : Book) (c : Core) (word : ℕ) (what : Submission) (m : ℕ) → m ≢ b.submissions → owed (entered b (turn_of c word (event.Submit what))) m ≡ owed b m
 others_owed b c word what m other = ap (owed_in (entered b (turn_of c word (event.Submit what)))) (stories_before b what m other) ∙ same (b.story m)
   where
     by_try : (s : Story) (x : Option Try) → owed_to_try (entered b (turn_of c word (event.Submit what))) s x ≡ owed_to_try b s x
-    by_try s None = refl
+    by_try s None = ap (λ x. owed_waiting x (b.link s.link)) (or_none b.shut)
     by_try s (Some t) = refl
 
     same : (s : Story) → owed_in (entered b (turn_of c word (event.Submit what))) s ≡ owed_in b s
@@ -89,6 +98,12 @@ IsErrorOf late unspoken what e =
     ((late ≡ true) × (e ≡ error.Closed))
     ⊎ (((late ≡ false) × (unspoken ≡ true) × (e ≡ error.Resp3Required))
     ⊎ ((late ≡ false) × (unspoken ≡ false) × ((length (packed_bytes what) == 0) ≡ true) × (e ≡ error.EmptyCommand)))
+
+-- where nothing was shut down, it is no cause for the next generation
+error_calm : (late unspoken : Bool) (what : Submission) (e : RedisError) → late ≡ false → IsErrorOf late unspoken what e → AreCalm (e ∷ [])
+error_calm late unspoken what e awake (inl h) = absurd (not_both late awake h.0)
+error_calm late unspoken what e awake (inr (inl h)) = subst (λ (x : RedisError). AreCalm (x ∷ [])) (sym h.2) refl
+error_calm late unspoken what e awake (inr (inr h)) = subst (λ (x : RedisError). AreCalm (x ∷ [])) (sym h.3) refl
 
 -- what it is owed then
 new_owed : (b now : Book) (what : Submission) (e : RedisError) → IsErrorOf b.shut (is_unspoken b what) what e → owed_in now (new_story b what) ≡ Some (outcome.Fault e)
@@ -148,9 +163,9 @@ abbrev pub core_refused : Core → Submission → Core
 core_refused c what = record (turned c (event.Submit what)) { table = c.table ++ None ∷ [] }
 
 -- the session is tied with it
-pub refused_tied : (b : Book) (c : Core) (started : List ℕ) (word : ℕ) (what : Submission) (e : RedisError) → Tied b (inner c started) → IsTame (b.link c.single.link) → has_no_form c.kind what ≡ false → length c.table < 2 ^ 32 → c.single.connection.fresh ≡ []
+pub refused_tied : (b : Book) (c : Core) (started : List ℕ) (word : ℕ) (what : Submission) (e : RedisError) → Tied b (inner c started) → IsTame (b.link c.single.link) → has_no_form c.kind what ≡ false → length c.table < 2 ^ 32 → c.single.connection.fresh ≡ [] → IsErrorOf b.shut (is_unspoken b what) what e
     → Tied (entered (entered b (turn_of c word (event.Submit what))) (action.Outcome (length c.table) (outcome.Fault e))) (seen (core_refused c what) [] c.single.connection [] started)
-refused_tied b c started word what e h tame form few no_fresh =
+refused_tied b c started word what e h tame form few no_fresh why =
     let conn = c.single.connection in
     let ledger = b.link c.single.link in
     let after = stories_refused b (length c.table) what e in
@@ -169,6 +184,8 @@ refused_tied b c started word what e h tame form few no_fresh =
       none = λ p e past. elim e [ inl a ↦ past_all is_admitted p a past | inr a ↦ past_all is_placed p a past ];
       free = λ p w past. absurd (past_all is_waiting p w past);
       early = λ p o past. absurd (past_all is_open_progress p o past);
+      unbegun = λ p u past. absurd (past_all is_unbegun p u past);
+      begun = λ p o u past. past_all is_open_progress p o past;
     } in
     record {
       numbers = record {
@@ -176,25 +193,33 @@ refused_tied b c started word what e h tame form few no_fresh =
         links = h.numbers.links;
         timers = h.numbers.timers ∙ sym (append-nil c.timers);
         sources = h.numbers.sources ∙ sym (append-nil c.sources);
-        uses = uses_on c.sources c.single.link h.numbers.uses;
         aims = aims_on c.timers c.single.link (length (c.table ++ None ∷ [])) (aims_longer c.timers c.single.link (length c.table) (length (c.table ++ None ∷ [])) (omega (arith, length-append c.table (None ∷ []))) h.numbers.aims);
-        timed = λ config other opens bounded none. no_opening _ config other opens;
+        timed = h.numbers.timed;
         submissions = (let k = h.numbers.submissions in omega (arith, length-append c.table (None ∷ [])));
         timeout = time_still (kind_in b.config) b.timeout (event.Submit what) tt ∙ h.numbers.timeout;
         shut = ap (λ s. s || false) h.numbers.shut;
         within = h.numbers.within;
         few = omega (arith, few, length-append c.table (None ∷ []));
+        unrepeated = still_unrepeated b c started (event.Submit what) h;
         settings = record { size_is = h.numbers.settings.size_is; bound_is = h.numbers.settings.bound_is; limit_is = h.numbers.settings.limit_is; some = h.numbers.settings.some; limited = h.numbers.settings.limited };
         kind_is = h.numbers.kind_is;
         quiet = λ w. absurd (submits_unwatched b (inner c started) what h form w);
-        one = h.numbers.one;
-        only = h.numbers.only;
+        comes_back = h.numbers.comes_back;
+        lazy = h.numbers.lazy;
+        current_is = h.numbers.current_is;
+        speaks = h.numbers.speaks;
+        address_is = h.numbers.address_is;
+        wants = h.numbers.wants;
+        alone = h.numbers.alone;
       };
-      others = λ m other. let u = h.others m other in record { asked = u.asked; up = u.up; end = u.end; starts = u.starts; notices = u.notices };
+      others = λ m other. aside_silent (b.link m) c.turns (h.others m other);
       notices = renoticed tame h.notices;
       life = told_life ledger b.created conn.life silence h.life;
+      course = course_later conn.life ledger.last ledger.end c.links c.single.link c.shut (c.shut || false) c.manager conn.last conn.opened conn.info conn.address (or_left c.shut false) h.course;
+      calm = λ up awake. error_calm b.shut (is_unspoken b what) what e (h.numbers.shut ∙ or_left c.shut false awake) why;
       creds = h.creds;
-      count = counted_on c.sources ledger.creds h.count;
+      creation = h.creation;
+      uses = uses_on c.sources c.single.link h.uses;
       renewal = renewal_alike ledger (record ledger { heard = silence }) conn.renewal conn.life refl refl refl h.renewal;
       setup = setup_on ledger ledger.asked ledger.up ledger.end ledger.taken ledger.offer ledger.rest silence conn.info started conn.life h.setup;
       link = λ alive. told_tied (carried conn.life conn.requests) ledger (whole_link conn.life) ledger.asked ledger.up silence (h.link alive);
@@ -214,11 +239,14 @@ refused_tied b c started word what e h tame form few no_fresh =
             (λ p i. at p (in_right p (requests_in started) (queue ++ last) (in_right p queue last (in_left p (waiting_ids conn.admitted) (waiting_ids conn.waiting) i)))) h.lines.packed_in;
         there = h.lines.there;
       };
-      told = λ up. told_longer c.table b.story after conn.requests conn.requests (link_in conn.life) same longer
-          (λ u. not_both (is_told (answered (new_story b what) (outcome.Fault e))) (fault_untold (is_awaited (new_story b what)) e) (ap is_told (sym is) ∙ u.0)) (h.told up);
+      told = λ up. told_longer c.table b.story after conn.requests conn.requests c.single.link (link_in conn.life) h.names same longer
+          (λ u. not_both (is_told (answered (new_story b what) (outcome.Fault e))) (fault_untold (is_awaited (new_story b what)) e) (ap is_told (sym is) ∙ u.0))
+          (λ p i. at p (in_right p (requests_in started) (queue ++ last) (in_left p queue last i))) (h.told up);
       waits = waits_longer c.table b.story after conn.requests conn.requests conn.life conn.fresh conn.fresh conn.moved h.names same longer
           (λ p i. at p (in_right p (requests_in started) (queue ++ last) (in_left p queue last (awaited_in p (link_in conn.life).queue i)))) no_fresh
           next h.waits;
       permits = permits_longer c.table b.story after b.submissions conn.requests conn.requests c.single.link conn.limit conn.free conn.fresh h.names same longer h.numbers.submissions (ap (λ (s : Story). s.permits) is) next h.permits;
+      rounds = rounds_longer c.table b.story after conn.requests conn.requests conn.fresh conn.fresh h.names same longer no_fresh next h.rounds;
+      early = h.early;
       late = late_longer c.table b.story after conn.requests conn.requests conn.fresh h.names same longer next h.late;
     }

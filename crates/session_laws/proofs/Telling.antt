@@ -28,15 +28,15 @@ use Rattle.driver_model.specs.declared.action.Action.TheVariants as action
 use Rattle.driver_model.specs.declared.outcome.Outcome.TheVariants as outcome
 use Rattle.legal_trace.specs.Ledger.{Ledger, Heard, Line, is_full, is_full_by, noted, noted_each, parts, reached, tells}
 use Rattle.legal_trace.specs.Story.{Story, Try, bytes_of, last_of, shape}
-use Rattle.legal_trace.specs.Book.{Book, book, entered, if_mine, current, push_line, blank_book}
-use Rattle.legal_trace.specs.Owed.{owed, owed_to_message, owed_to_try, owed_unstarted}
+use Rattle.legal_trace.specs.Book.{Book, book, entered, if_mine, push_line, blank_book}
+use Rattle.legal_trace.specs.Owed.{owed, owed_to_message, owed_to_try, owed_waiting}
 use Rattle.legal_trace.specs.Legal.{AllStand, IsBefore, IsOpen, MayNotify, MayPushBy, MayStand}
 use Rattle.session_laws.proofs.Numbers.{IsIn, Rising, in_either, in_left, in_right, requests_in, request_of}
 use Rattle.session_laws.proofs.Tied.{Inner, Tied, has_ended, link_in, owner_of, queue_ids, Sound}
 use Rattle.session_laws.proofs.Said.{ready_shown, sources_asked, readied}
 use Rattle.session_laws.proofs.Names.{length_with, name_with, open_within, with_then}
 use Rattle.session_laws.proofs.InLine.{IsInLine, awaited_in, kept_ids, kept_in, line_of, wanted_in}
-use Rattle.session_laws.proofs.Owes.{lives, open_request, row_link, stands_started, wanted_entry}
+use Rattle.session_laws.proofs.Owes.{lives, open_request, row_link, stands_started, wanted_entry, open_on}
 use Rattle.session_laws.proofs.Ahead.{later_untried}
 use Rattle.session_laws.proofs.Answer.{answer_tied, owed_still, skip_tied}
 use Rattle.session_laws.proofs.Told.{current_is, lined, notice_action, notice_tied, retells}
@@ -121,14 +121,14 @@ none_was b t push h alive within pending m asked before =
         | inl j ↦ let d = pending p j l in not_both (is_full_by (b.link t.link) push.after d.number) d.late (before_full b t p d.number d.of_shape push h l d.stands was)
         | inr j ↦ elim (in_either p (requests_in (wanted (link_in t.life).row)) (awaited_ids (link_in t.life).queue) j) [
           | inl r ↦ in_row p l was (request_of p (wanted (link_in t.life).row) r)
-          | inr w ↦ unstarted p l was (in_left p (queue_ids (link_in t.life).queue) (kept_ids t.admitted t.waiting) (awaited_in p (link_in t.life).queue w))
+          | inr w ↦ unstarted p q.open_at was (in_left p (queue_ids (link_in t.life).queue) (kept_ids t.admitted t.waiting) (awaited_in p (link_in t.life).queue w))
         ]
       ]
-      | inr w ↦ unstarted p l was (in_right p (queue_ids (link_in t.life).queue) (kept_ids t.admitted t.waiting) (kept_in t.requests t.waiting t.admitted p w))
+      | inr w ↦ unstarted p q.open_at was (in_right p (queue_ids (link_in t.life).queue) (kept_ids t.admitted t.waiting) (kept_in t.requests t.waiting t.admitted p w))
     ]
   where
-    unstarted : (p : ℕ) → p < length t.requests → IsBefore b (name_at t.requests p) push → IsIn p (queue_ids (link_in t.life).queue ++ kept_ids t.admitted t.waiting) → ⊥
-    unstarted p l was i = none_started b p push (name_at t.requests p) (later_untried b t p h l i) was
+    unstarted : (p : ℕ) → is_open_at t.requests p ≡ true → IsBefore b (name_at t.requests p) push → IsIn p (queue_ids (link_in t.life).queue ++ kept_ids t.admitted t.waiting) → ⊥
+    unstarted p o was i = none_started b p push (name_at t.requests p) (later_untried b t p h (open_within t.requests p o) (open_on b t p h o) i) was
 
     in_row : (p : ℕ) → p < length t.requests → IsBefore b (name_at t.requests p) push → IsIn p (wanted (link_in t.life).row) → ⊥
     in_row p l was i =
@@ -208,7 +208,7 @@ notice_book : (before : List Action) (f : Core) (acts : List LinkAct) (n : Notic
 notice_book before f acts n = book_of_more before f acts (notice_act n) ∙ ap (entered (book (trace_of_acts before f acts))) (shown_notice f acts n)
 
 -- in which it is told
-notice_link : (b : Book) (l : ℕ) (n : Notice) → IsNoEnd n → current b ≡ l → (entered b (notice_action l n)).link l ≡ retells (b.link l) ((b.link l).told + 1) (b.link l).parted
+notice_link : (b : Book) (l : ℕ) (n : Notice) → IsNoEnd n → b.current ≡ l → (entered b (notice_action l n)).link l ≡ retells (b.link l) ((b.link l).told + 1) (b.link l).parted
 notice_link b l (notice.Push info) come here = mine_noted (b.link l) l (push_line info.kind) ∙ ap (noted (b.link l)) (left_if (is_disconnection info.kind) parts tells come)
 notice_link b l (notice.Message m) come here = ap (λ k. noted_each (b.link l) (if_mine (k == l) tells)) here ∙ mine_noted (b.link l) l tells
 notice_link b l (notice.Monitor v) come here = ap (λ k. noted_each (b.link l) (if_mine (k == l) tells)) here ∙ mine_noted (b.link l) l tells
@@ -223,14 +223,14 @@ notify_may b t n h rest tied untold hears alive says within pending =
       heard = h;
       next = following.next;
       says = says;
-      in_order = λ m less. ap (λ (hs : List Heard). slice_get hs (b.link m).told) (tied.others m (λ same. absurd (omega arith))).notices;
+      in_order = λ m less. (tied.others m (λ same. absurd (omega arith))).told hears;
       created = ready_shown b t tied;
       sourced = sources_asked b t tied;
       answered = λ m asked on before. none_was b t h tied alive within pending m asked before;
     }
 
 -- so its action may stand
-notice_may : (b : Book) (t : Inner) (n : Notice) → IsNoEnd n → current b ≡ t.link → MayNotify b t.link n → MayStand b (notice_action t.link n)
+notice_may : (b : Book) (t : Inner) (n : Notice) → IsNoEnd n → b.current ≡ t.link → MayNotify b t.link n → MayStand b (notice_action t.link n)
 notice_may b t (notice.Push info) come here may = subst (λ (x : Bool). MayPushBy x b t.link info) (sym come) may
 notice_may b t (notice.Message m) come here may = subst (λ k. MayNotify b k (notice.Message m)) (sym here) may
 notice_may b t (notice.Monitor v) come here may = subst (λ k. MayNotify b k (notice.Monitor v)) (sym here) may
@@ -238,7 +238,7 @@ notice_may b t (notice.Monitor v) come here may = subst (λ k. MayNotify b k (no
 -- a line that leaves what messages are owed
 pub record LeavesOwed (line : Line) : Type 0 where
   pub message : (x : Ledger) (n : ℕ) (of_shape : Shape) → owed_to_message (noted x line) n of_shape ≡ owed_to_message x n of_shape
-  pub unstarted : (x : Ledger) → owed_unstarted (noted x line).end ≡ owed_unstarted x.end
+  pub unstarted : (shut : Bool) (x : Ledger) → owed_waiting shut (noted x line) ≡ owed_waiting shut x
 
 -- what is owed stays
 lined_owed : (b : Book) (l : ℕ) (line : Line) (m : ℕ) → LeavesOwed line → owed (lined b l line) m ≡ owed b m
@@ -255,8 +255,8 @@ lined_owed b l line m leaves = λ i.
     message_same : (x : Ledger) (n k : ℕ) (of_shape : Shape) → owed_to_message (noted_each x (if_mine (l == k) line)) n of_shape ≡ owed_to_message x n of_shape
     message_same x n k of_shape = chosen (λ (ls : List Line). owed_to_message (noted_each x ls) n of_shape ≡ owed_to_message x n of_shape) (l == k) (line ∷ []) [] (λ t. leaves.message x n of_shape) (λ f. refl)
 
-    end_same : (x : Ledger) (k : ℕ) → owed_unstarted (noted_each x (if_mine (l == k) line)).end ≡ owed_unstarted x.end
-    end_same x k = chosen (λ (ls : List Line). owed_unstarted (noted_each x ls).end ≡ owed_unstarted x.end) (l == k) (line ∷ []) [] (λ t. leaves.unstarted x) (λ f. refl)
+    end_same : (x : Ledger) (k : ℕ) → owed_waiting b.shut (noted_each x (if_mine (l == k) line)) ≡ owed_waiting b.shut x
+    end_same x k = chosen (λ (ls : List Line). owed_waiting b.shut (noted_each x ls) ≡ owed_waiting b.shut x) (l == k) (line ∷ []) [] (λ t. leaves.unstarted b.shut x) (λ f. refl)
 
     by_try : (x : Option Try) → owed_to_try (lined b l line) s x ≡ owed_to_try b s x
     by_try None = end_same (b.link s.link) s.link
@@ -264,8 +264,8 @@ lined_owed b l line m leaves = λ i.
 
 -- as a notice does
 push_leaves_owed : (is : Bool) → LeavesOwed (if is then parts else tells)
-push_leaves_owed true = record { message = λ x n of_shape. refl; unstarted = λ x. refl }
-push_leaves_owed false = record { message = λ x n of_shape. refl; unstarted = λ x. refl }
+push_leaves_owed true = record { message = λ x n of_shape. refl; unstarted = λ shut x. refl }
+push_leaves_owed false = record { message = λ x n of_shape. refl; unstarted = λ shut x. refl }
 
 pub push_owed : (b : Book) (l : ℕ) (info : PushInfo) (m : ℕ) → owed (entered b (action.Push l info)) m ≡ owed b m
 push_owed b l info m = lined_owed b l (push_line info.kind) m (push_leaves_owed (is_disconnection info.kind))
@@ -273,8 +273,8 @@ push_owed b l info m = lined_owed b l (push_line info.kind) m (push_leaves_owed 
 -- and anything that is told
 notice_owed : (b : Book) (l : ℕ) (n : Notice) (m : ℕ) → owed (entered b (notice_action l n)) m ≡ owed b m
 notice_owed b l (notice.Push info) m = push_owed b l info m
-notice_owed b l (notice.Message x) m = lined_owed b (current b) tells m (push_leaves_owed false)
-notice_owed b l (notice.Monitor v) m = lined_owed b (current b) tells m (push_leaves_owed false)
+notice_owed b l (notice.Message x) m = lined_owed b b.current tells m (push_leaves_owed false)
+notice_owed b l (notice.Monitor v) m = lined_owed b b.current tells m (push_leaves_owed false)
 
 -- and is
 one_told : (before : List Action) (f : Core) (ledger : Ledger) (owes : ℕ → Option Outcome) (name : ℕ → ℕ) (was : ℕ → Bool) (w : Work) (n : Notice) (h : Heard) (rest : List Heard) (pending started : List ℕ) → hears_something w.conn.hears ≡ true → has_ended w.conn.life ≡ false → n ≡ h.what → IsHeard ledger h

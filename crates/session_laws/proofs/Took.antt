@@ -10,7 +10,7 @@ use Rattle.link_laws.proofs.TiedLink.{TiedLink, wrote_tied}
 use Rattle.link_laws.specs.Settles.{awaited_ids}
 use Rattle.mux_conn.specs.declared.life.Greeting.{Greeting}
 use Rattle.mux_conn.specs.declared.life.Life.{Life}
-use Rattle.mux_conn.specs.declared.life.Life.TheVariants.{Dialing, Wanting, SettingUp, Ready, Ended}
+use Rattle.mux_conn.specs.declared.life.Life.TheVariants.{Resting, Dialing, Wanting, SettingUp, Ready, Ended}
 use Rattle.mux_conn.specs.declared.request.Request.{Request}
 use Rattle.mux_conn.specs.declared.request.Waiting.{Waiting}
 use Rattle.mux_conn.specs.Effects.{taken_at, CanTake}
@@ -18,15 +18,18 @@ use Rattle.shared_session.specs.declared.core_state.Core.{Core}
 use Rattle.shared_session.specs.Turn.{with_work, is_bad}
 use Rattle.legal_trace.specs.Ledger.{Ledger, hears, noted, ending}
 use Rattle.legal_trace.specs.Story.{Story}
-use Rattle.legal_trace.specs.Book.{book}
+use Rattle.legal_trace.specs.Book.{book, has_generations, hearing_in}
 use Rattle.mux_conn.specs.declared.renewal.Renewal.{Renewal}
+use Rattle.session_laws.proofs.Rounded.{rounds_down}
 use Rattle.session_laws.proofs.Renewals.{renewal_alike}
 use Rattle.session_laws.proofs.Numbers.{IsIn}
-use Rattle.session_laws.proofs.Tied.{carried, link_in, owner_of, whole_link, TiedLife, TiedLines, TiedSetup, AreQueued, TiedCreds, TiedWaits, has_ended, TiedRenewal, greeter}
+use Rattle.session_laws.proofs.Server.{TiedSetup, TiedCreds, TiedRenewal}
+use Rattle.session_laws.proofs.Tied.{carried, link_in, owner_of, whole_link, TiedLife, TiedLines, AreQueued, TiedWaits, has_ended, greeter, TiedRounds, AreEarly, HasCourse}
 use Rattle.session_laws.proofs.States.{IsFit, Between, HasApplied}
-use Rattle.session_laws.proofs.Announce.{turn_of, turned, IsNewsKind}
-use Rattle.session_laws.proofs.Heard.{quiet_applied, ended_quiet, dialing_quiet, setting_waits, still_none, pushes_still, wanting_waits}
-use Rattle.session_laws.proofs.Said.{mild_end, setup_hears, setup_link, setup_ready, wanting_link}
+use Rattle.session_laws.proofs.Announce.{turn_of, turned, IsNewsKind, asked_hear}
+use Rattle.session_laws.proofs.Heard.{quiet_applied, ended_quiet, dialing_quiet, setting_waits, still_none, pushes_still, wanting_waits, resting_quiet, hushed_there, heard_by}
+use Rattle.session_laws.proofs.Said.{mild_end, setup_hears, setup_link, setup_ready, wanting_link, pushes_there}
+use Rattle.mux_conn.specs.Connection.{is_ready, is_resting}
 
 -- it need not end
 took_no_end : (l : Ledger) (turn count : ℕ) → ending l ≡ None → ending (noted l (hears turn (took count))) ≡ None
@@ -70,6 +73,7 @@ pub queue_waits : (story : ℕ → Story) (requests : List Request) (link after 
     → TiedWaits story requests (Ready after) fresh moved
 queue_waits story requests link after fresh moved same h = record {
   early = h.early;
+  backoff = λ p w d. cc;
   connect = λ p w d. cc;
   creds = λ p x w d. cc;
   setup = λ p x u w d. cc;
@@ -78,6 +82,7 @@ queue_waits story requests link after fresh moved same h = record {
   room = λ p i. h.room p (same p i);
   newer = h.newer;
   rising = h.rising;
+  no_backoff = λ p i w d. cc;
   no_connect = λ p i w d. cc;
   no_creds = λ p x i w d. cc;
   no_setup = λ p x u i w d. cc;
@@ -105,6 +110,7 @@ pub took_applied : (before : List Action) (c : Core) (started : List ℕ) (word 
 took_applied before c started word count kind h good k is can = by_life c.single.connection.life refl
   where
     by_life : (x : Life) → c.single.connection.life ≡ x → HasApplied (before ++ turn_of c word kind ∷ []) (with_work (record { core = turned c kind; acts = [] }) (taken_at (record { conn = c.single.connection; acts = [] }) count x)) started
+    by_life Resting e = resting_quiet before c started word kind (took count) (λ z. cc) h good k is e
     by_life Dialing e = dialing_quiet before c started word kind (took count) tt h good k is e
     by_life (Ended x) e = ended_quiet before c started word kind (took count) x h good k is e
     by_life (Wanting link) e =
@@ -113,20 +119,24 @@ took_applied before c started word count kind h good k is can = by_life c.single
         let conn = c.single.connection in
         let life = subst (TiedLife l b.created) e h.sound.tied.life in
         let creds = subst (TiedCreds l.creds conn.renewal.wanted) e h.sound.tied.creds in
+        let course = subst (λ (x : Life). HasCourse l.last l.end c.links c.single.link c.shut c.manager conn.last conn.opened conn.info conn.address x) e h.sound.tied.course in
         let tied : TiedLink (λ (p : ℕ). owner.Setup) l link = subst (λ (x : Life). TiedLink (carried x conn.requests) l (whole_link x)) e (h.sound.tied.link (ap has_ended e)) in
         let few : count ≤ link.outbox.offered = subst (λ (x : Life). CanTake x count) e can in
         let said = setup_hears l c.turns (took count) conn.info started (Wanting link) tt (subst (TiedSetup l conn.info started) e h.sound.tied.setup) in
         quiet_applied before c started word kind (took count) (Wanting (wrote_of link count)) h good k is
         (record {
           lived = took_wanting l b.created c.turns count link (wrote_of link count) life;
+          course = (course.0, course.1, course.2, (asked_hear l c.turns (took count)).last ∙ course.3);
           creds = took_creds l conn.renewal.wanted c.turns count (Wanting (wrote_of link count)) (record { wanted_is = creds.wanted_is; sought = creds.sought });
           renewal_is = took_renewal l conn.renewal c.turns count (Wanting (wrote_of link count)) (subst (TiedRenewal l conn.renewal) e h.sound.tied.renewal);
           said = wanting_link (noted l (hears c.turns (took count))) conn.info started link (wrote_of link count) refl refl said;
           linked = λ n. wrote_tied (λ (p : ℕ). owner.Setup) l link c.turns count life.1 few tied;
           lines = subst (λ (x : Life). TiedLines b.story conn.requests (link_in x) conn.waiting conn.admitted [] started) e h.sound.tied.lines;
-          told = λ n. subst (λ (x : Life). AreQueued b.story conn.requests (link_in x)) e (h.sound.tied.told (ap has_ended e));
+          told = λ n. subst (λ (x : Life). AreQueued b.story conn.requests c.single.link (link_in x)) e (h.sound.tied.told (ap has_ended e));
           waits = wanting_waits b.story conn.requests link (wrote_of link count) conn.fresh conn.moved (subst (λ (x : Life). TiedWaits b.story conn.requests x conn.fresh conn.moved) e h.sound.tied.waits);
-          notices = pushes_still before c started (took count) h (inl tt);
+          rounds = rounds_down b.story conn.requests conn.fresh conn.fresh refl h.sound.tied.rounds;
+          early = subst (AreEarly conn.requests) e h.sound.tied.early;
+          notices = pushes_there conn.life (Wanting link) (hearing_in b.config) conn.hears (heard_by b c (took count)) e (pushes_still before c started (took count) h (inl tt));
         })
         (took_no_end l c.turns count (still_none before c started h c.single.link)) (record {
           wanting = wrote_fit_want conn.size conn.boundary link count (h.fit.wanting link e);
@@ -134,26 +144,31 @@ took_applied before c started word count kind h good k is can = by_life c.single
           link = λ x r. cc;
           none = λ none. h.fit.none (λ x r. (let no : Wanting link ≡ Ready x = sym e ∙ r in cc));
         })
+        (hushed_there c kind (took count) (Wanting (wrote_of link count)) is (λ z. cc) (ap is_resting e) (ap has_ended e) h.hushed)
     by_life (SettingUp link greeting) e =
         let b = book before in
         let l = b.link c.single.link in
         let conn = c.single.connection in
         let life = subst (TiedLife l b.created) e h.sound.tied.life in
         let creds = subst (TiedCreds l.creds conn.renewal.wanted) e h.sound.tied.creds in
+        let course = subst (λ (x : Life). HasCourse l.last l.end c.links c.single.link c.shut c.manager conn.last conn.opened conn.info conn.address x) e h.sound.tied.course in
         let tied : TiedLink (λ (p : ℕ). greeter greeting) l link = subst (λ (x : Life). TiedLink (carried x conn.requests) l (whole_link x)) e (h.sound.tied.link (ap has_ended e)) in
         let few : count ≤ link.outbox.offered = subst (λ (x : Life). CanTake x count) e can in
         let said = setup_hears l c.turns (took count) conn.info started (SettingUp link greeting) tt (subst (TiedSetup l conn.info started) e h.sound.tied.setup) in
         quiet_applied before c started word kind (took count) (SettingUp (wrote_of link count) greeting) h good k is
         (record {
           lived = took_setting l b.created c.turns count link (wrote_of link count) greeting life;
+          course = (course.0, course.1, course.2, (asked_hear l c.turns (took count)).last ∙ course.3);
           creds = took_creds l conn.renewal.wanted c.turns count (SettingUp (wrote_of link count) greeting) (record { wanted_is = creds.wanted_is; sought = creds.sought });
           renewal_is = took_renewal l conn.renewal c.turns count (SettingUp (wrote_of link count) greeting) (subst (TiedRenewal l conn.renewal) e h.sound.tied.renewal);
           said = setup_link (noted l (hears c.turns (took count))) conn.info started link (wrote_of link count) greeting refl refl said;
           linked = λ n. wrote_tied (λ (p : ℕ). greeter greeting) l link c.turns count life.1 few tied;
           lines = subst (λ (x : Life). TiedLines b.story conn.requests (link_in x) conn.waiting conn.admitted [] started) e h.sound.tied.lines;
-          told = λ n. subst (λ (x : Life). AreQueued b.story conn.requests (link_in x)) e (h.sound.tied.told (ap has_ended e));
+          told = λ n. subst (λ (x : Life). AreQueued b.story conn.requests c.single.link (link_in x)) e (h.sound.tied.told (ap has_ended e));
           waits = setting_waits b.story conn.requests link (wrote_of link count) greeting greeting conn.fresh conn.moved (subst (λ (x : Life). TiedWaits b.story conn.requests x conn.fresh conn.moved) e h.sound.tied.waits);
-          notices = pushes_still before c started (took count) h (inl tt);
+          rounds = rounds_down b.story conn.requests conn.fresh conn.fresh refl h.sound.tied.rounds;
+          early = subst (AreEarly conn.requests) e h.sound.tied.early;
+          notices = pushes_there conn.life (SettingUp link greeting) (hearing_in b.config) conn.hears (heard_by b c (took count)) e (pushes_still before c started (took count) h (inl tt));
         })
         (took_no_end l c.turns count (still_none before c started h c.single.link)) (record {
           wanting = λ x r. cc;
@@ -161,26 +176,31 @@ took_applied before c started word count kind h good k is can = by_life c.single
           link = λ x r. cc;
           none = λ none. h.fit.none (λ x r. (let no : SettingUp link greeting ≡ Ready x = sym e ∙ r in cc));
         })
+        (hushed_there c kind (took count) (SettingUp (wrote_of link count) greeting) is (λ z. cc) (ap is_resting e) (ap has_ended e) h.hushed)
     by_life (Ready link) e =
         let b = book before in
         let l = b.link c.single.link in
         let conn = c.single.connection in
         let life = subst (TiedLife l b.created) e h.sound.tied.life in
         let creds = subst (TiedCreds l.creds conn.renewal.wanted) e h.sound.tied.creds in
+        let course = subst (λ (x : Life). HasCourse l.last l.end c.links c.single.link c.shut c.manager conn.last conn.opened conn.info conn.address x) e h.sound.tied.course in
         let tied : TiedLink (owner_of conn.requests) l link = subst (λ (x : Life). TiedLink (carried x conn.requests) l (whole_link x)) e (h.sound.tied.link (ap has_ended e)) in
         let few : count ≤ link.outbox.offered = subst (λ (x : Life). CanTake x count) e can in
         let said = setup_hears l c.turns (took count) conn.info started (Ready link) tt (subst (TiedSetup l conn.info started) e h.sound.tied.setup) in
         quiet_applied before c started word kind (took count) (Ready (wrote_of link count)) h good k is
         (record {
           lived = took_life l b.created c.turns count link (wrote_of link count) life;
+          course = (course.0, course.1, course.2, (asked_hear l c.turns (took count)).last ∙ course.3);
           creds = took_creds l conn.renewal.wanted c.turns count (Ready (wrote_of link count)) (record { wanted_is = creds.wanted_is; sought = creds.sought });
           renewal_is = took_renewal l conn.renewal c.turns count (Ready (wrote_of link count)) (subst (TiedRenewal l conn.renewal) e h.sound.tied.renewal);
           said = setup_ready (noted l (hears c.turns (took count))) conn.info started link (wrote_of link count) said;
           linked = λ n. wrote_tied (owner_of conn.requests) l link c.turns count life.1 few tied;
           lines = wrote_lines b.story conn.requests link count conn.waiting conn.admitted [] started (subst (λ (x : Life). TiedLines b.story conn.requests (link_in x) conn.waiting conn.admitted [] started) e h.sound.tied.lines);
-          told = λ n. subst (λ (x : Life). AreQueued b.story conn.requests (link_in x)) e (h.sound.tied.told (ap has_ended e));
+          told = λ n. subst (λ (x : Life). AreQueued b.story conn.requests c.single.link (link_in x)) e (h.sound.tied.told (ap has_ended e));
           waits = queue_waits b.story conn.requests link (wrote_of link count) conn.fresh conn.moved (λ p i. i) (subst (λ (x : Life). TiedWaits b.story conn.requests x conn.fresh conn.moved) e h.sound.tied.waits);
-          notices = pushes_still before c started (took count) h (inl tt);
+          rounds = subst (λ (x : Life). TiedRounds (has_generations b) b.story conn.requests (is_ready x) conn.fresh conn.rounds) e h.sound.tied.rounds;
+          early = λ up. cc;
+          notices = pushes_there conn.life (Ready link) (hearing_in b.config) conn.hears (heard_by b c (took count)) e (pushes_still before c started (took count) h (inl tt));
         })
         (took_no_end l c.turns count (still_none before c started h c.single.link)) (record {
           wanting = λ x r. cc;
@@ -188,3 +208,4 @@ took_applied before c started word count kind h good k is can = by_life c.single
           link = wrote_fit conn.size conn.boundary link count (h.fit.link link e);
           none = λ none. absurd (none (wrote_of link count) refl);
         })
+        (hushed_there c kind (took count) (Ready (wrote_of link count)) is (λ z. cc) (ap is_resting e) (ap has_ended e) h.hushed)

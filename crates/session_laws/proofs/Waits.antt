@@ -14,11 +14,11 @@ use Rattle.link_core.specs.declared.message.Queued.{Queued}
 use Rattle.link_laws.specs.Settles.{awaited_ids, wanted}
 use Rattle.mux_conn.specs.Connection.{has_no_permit, is_ready, in_front}
 use Rattle.mux_conn.specs.Renewals.{renewal_id}
-use Rattle.mux_conn.specs.Requests.{if_there, is_admitted, is_admitted_at, is_open_at, is_placed, is_placed_at, is_waiting, is_waiting_at, name_at}
+use Rattle.mux_conn.specs.Requests.{if_there, is_admitted, is_admitted_at, is_open_at, is_placed, is_placed_at, is_waiting, is_waiting_at, name_at, is_unbegun_at}
 use Rattle.mux_conn.specs.Turn.{is_from}
 use Rattle.mux_conn.specs.declared.life.Greeting.{Greeting}
 use Rattle.mux_conn.specs.declared.life.Life.{Life}
-use Rattle.mux_conn.specs.declared.life.Life.TheVariants.{Dialing, Ended, Ready, Wanting, SettingUp}
+use Rattle.mux_conn.specs.declared.life.Life.TheVariants.{Resting, Dialing, Ended, Ready, Wanting, SettingUp}
 use Rattle.mux_conn.specs.declared.request.Progress.{Progress}
 use Rattle.mux_conn.specs.declared.request.Progress.TheVariants as progress
 use Rattle.mux_conn.specs.declared.request.Request.{Request}
@@ -26,16 +26,17 @@ use Rattle.legal_trace.specs.Book.{Book, entered, if_own}
 use Rattle.legal_trace.specs.Legal.{IsWaiting, IsWritten, MayWait, WaitHolds}
 use Rattle.legal_trace.specs.Steps.{starts_or_waits}
 use Rattle.legal_trace.specs.Story.{Story, awaited_in, is_no_error, is_told, waits as waits_now}
-use Rattle.session_laws.proofs.Ahead.{IsRunning, dialing_step, full_step, permit_step, queue_step, queue_within, running_of, setup_step, waiting_open, admitted_open, creds_step, HasSeats}
+use Rattle.session_laws.proofs.Rounded.{SameRounds, rounds_new, rounds_same}
+use Rattle.session_laws.proofs.Ahead.{IsRunning, dialing_step, full_step, permit_step, queue_step, queue_within, running_of, setup_step, waiting_open, admitted_open, creds_step, HasSeats, resting_step}
 use Rattle.session_laws.proofs.Closing.{one_of}
 use Rattle.session_laws.proofs.InLine.{awaited_in as in_queue, chosen_in, kept_ids, kept_in, row_ids, wanted_in}
 use Rattle.session_laws.proofs.Kept.{SameOutcomes, SameSubmissions, SameTimes, one_changed, packed_same, queued_same, tries_same}
 use Rattle.session_laws.proofs.Moves.{later_of, open_unstarted}
 use Rattle.session_laws.proofs.Names.{earlier_name, get_some, name_of_some, open_within, same_name, there_within, request_not}
 use Rattle.session_laws.proofs.Numbers.{IsIn, Rising, in_either, in_left, in_right, rising_apart, rising_from, rising_in, rising_right, requests_in, request_in, request_of}
-use Rattle.session_laws.proofs.Owes.{later_unstarted, none_open, open_request, request_story, row_in_line}
+use Rattle.session_laws.proofs.Owes.{later_unstarted, none_open, open_request, request_story, row_in_line, open_on}
 use Rattle.session_laws.proofs.Permits.{IsHolding, permits_same}
-use Rattle.session_laws.proofs.States.{IsFit}
+use Rattle.session_laws.proofs.States.{IsFit, AreBegun}
 use Rattle.session_laws.proofs.Tied.{AreQueued, Inner, IsEntry, IsKept, IsQueued, IsRequest, Tied, TiedWaits, has_ended, link_in, queue_ids, shown_wait, waiting_ids, numbers_kept}
 
 -- how far a request has come
@@ -51,6 +52,7 @@ apart_at f g requests p h = by_request (slice_get requests p)
 -- who waits for the connection doesn't wait for a place
 waiting_then : (r : Progress) → is_waiting r ≡ true → (is_admitted r ≡ false) × (is_placed r ≡ false)
 waiting_then progress.Waiting e = (refl, refl)
+waiting_then progress.Begun e = (refl, refl)
 waiting_then progress.Admitted e = cc
 waiting_then progress.Placed e = cc
 waiting_then progress.Closed e = cc
@@ -58,6 +60,7 @@ waiting_then progress.Closed e = cc
 -- and who waits for a place has none
 admitted_then : (r : Progress) → is_admitted r ≡ true → is_placed r ≡ false
 admitted_then progress.Waiting e = cc
+admitted_then progress.Begun e = cc
 admitted_then progress.Admitted e = refl
 admitted_then progress.Placed e = cc
 admitted_then progress.Closed e = cc
@@ -116,6 +119,10 @@ waits_holding m kind story n = chosen (IsHolding (story n)) (m == n) (waits_now 
 waits_late : (m : ℕ) (kind : WaitKind) (story : ℕ → Story) (n : ℕ) → (waits_at m kind story n).overdue ≡ (story n).overdue
 waits_late m kind story n = chosen (λ (x : Story). x.overdue ≡ (story n).overdue) (m == n) (waits_now (story n) kind) (story n) (λ t. refl) (λ f. refl)
 
+-- its round
+waits_rounds : (m : ℕ) (kind : WaitKind) (story : ℕ → Story) → SameRounds story (waits_at m kind story)
+waits_rounds m kind story n = chosen (λ (x : Story). x.rounded ≡ (story n).rounded) (m == n) (waits_now (story n) kind) (story n) (λ t. refl) (λ f. refl)
+
 -- and each try
 waits_tries : (m : ℕ) (kind : WaitKind) (story : ℕ → Story) (n : ℕ) → (story n).tries ≡ (waits_at m kind story n).tries
 waits_tries m kind story n = chosen (λ (x : Story). (story n).tries ≡ x.tries) (m == n) (waits_now (story n) kind) (story n) (λ t. refl) (λ f. refl)
@@ -129,8 +136,11 @@ told_same : (f g : ℕ → Story) (n : ℕ) → SameSubmissions f g → SameOutc
 told_same f g n same answers = λ i. not (awaited_in (same n i)) && is_no_error (answers n i)
 
 -- and in the queue
-queued_still : (f g : ℕ → Story) (requests : List Request) (link : LinkState) → SameSubmissions f g → SameOutcomes f g → ((n : ℕ) → (f n).tries ≡ (g n).tries) → AreQueued f requests link → AreQueued g requests link
-queued_still f g requests link same answers tried h n is none = h n (told_same f g n same answers ∙ is) (tried n ∙ none)
+queued_still : (f g : ℕ → Story) (requests : List Request) (number : ℕ) (link : LinkState) → SameSubmissions f g → SameOutcomes f g → ((n : ℕ) → (f n).tries ≡ (g n).tries) → ((n : ℕ) → (f n).link ≡ (g n).link) → AreQueued f requests number link → AreQueued g requests number link
+queued_still f g requests number link same answers tried linked h = record {
+  told = λ n is none on. h.told n (told_same f g n same answers ∙ is) (tried n ∙ none) (linked n ∙ on);
+  here = λ p i. sym (linked (name_at requests p)) ∙ h.here p i;
+}
 
 -- its own wait is shown then
 shown_own : (story : ℕ → Story) (requests : List Request) (p : ℕ) (kind : WaitKind) → shown_wait (waits_at (name_at requests p) kind story) requests p ≡ Some kind
@@ -143,26 +153,29 @@ shown_other story requests p q kind other =
     ap (λ (s : Story). s.waiting) (left_if (name_at requests p == n) (waits_now (story n) kind) (story n) (ne_test (name_at requests p) n other))
 
 -- the session is tied to the book with one wait more, where its waits are
-pub wait_tied : (b : Book) (t : Inner) (p : ℕ) (kind : WaitKind) (moved fresh : List ℕ) → p < length t.requests → Tied b t → TiedWaits (waits_at (name_at t.requests p) kind b.story) t.requests t.life fresh moved
+pub wait_tied : (b : Book) (t : Inner) (p : ℕ) (kind : WaitKind) (moved fresh : List ℕ) → p < length t.requests → Tied b t → ((q : ℕ) → t.rounds ≡ true → is_ready t.life ≡ true → is_unbegun_at t.requests q ≡ true → IsIn q fresh) → TiedWaits (waits_at (name_at t.requests p) kind b.story) t.requests t.life fresh moved
     → Tied (entered b (wait_action (name_at t.requests p) kind)) (with_unshown t moved fresh)
-wait_tied b t p kind moved fresh within h waits =
+wait_tied b t p kind moved fresh within h new waits =
     let n = name_at t.requests p in
     let after = waits_at n kind b.story in
     let same = waits_submissions n kind b.story in
     let answers = waits_outcomes n kind b.story in
     record {
-      numbers = numbers_kept b b.link after t t.life t.free t.requests t.waiting t.admitted fresh moved t.letting t.pending t.started h.numbers;
+      numbers = numbers_kept b b.link after b.tracked b.errors t t.life t.free t.requests t.waiting t.admitted fresh moved t.letting t.pending t.started h.numbers.unrepeated h.numbers;
       others = h.others;
       notices = h.notices;
       life = h.life;
+      course = h.course;
+      calm = h.calm;
       creds = h.creds;
-      count = h.count;
+      creation = h.creation;
+      uses = h.uses;
       renewal = h.renewal;
       setup = h.setup;
       link = h.link;
       names = h.names;
       story = one_changed b t p (λ s. waits_now s kind) h within (waits_request (b.story n) kind t.requests t.link p);
-      tries = tries_same (b.link t.link) b.story after t.requests t.link t.started same (waits_tries n kind b.story) h.tries;
+      tries = tries_same (b.link t.link) b.story after t.requests t.link t.started same (waits_tries n kind b.story) (λ m. sym (waits_holding n kind b.story m).link) h.tries;
       lines = record {
         line = h.lines.line;
         queued = queued_same b.story after t.requests (link_in t.life).queue same answers h.lines.queued;
@@ -171,9 +184,11 @@ wait_tied b t p kind moved fresh within h waits =
         packed_in = packed_same b.story after t.requests t.admitted same (waits_times n kind b.story) h.lines.packed_in;
         there = h.lines.there;
       };
-      told = λ up. queued_still b.story after t.requests (link_in t.life) same answers (waits_tries n kind b.story) (h.told up);
+      told = λ up. queued_still b.story after t.requests t.link (link_in t.life) same answers (waits_tries n kind b.story) (λ m. sym (waits_holding n kind b.story m).link) (h.told up);
       waits = waits;
       permits = permits_same b.story after b.submissions t.requests t.link t.limit t.free t.letting (waits_holding n kind b.story) h.permits;
+      rounds = rounds_new after t.requests t.fresh fresh new (rounds_same b.story after t.requests t.fresh (waits_rounds n kind b.story) h.rounds);
+      early = h.early;
       late = λ q o late. h.late q o (sym (waits_late n kind b.story (name_at t.requests q)) ∙ late);
     }
 
@@ -189,6 +204,7 @@ pub record IsQuiet (t : Inner) : Type 0 where
   pub full : (link : LinkState) → t.life ≡ Ready link → (t.admitted ≡ []) ⊎ (is_full_beside link (in_front t.renewal) ≡ true)
   pub seats : HasSeats t.moved (in_front t.renewal) (link_in t.life) t.size
   pub waiting : (link : LinkState) → t.life ≡ Ready link → (t.waiting ≡ []) ⊎ (has_no_permit t.limit t.free ≡ true)
+  pub begun : AreBegun t.rounds t.life t.requests
   pub gone : has_ended t.life ≡ true → t.waiting ≡ []
 
 -- where an open request is
@@ -210,10 +226,11 @@ placed_or_kept_in t p (inl i) = in_left p (queue_ids (link_in t.life).queue) (ke
 placed_or_kept_in t p (inr k) = in_right p (queue_ids (link_in t.life).queue) (kept_ids t.admitted t.waiting) (kept_in t.requests t.waiting t.admitted p k)
 
 -- and has not started
-pub there_untried : (b : Book) (t : Inner) (p : ℕ) → Tied b t → p < length t.requests → IsPlacedOrKept t p → (b.story (name_at t.requests p)).tries ≡ []
-there_untried b t p h within at =
-    let g = get_some t.requests p within in
-    ap (λ x. (b.story x).tries) (name_of_some t.requests p g.0 g.1) ∙ h.tries.untried p g.0 g.1 (later_unstarted b t p h (placed_or_kept_in t p at))
+pub there_untried : (b : Book) (t : Inner) (p : ℕ) → Tied b t → is_open_at t.requests p ≡ true → IsPlacedOrKept t p → (b.story (name_at t.requests p)).tries ≡ []
+there_untried b t p h o at =
+    let g = get_some t.requests p (open_within t.requests p o) in
+    let named = name_of_some t.requests p g.0 g.1 in
+    ap (λ x. (b.story x).tries) named ∙ h.tries.untried p g.0 g.1 (later_unstarted b t p h (placed_or_kept_in t p at)) (sym (ap (λ x. (b.story x).link) named) ∙ open_on b t p h o)
 
 -- who is in the row stands before all others
 row_before : (b : Book) (t : Inner) (p q : ℕ) → Tied b t → has_ended t.life ≡ false → p < length t.requests → IsIn p (wanted (link_in t.life).row) → IsIn q (queue_ids (link_in t.life).queue ++ kept_ids t.admitted t.waiting) → p < q
@@ -226,7 +243,7 @@ untried_there : (b : Book) (t : Inner) (p : ℕ) → Tied b t → t.pending ≡ 
 untried_there b t p h none up o untried =
     let within = open_within t.requests p o in
     let s = b.story (name_at t.requests p) in
-    let l = later_of b t (name_at t.requests p) h none up (open_unstarted s untried ((request_story b t p h within).open_is ∙ o)) in
+    let l = later_of b t (name_at t.requests p) h none up (open_on b t p h o) (open_unstarted s untried ((request_story b t p h within).open_is ∙ o)) in
     let same = same_name t.table t.requests l.p p h.names l.within within l.name in
     let queue = queue_ids (link_in t.life).queue in
     let kept = kept_ids t.admitted t.waiting in
@@ -317,7 +334,7 @@ permit_holds b t p link h q e w i =
       | inl none ↦ absurd (subst (λ qs. IsIn p (waiting_ids qs)) none i)
       | inr on ↦ on
     ] in
-    permit_step b t p h (quiet_running t link q e) w (λ j. subst (IsIn p) q.alone j) stuck
+    permit_step b t p h (quiet_running t link q e) w (λ shows. q.begun shows (ap is_ready e) p) (λ j. subst (IsIn p) q.alone j) stuck
 
 -- a life that is not ready
 not_ready : (life other : Life) (link : LinkState) → is_ready other ≡ false → life ≡ other → life ≡ Ready link → ⊥
@@ -334,28 +351,35 @@ waiting_is b t p h q o at unmoved old = by_life t.life refl
     within = open_within t.requests p o
 
     as_shown : (kind : WaitKind) → (b.story n).waiting ≡ Some kind → WaitHolds b n kind → IsWaiting b n
-    as_shown kind shown holds = record { unstarted = there_untried b t p h within at; kind = kind; shown = shown; holds = holds }
+    as_shown kind shown holds = record { unstarted = there_untried b t p h o at; kind = kind; shown = shown; holds = holds }
 
     by_life : (life : Life) → t.life ≡ life → IsWaiting b n
+    by_life Resting e = elim at [
+      | inl i ↦ absurd (subst (λ (x : Life). IsIn p (awaited_ids (link_in x).queue)) e i)
+      | inr k ↦ elim k [
+        | inl a ↦ absurd (subst (λ ws. IsIn p (waiting_ids ws)) (q.none (λ link r. not_ready t.life Resting link refl e r)) a.1)
+        | inr w ↦ as_shown wait.Backoff (elim (h.waits.backoff p w.0 e) [ inl new ↦ absurd (old w.0 new) | inr s ↦ s ]) (resting_step b t p h e (open_on b t p h o))
+      ]
+    ]
     by_life Dialing e = elim at [
       | inl i ↦ absurd (subst (λ (x : Life). IsIn p (awaited_ids (link_in x).queue)) e i)
       | inr k ↦ elim k [
         | inl a ↦ absurd (subst (λ ws. IsIn p (waiting_ids ws)) (q.none (λ link r. not_ready t.life Dialing link refl e r)) a.1)
-        | inr w ↦ as_shown wait.Connect (elim (h.waits.connect p w.0 e) [ inl new ↦ absurd (old w.0 new) | inr s ↦ s ]) (dialing_step b t p h e within)
+        | inr w ↦ as_shown wait.Connect (elim (h.waits.connect p w.0 e) [ inl new ↦ absurd (old w.0 new) | inr s ↦ s ]) (dialing_step b t p h e (open_on b t p h o))
       ]
     ]
     by_life (Wanting link) e = elim at [
       | inl i ↦ absurd (subst (λ (x : Life). IsIn p (awaited_ids (link_in x).queue)) e i)
       | inr k ↦ elim k [
         | inl a ↦ absurd (subst (λ ws. IsIn p (waiting_ids ws)) (q.none (λ other r. not_ready t.life (Wanting link) other refl e r)) a.1)
-        | inr w ↦ as_shown wait.Creds (elim (h.waits.creds p link w.0 e) [ inl new ↦ absurd (old w.0 new) | inr s ↦ s ]) (creds_step b t p link h e within)
+        | inr w ↦ as_shown wait.Creds (elim (h.waits.creds p link w.0 e) [ inl new ↦ absurd (old w.0 new) | inr s ↦ s ]) (creds_step b t p link h e (open_on b t p h o))
       ]
     ]
     by_life (SettingUp link greeting) e = elim at [
       | inl i ↦ absurd (subst (λ (x : Life). IsIn p (awaited_ids (link_in x).queue)) e i)
       | inr k ↦ elim k [
         | inl a ↦ absurd (subst (λ ws. IsIn p (waiting_ids ws)) (q.none (λ other r. not_ready t.life (SettingUp link greeting) other refl e r)) a.1)
-        | inr w ↦ as_shown wait.Setup (elim (h.waits.setup p link greeting w.0 e) [ inl new ↦ absurd (old w.0 new) | inr s ↦ s ]) (setup_step b t p link greeting h e within)
+        | inr w ↦ as_shown wait.Setup (elim (h.waits.setup p link greeting w.0 e) [ inl new ↦ absurd (old w.0 new) | inr s ↦ s ]) (setup_step b t p link greeting h e (open_on b t p h o))
       ]
     ]
     by_life (Ready link) e = elim at [
@@ -365,7 +389,7 @@ waiting_is b t p h q o at unmoved old = by_life t.life refl
         | inr w ↦ as_shown wait.Permit (elim (h.waits.permit p link w.0 e) [ inl new ↦ absurd (old w.0 new) | inr s ↦ s ]) (permit_holds b t p link h q e w.0 w.1)
       ]
     ]
-    by_life (Ended x) e = absurd (none_open b t x n h q.settled e (λ i. kept_ids (q.none (λ link r. not_ready t.life (Ended x) link refl e r) i) (q.gone (ap has_ended e) i)) ((request_story b t p h within).open_is ∙ o))
+    by_life (Ended x) e = absurd (none_open b t (Ended x) n refl h q.settled e (λ i. kept_ids (q.none (λ link r. not_ready t.life (Ended x) link refl e r) i) (q.gone (ap has_ended e) i)) ((request_story b t p h within).open_is ∙ o))
 
 -- a wait may be shown
 --
@@ -378,7 +402,7 @@ wait_may b t p kind h q up written o at new holds unmoved old =
     record {
       written = written;
       asked = (request_story b t p h within).open_is ∙ o;
-      unstarted = there_untried b t p h within at;
+      unstarted = there_untried b t p h o at;
       new = new;
       holds = holds;
       in_order = λ m less asked untried.
@@ -459,6 +483,7 @@ moved_waits b t p kind ps h is l so =
     let own_place : kind ≡ wait.Place → shown_wait after requests p ≡ Some wait.Room → ⊥ = λ is_place e. (let no : ◌≡◌ {A = Option WaitKind} (Some wait.Place) (Some wait.Room) = ap Some (sym is_place) ∙ sym (shown_own b.story requests p kind) ∙ e in cc) in
     record {
       early = λ q w. one_of (shown_wait after requests q) (shown_wait b.story requests q) (still q w) (h.waits.early q w);
+      backoff = λ q w d. elim (h.waits.backoff q w d) [ inl i ↦ inl i | inr e ↦ inr (still q w ∙ e) ];
       connect = λ q w d. elim (h.waits.connect q w d) [ inl i ↦ inl i | inr e ↦ inr (still q w ∙ e) ];
       creds = λ q link w r. elim (h.waits.creds q link w r) [ inl i ↦ inl i | inr e ↦ inr (still q w ∙ e) ];
       setup = λ q link u w r. elim (h.waits.setup q link u w r) [ inl i ↦ inl i | inr e ↦ inr (still q w ∙ e) ];
@@ -481,6 +506,7 @@ moved_waits b t p kind ps h is l so =
           ]);
       newer = h.waits.newer;
       rising = rest_rises p ps (length requests) line;
+      no_backoff = λ q i w d. still q w ∙ h.waits.no_backoff q i w d;
       no_connect = λ q i w d e. h.waits.no_connect q i w d (sym (still q w) ∙ e);
       no_creds = λ q link i w r e. h.waits.no_creds q link i w r (sym (still q w) ∙ e);
       no_setup = λ q link u i w r e. h.waits.no_setup q link u i w r (sym (still q w) ∙ e);
@@ -499,6 +525,7 @@ passed_waits b t p ps h is gone none =
     let back : (q : ℕ) → IsIn q ps → IsIn q t.moved = λ q i. subst (IsIn q) (sym is) (inr i) in
     record {
       early = h.waits.early;
+      backoff = h.waits.backoff;
       connect = h.waits.connect;
       creds = h.waits.creds;
       setup = h.waits.setup;
@@ -513,6 +540,7 @@ passed_waits b t p ps h is gone none =
       ];
       newer = h.waits.newer;
       rising = rest_rises p ps (length t.requests) line;
+      no_backoff = h.waits.no_backoff;
       no_connect = h.waits.no_connect;
       no_creds = h.waits.no_creds;
       no_setup = h.waits.no_setup;
@@ -532,7 +560,8 @@ down_admits b t p life h q down e = by_test (is_admitted_at t.requests p) _
 --
 -- one of them waits for the connect, for credentials, for the setup, or for a permit
 pub record IsEarly (t : Inner) (kind : WaitKind) : Type 0 where
-  pub either : (kind ≡ wait.Connect) ⊎ ((kind ≡ wait.Creds) ⊎ ((kind ≡ wait.Setup) ⊎ (kind ≡ wait.Permit)))
+  pub either : (kind ≡ wait.Backoff) ⊎ ((kind ≡ wait.Connect) ⊎ ((kind ≡ wait.Creds) ⊎ ((kind ≡ wait.Setup) ⊎ (kind ≡ wait.Permit))))
+  pub backoff : t.life ≡ Resting → kind ≡ wait.Backoff
   pub connect : t.life ≡ Dialing → kind ≡ wait.Connect
   pub creds : (link : LinkState) → t.life ≡ Wanting link → kind ≡ wait.Creds
   pub setup : (link : LinkState) (greeting : Greeting) → t.life ≡ SettingUp link greeting → kind ≡ wait.Setup
@@ -560,9 +589,12 @@ fresh_waits b t p kind ps h is w so =
           let shown = own q (eq_from p q t1) in
           inr (elim so.either [
             | inl e ↦ inl (shown ∙ ap Some e)
-            | inr k ↦ inr (elim k [ inl e ↦ inl (shown ∙ ap Some e) | inr x ↦ inr (elim x [ inl e ↦ inl (shown ∙ ap Some e) | inr e ↦ inr (shown ∙ ap Some e) ]) ])
+            | inr k ↦ inr (elim k [ inl e ↦ inl (shown ∙ ap Some e) | inr x ↦ inr (elim x [ inl e ↦ inl (shown ∙ ap Some e) | inr y ↦ inr (elim y [ inl e ↦ inl (shown ∙ ap Some e) | inr e ↦ inr (shown ∙ ap Some e) ]) ]) ])
           ]))
           (λ f. one_of (shown_wait after requests q) (shown_wait b.story requests q) (waits q v (ne_from p q f)) (h.waits.early q v));
+      backoff = λ q v d. by_test (p == q) _
+          (λ t1. inr (own q (eq_from p q t1) ∙ ap Some (so.backoff d)))
+          (λ f. let other = ne_from p q f in elim (h.waits.backoff q v d) [ inl i ↦ inl (rest_in p q ps other (subst (IsIn q) is i)) | inr e ↦ inr (waits q v other ∙ e) ]);
       connect = λ q v d. by_test (p == q) _
           (λ t1. inr (own q (eq_from p q t1) ∙ ap Some (so.connect d)))
           (λ f. let other = ne_from p q f in elim (h.waits.connect q v d) [ inl i ↦ inl (rest_in p q ps other (subst (IsIn q) is i)) | inr e ↦ inr (waits q v other ∙ e) ]);
@@ -579,6 +611,7 @@ fresh_waits b t p kind ps h is w so =
       room = λ q r. elim (h.waits.room q r) [ inl i ↦ inl i | inr e ↦ inr (queued q r ∙ e) ];
       newer = rest_rises p ps (length requests) line;
       rising = h.waits.rising;
+      no_backoff = λ q i v d. waits q v (rest_other p q ps (length requests) line i) ∙ h.waits.no_backoff q (back q i) v d;
       no_connect = λ q i v d e. h.waits.no_connect q (back q i) v d (sym (waits q v (rest_other p q ps (length requests) line i)) ∙ e);
       no_creds = λ q link i v r e. h.waits.no_creds q link (back q i) v r (sym (waits q v (rest_other p q ps (length requests) line i)) ∙ e);
       no_setup = λ q link u i v r e. h.waits.no_setup q link u (back q i) v r (sym (waits q v (rest_other p q ps (length requests) line i)) ∙ e);
@@ -596,6 +629,7 @@ stale_waits b t p ps h is gone =
     let other : (q : ℕ) → is_waiting_at t.requests q ≡ true → p ≢ q = λ q w same. not_both (is_waiting_at t.requests q) (ap (is_waiting_at t.requests) (sym same) ∙ gone) w in
     record {
       early = h.waits.early;
+      backoff = λ q w d. elim (h.waits.backoff q w d) [ inl i ↦ inl (rest_in p q ps (other q w) (subst (IsIn q) is i)) | inr e ↦ inr e ];
       connect = λ q w d. elim (h.waits.connect q w d) [ inl i ↦ inl (rest_in p q ps (other q w) (subst (IsIn q) is i)) | inr e ↦ inr e ];
       creds = λ q link w r. elim (h.waits.creds q link w r) [ inl i ↦ inl (rest_in p q ps (other q w) (subst (IsIn q) is i)) | inr e ↦ inr e ];
       setup = λ q link u w r. elim (h.waits.setup q link u w r) [ inl i ↦ inl (rest_in p q ps (other q w) (subst (IsIn q) is i)) | inr e ↦ inr e ];
@@ -604,6 +638,7 @@ stale_waits b t p ps h is gone =
       room = h.waits.room;
       newer = rest_rises p ps (length t.requests) line;
       rising = h.waits.rising;
+      no_backoff = λ q i w d. h.waits.no_backoff q (back q i) w d;
       no_connect = λ q i w d. h.waits.no_connect q (back q i) w d;
       no_creds = λ q link i w r. h.waits.no_creds q link (back q i) w r;
       no_setup = λ q link u i w r. h.waits.no_setup q link u (back q i) w r;

@@ -40,7 +40,9 @@ use Rattle.session_laws.proofs.SetsUp.{HasBegun, greeted_more, none_set_up, sett
 use Rattle.session_laws.proofs.Settle.{quiet_asks, seen, trace_of_acts}
 use Rattle.session_laws.proofs.Start.{with_queue}
 use Rattle.session_laws.proofs.States.{IsFit}
-use Rattle.session_laws.proofs.Tied.{Inner, IsWatchDue, IsWatching, Tied, TiedTries, numbers_kept, watch_queued}
+use Rattle.session_laws.proofs.Server.{IsWatchDue, IsWatching, watch_queued}
+use Rattle.session_laws.proofs.Tied.{Inner, Tied, TiedTries, numbers_kept}
+use Rattle.session_laws.proofs.Unrepeated.{unrepeated_lined}
 
 -- MONITOR is due
 --
@@ -106,11 +108,11 @@ watch_may b t link due fit free h ended =
     let was = setting_on t (queued link) greet.Monitor in
     let said : IsWatching l (queued link) = h.setup.said.1 in
     record {
-      applied = applied_up b was h refl (refl, refl) refl ended;
+      applied = applied_up b was h refl (refl, refl) refl refl ended;
       setups = setups_started b was h (λ x u e. inl (none_given (setup_due l) (λ k d. greeted_is_undue l k said.greeted d)));
       due = watch_due l (queued link) h.life.1 said due;
       free = held_by b was (λ (p : ℕ). owner.Monitor) (queued link) h.numbers fit.bound_is (h.link refl) ∙ free;
-      in_order = λ m less d. absurd (not_both (b.link m).up (h.others m (λ same. absurd (omega arith))).up (watch_is_up (b.link m) d));
+      in_order = λ m less d. absurd (not_both (b.link m).up (h.others m (λ same. absurd (omega arith))).down (watch_is_up (b.link m) d));
       next = (h.link refl).started;
       needs_its_items = refl;
       long_as_its_bytes = refl;
@@ -127,12 +129,15 @@ watch_tied b t link due h =
     let said = h.setup.said in
     tied_by (entered b (watch_action t link)) (setting_on t (watched link) greet.Monitor) (noted l (begins s)) (mine_noted l t.link (begins s))
     (record {
-      numbers = numbers_kept b _ _ was _ _ _ _ _ _ _ _ _ _ h.numbers;
+      numbers = numbers_kept b _ _ _ _ was _ _ _ _ _ _ _ _ _ _ (unrepeated_lined b.link t.link (begins s) refl h.numbers.unrepeated) h.numbers;
       others = others_kept b t.link (begins s) h.others;
       notices = h.notices;
       life = h.life;
+      course = h.course;
+      calm = h.calm;
       creds = record { wanted_is = h.creds.wanted_is; sought = h.creds.sought };
-      count = h.count;
+      creation = h.creation;
+      uses = h.uses;
       renewal = none_begins l t.renewal s refl h.renewal;
       setup = record { info_is = h.setup.info_is; sent = setups_begins l s refl h.setup.sent; said = (said.0, watching_next l link tied.within due said.1) };
       link = λ e. queue_tied name (noted l (begins s)) (begun (queued link) watch_queued) [] (begun_tied name l (queued link) watch_queued monitor_has_bytes tied);
@@ -143,6 +148,8 @@ watch_tied b t link due h =
       told = h.told;
       waits = setting_waits b.story t.requests (queued link) (watched link) greet.Monitor greet.Monitor t.fresh t.moved h.waits;
       permits = h.permits;
+      rounds = h.rounds;
+      early = h.early;
       late = h.late;
     })
 

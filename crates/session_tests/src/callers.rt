@@ -1,7 +1,9 @@
 ghost use Rattle.std.specs.Prelude.{◌≡◌, IfOk};
 
 use containers::{Bytes, Names};
-use driver_model::{Action, Config, Event, EventKind, Outcome, Submission};
+use driver_model::{
+    Action, AddressWords, Config, ConnectionWords, Event, EventKind, Outcome, Submission,
+};
 use resp_value::Value;
 use session_callers::{Caller, Claim, SharedSession};
 use shared_session::MakeError;
@@ -16,12 +18,26 @@ fn get(alloc: Global, key: &str) -> Result<Submission, AllocError> {
     Ok(Submission::Cmd { args })
 }
 
+/// The configuration of a connection that behaves so. No library is named.
+fn config(alloc: Global, connection: ConnectionWords) -> Result<Config, AllocError> {
+    let url = Bytes::from_slice(alloc, b"redis://h")?;
+    Ok(Config::Single {
+        address: AddressWords {
+            url,
+            lib: Some(false),
+        },
+        connection,
+    })
+}
+
 fn start(alloc: Global, out: &mut Vec<Action>) -> Result<(SharedSession, Caller), AllocError>
     ensures { IfOk result (λ made. made.1.table ≡ made.0.table.shared.table_id) }
 {
-    let mut config = Config::new(Bytes::from_slice(alloc, b"redis://h")?);
-    config.lib = Some(false);
-    config.connect = Some(None);
+    let unbounded = ConnectionWords {
+        connect: Some(None),
+        ..ConnectionWords::new()
+    };
+    let config = config(alloc, unbounded)?;
     match SharedSession::new(alloc, config, 0, out) {
         Ok(made) => Ok(made),
         Err(_) => Err(AllocError),
@@ -162,9 +178,11 @@ fn the_dial_is_claimed_once(rt: HostRuntime) -> Result<(), AllocError> {
 fn a_queue_that_holds_nothing_is_refused(rt: HostRuntime) -> Result<(), AllocError> {
     let alloc = rt.alloc();
     let mut out = Vec::new(alloc);
-    let mut config = Config::new(Bytes::from_slice(alloc, b"redis://h")?);
-    config.lib = Some(false);
-    config.buffer = Some(0);
+    let nothing = ConnectionWords {
+        buffer: Some(0),
+        ..ConnectionWords::new()
+    };
+    let config = config(alloc, nothing)?;
     assert_eq!(rt; refusal(alloc, config, &mut out), "buffer");
     assert_eq!(rt; out.len(), 0);
     Ok(())

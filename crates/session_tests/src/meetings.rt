@@ -1,11 +1,12 @@
 ghost use Rattle.std.specs.Prelude.{◌≡◌, ◌<◌, List, IfOk, vec_len, false};
+ghost use Rattle.driver_model.specs.Config.{kind_of};
 ghost use Rattle.driver_model.specs.Request.{has_no_form};
 ghost use Rattle.session_callers.specs.Rule.{Each};
 ghost use Rattle.caller_threads.specs.Submits.{Line, IsAllowed, AreAllowed};
 
 use caller_threads::{Gate, OpenGate, submit_lines};
 use containers::{Bytes, Names};
-use driver_model::{Action, Config, SessionKind, Submission};
+use driver_model::{Action, AddressWords, Config, ConnectionWords, SessionKind, Submission};
 use session_callers::{Caller, SharedSession};
 use std::alloc::{AllocError, Global};
 use std::sync::Wait;
@@ -77,11 +78,19 @@ fn gets(alloc: Global, count: u8) -> Result<Vec<(Submission, u64)>, AllocError>
 
 fn start(alloc: Global, out: &mut Vec<Action>) -> Result<(SharedSession, Caller), AllocError>
     ensures table { IfOk result (λ made. made.1.table ≡ made.0.table.shared.table_id) }
-    ensures single { IfOk result (λ made. made.1.view.config.kind ≡ SessionKind.Single) }
+    ensures single { IfOk result (λ made. kind_of made.1.view.config ≡ SessionKind.Single) }
 {
-    let mut config = Config::new(Bytes::from_slice(alloc, b"redis://h")?);
-    config.lib = Some(false);
-    config.connect = Some(None);
+    let url = Bytes::from_slice(alloc, b"redis://h")?;
+    let config = Config::Single {
+        address: AddressWords {
+            url,
+            lib: Some(false),
+        },
+        connection: ConnectionWords {
+            connect: Some(None),
+            ..ConnectionWords::new()
+        },
+    };
     match SharedSession::new(alloc, config, 0, out) {
         Ok(made) => Ok(made),
         Err(_) => Err(AllocError),

@@ -1,5 +1,5 @@
 use containers::{Bytes, Names};
-use driver_model::{Action, Config, Event, Submission};
+use driver_model::{Action, AddressWords, Config, ConnectionWords, Event, Submission};
 use shared_session::Session;
 use std::alloc::{AllocError, Global};
 
@@ -8,11 +8,19 @@ const COUNT: usize = 10_000;
 
 /// A session on RESP3 of which somebody hears pushes, or nobody.
 fn begin(alloc: Global, is_heard: bool, actions: &mut Vec<Action>) -> Result<Session, AllocError> {
-    let mut config = Config::new(Bytes::from_slice(alloc, b"redis://h?protocol=3")?);
-    config.lib = Some(false);
-    config.connect = Some(None);
-    config.response = Some(None);
-    config.push = Some(is_heard);
+    let url = Bytes::from_slice(alloc, b"redis://h?protocol=3")?;
+    let config = Config::Single {
+        address: AddressWords {
+            url,
+            lib: Some(false),
+        },
+        connection: ConnectionWords {
+            connect: Some(None),
+            response: Some(None),
+            push: Some(is_heard),
+            ..ConnectionWords::new()
+        },
+    };
     match Session::new(alloc, config, 0, actions) {
         Ok(session) => Ok(session),
         Err(_) => Err(AllocError),

@@ -1,5 +1,5 @@
 use containers::{Bytes, Names};
-use driver_model::{Action, Config, Event, Outcome, Submission};
+use driver_model::{Action, AddressWords, Config, ConnectionWords, Event, Outcome, Submission};
 use shared_session::{MakeError, ReplayError, Session, StepError};
 use std::alloc::{AllocError, Global};
 
@@ -39,16 +39,29 @@ fn event(alloc: Global, told: Told) -> Result<Event, AllocError> {
     }
 }
 
+/// The configuration of a connection to this address that behaves so. No library is named.
+fn config_of(alloc: Global, url: &[u8], connection: ConnectionWords) -> Result<Config, AllocError> {
+    let url = Bytes::from_slice(alloc, url)?;
+    Ok(Config::Single {
+        address: AddressWords {
+            url,
+            lib: Some(false),
+        },
+        connection,
+    })
+}
+
 /// The configuration of an address. No library is named.
 fn config(alloc: Global, url: &[u8]) -> Result<Config, AllocError> {
-    let mut config = Config::new(Bytes::from_slice(alloc, url)?);
-    config.lib = Some(false);
-    Ok(config)
+    config_of(alloc, url, ConnectionWords::new())
 }
 
 fn begin(alloc: Global, actions: &mut Vec<Action>) -> Result<Session, AllocError> {
-    let mut config = config(alloc, b"redis://h")?;
-    config.connect = Some(None);
+    let unbounded = ConnectionWords {
+        connect: Some(None),
+        ..ConnectionWords::new()
+    };
+    let config = config_of(alloc, b"redis://h", unbounded)?;
     match Session::new(alloc, config, 0, actions) {
         Ok(session) => Ok(session),
         Err(_) => Err(AllocError),
@@ -176,8 +189,11 @@ fn a_replay_ends_at_a_bad_event(rt: HostRuntime) -> Result<(), AllocError> {
 /// What a session and a replay refuse of a configuration. Neither shows anything then.
 fn refusals(alloc: Global, url: &[u8], buffer: u32) -> Result<(&'static str, usize), AllocError> {
     let mut actions = Vec::new(alloc);
-    let mut wanted = config(alloc, url)?;
-    wanted.buffer = Some(buffer);
+    let queue = ConnectionWords {
+        buffer: Some(buffer),
+        ..ConnectionWords::new()
+    };
+    let wanted = config_of(alloc, url, queue)?;
     match Session::new(alloc, wanted, 0, &mut actions) {
         Ok(_) => Ok(("nothing", actions.len())),
         Err(MakeError::Config { name }) => Ok((name.name(), actions.len())),

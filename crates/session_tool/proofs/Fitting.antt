@@ -71,7 +71,7 @@ rounds_fit (suc n) few = All-append FitsEvent (rounds n) (round n) (rounds_fit n
 pub generated_fits : (n : ℕ) → n ≤ 200000 → FitsHistory generated_config generated_word (generated_events n)
 unfolding generated_events
 generated_fits n few = record {
-  config = record { url = looked generated_config.url refl; connect = tt; response = tt; limit = tt; buffer = tt; boundary = tt };
+  config = (looked (codes "redis://h:6379") refl, record { connect = tt; response = tt; limit = tt; buffer = tt; boundary = tt });
   word = omega arith;
   events = All-cons FitsEvent (event_of (event.Connected 0)) (rounds n ++ event_of event.Shutdown ∷ []) (record { word = omega arith; kind = omega arith })
       (All-append FitsEvent (rounds n) (event_of event.Shutdown ∷ []) (rounds_fit n few) (All-cons FitsEvent (event_of event.Shutdown) [] (record { word = omega arith; kind = tt }) (All-nil FitsEvent)));

@@ -127,7 +127,7 @@ front_does n source sink sink' part fails = record {
 pub generated_holds : (n : ℕ) → n ≤ 200000 → HeadlineOf generated_config generated_word (generated_events n)
 generated_holds n few =
     let good = all_good n few in
-    headline_of generated_config generated_word (generated_events n) (generated_fits n few) (good_forms generated_config generated_word (generated_events n) refl good) generated_sound good (all_unspent n few)
+    headline_of generated_config generated_word (generated_events n) (generated_fits n few) (good_forms generated_config generated_word (generated_events n) good) generated_sound good (all_unspent n few)
 
 -- the line, or its front, was written
 pub print_does : (n : ℕ) (line line' : List ℕ) (s : Status) (source sink sink' : Side) → n ≤ 200000 → line ≡ generated_line n → line' ≡ line → Prints status.Done line' s sink sink' → Does (Generate n) s source source sink sink'

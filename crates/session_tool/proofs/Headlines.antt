@@ -31,7 +31,7 @@ takes_in_order config word events trace h l =
 own_text : (config : Config) (word : ℕ) (events : List Event) → FitsHistory config word events → HaveForms config events → HasOwnText (trace_of config word events)
 own_text config word events fits forms =
     record {
-      of_good = λ other draws more line good small same. same_trace other config draws word more events small (good_forms other draws more line good) fits forms same;
+      of_good = λ other draws more good small same. same_trace other config draws word more events small (good_forms other draws more good) fits forms same;
       also_of_bad = λ other draws more theirs small same. same_trace other config draws word more events small theirs fits forms same;
     }
 

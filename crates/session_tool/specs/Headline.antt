@@ -6,7 +6,7 @@ use Rattle.driver_model.specs.declared.event.Event.{Event}
 use Rattle.script_text.specs.Script.{script_of}
 use Rattle.script_text.specs.declared.script.Script.{Script}
 use Rattle.shared_session.specs.Replay.{trace_of, AreGood}
-use Rattle.text_laws.specs.Fits.{FitsHistory, HasLine, HaveForms}
+use Rattle.text_laws.specs.Fits.{FitsHistory, HaveForms}
 use Rattle.trace_text.specs.Show.{show}
 use Rattle.legal_trace.specs.Ledger.{stream, joined}
 use Rattle.legal_trace.specs.Book.{blank_book, book}
@@ -34,10 +34,10 @@ abbrev pub TellsTrace : List Action → Config → ℕ → List Event → Type 0
 TellsTrace trace config word events =
     FitsHistory config word events → show (trace_of config word events) ≡ show trace → trace_of config word events ≡ trace
 
--- no other trace of a replay has the same text, of all histories that the types hold, whose configurations have lines, and in
--- which no event is bad; also where an event is bad, if no submission is without a form
+-- no other trace of a replay has the same text, of all histories that the types hold, and in which no event is bad; also where an
+-- event is bad, if no submission is without a form
 pub record HasOwnText (trace : List Action) : Type 0 where
-  pub of_good : (config : Config) (word : ℕ) (events : List Event) → HasLine config → AreGood config word events → TellsTrace trace config word events
+  pub of_good : (config : Config) (word : ℕ) (events : List Event) → AreGood config word events → TellsTrace trace config word events
   pub also_of_bad : (config : Config) (word : ℕ) (events : List Event) → HaveForms config events → TellsTrace trace config word events
 
 -- the trace of a script's first events is a legal one of them

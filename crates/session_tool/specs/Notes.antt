@@ -43,6 +43,8 @@ pub record IsScriptNote (bytes text : List ℕ) : Type 0 where
 abbrev pub config_words : ConfigName → List ℕ
 config_words name.Url = codes "the URL is no address: it has the scheme redis or valkey and a host, and beside them no more than a user, a password, a port, a database and a protocol"
 config_words name.Push = codes "pushes come on RESP3 alone: push=on goes with ?protocol=3 in the URL"
+config_words name.Resub = codes "what was subscribed is subscribed again where somebody hears pushes: resub=on goes with push=on"
+config_words name.Base = codes "delays grow by a fraction: the second number of base is at least 1"
 config_words name.Limit = codes "a request holds at least 1 permit: limit=0 leaves none for any"
 config_words name.Buffer = codes "the queue of a link holds at least 1 message: buffer=0 leaves no place for any"
 config_words other = codes "the configuration is refused for its " ++ config_name other

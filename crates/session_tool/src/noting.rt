@@ -52,6 +52,13 @@ const URL_WORDS: &[u8] =
 /// Where pushes couldn't come.
 const PUSH_WORDS: &[u8] = b"pushes come on RESP3 alone: push=on goes with ?protocol=3 in the URL";
 
+/// Where what is subscribed again would be heard by nobody.
+const RESUB_WORDS: &[u8] =
+    b"what was subscribed is subscribed again where somebody hears pushes: resub=on goes with push=on";
+
+/// Where delays would grow by no fraction.
+const BASE_WORDS: &[u8] = b"delays grow by a fraction: the second number of base is at least 1";
+
 /// Where there would be no permit.
 const LIMIT_WORDS: &[u8] = b"a request holds at least 1 permit: limit=0 leaves none for any";
 
@@ -118,6 +125,8 @@ fn config_words(alloc: Global, name: ConfigName) -> Result<Bytes, AllocError>
     match name {
         ConfigName::Url => Bytes::from_slice(alloc, URL_WORDS),
         ConfigName::Push => Bytes::from_slice(alloc, PUSH_WORDS),
+        ConfigName::Resub => Bytes::from_slice(alloc, RESUB_WORDS),
+        ConfigName::Base => Bytes::from_slice(alloc, BASE_WORDS),
         ConfigName::Limit => Bytes::from_slice(alloc, LIMIT_WORDS),
         ConfigName::Buffer => Bytes::from_slice(alloc, BUFFER_WORDS),
         _ => {

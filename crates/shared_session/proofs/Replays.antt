@@ -1,6 +1,6 @@
 -- One more event of a history.
-use Rattle.std.proofs.Common.{◌≡◌, ◌==◌, ℕ, ◌+◌, ◌-◌, ◌^◌, ◌<◌, ◌≤◌, List, [], ◌∷◌, ◌++◌, length, refl, sym, ◌∙◌, ap, append_assoc, false, ◌⊎◌, inl, inr, arith, length-append}
-use Rattle.std.specs.Prelude.{Option, Some, None, slice_get, take, true, nat_le, ◌||◌}
+use Rattle.std.proofs.Common.{◌≡◌, ◌==◌, ℕ, ◌+◌, ◌-◌, ◌^◌, ◌<◌, ◌≤◌, List, [], ◌∷◌, ◌++◌, length, refl, sym, ◌∙◌, ap, subst, append_assoc, false, ◌⊎◌, inl, inr, arith, length-append}
+use Rattle.std.specs.Prelude.{Option, Some, None, is_some, slice_get, take, Bool, true, nat_le, ◌||◌}
 use Rattle.std.proofs.lemmas.List.{append-nil, length-take-le}
 use Rattle.connection_info.specs.declared.address.ConnectionInfo.{ConnectionInfo}
 use Rattle.driver_model.specs.declared.action.Action.{Action}
@@ -13,8 +13,10 @@ use Rattle.containers.proofs.Choices.{chosen}
 use Rattle.driver_model.specs.declared.event.EventKind.{EventKind}
 use Rattle.driver_model.specs.declared.event.EventKind.TheVariants as event
 use Rattle.driver_model.specs.declared.event.Submission.{Submission}
-use Rattle.driver_model.specs.Config.{address, connect_timeout}
-use Rattle.driver_model.specs.Kind.{is_single}
+use Rattle.manager_config.specs.declared.config.ConnectionManagerConfig.{ConnectionManagerConfig}
+use Rattle.driver_model.specs.Config.{address, connect_timeout, manager_of, is_lazy, first_fault}
+use Rattle.driver_model.proofs.Sound.{grows}
+use Rattle.driver_model.specs.Kind.{has_timeouts}
 use Rattle.driver_model.specs.Request.{packed_bytes, lacks_resp3}
 use Rattle.mux_conn.specs.declared.request.Pending.{Pending}
 use Rattle.mux_conn.specs.declared.act.LinkAct.{LinkAct}
@@ -24,13 +26,20 @@ use Rattle.driver_model.specs.declared.action.Owner.TheVariants as owner
 use Rattle.driver_model.specs.declared.action.Purpose.{Purpose}
 use Rattle.driver_model.specs.declared.action.Purpose.TheVariants as purpose
 use Rattle.driver_model.specs.declared.action.Cause.TheVariants as cause
-use Rattle.shared_session.specs.Turn.{Turning, counted, heard, submitted, left_by, late_by, fired_by, requested, next_turn, shown_each, effects_of, actions_of, is_bad, has_run_out, spends, IsFewer}
+use Rattle.shared_session.specs.declared.generations.Comeback.{Comeback}
+use Rattle.shared_session.specs.declared.generations.Comeback.TheVariants as comeback
+use Rattle.shared_session.specs.declared.generations.Generations.{Generations}
+use Rattle.shared_session.specs.Generations.{has_ended, heeding, connect_timed, comeback_shown_in, IsCounted, HasFraction}
+use Rattle.shared_session.specs.Turn.{Turning, counted, heard, submitted, left_by, late_by, fired_by, requested, passed_by, flushed_on, flushed_apart, come_back_behind, numbered, own_part, ended_apart, next_turn, comeback_by, last_acts, shown_each, shown_behind, return_shown, effects_of, actions_of, is_bad, has_run_out, spends, IsFewer}
 use Rattle.shared_session.specs.Done.{done_each, put_each}
-use Rattle.shared_session.specs.Replay.{connect_timers, connect_asked, opening_core, opening_actions, run_on, state_after, turns_on, trace_of, with_room, told_each, outcomes_in, AreGood, AreGoodOn, AreUnspent, AreUnspentOn, is_bad_after, is_spent_after}
+use Rattle.shared_session.specs.Replay.{connect_timers, connect_asked, begun_as, single_core, as_managed, opening_core, opening_actions, run_on, state_after, turns_on, trace_of, with_room, told_each, outcomes_in, AreGood, AreGoodOn, AreUnspent, AreUnspentOn, is_bad_after, is_spent_after}
 use Rattle.shared_session.specs.Stops.{Shown, IsBadAt, IsSpentAt, IsSpentBy}
 use Rattle.shared_session.specs.declared.session.Failure.{Failure}
 use Rattle.shared_session.specs.declared.session.Failure.TheVariants.{Sound, Spent, NoMemory}
 use Rattle.shared_session.specs.History.{History}
+use Rattle.shared_session.proofs.Quiet.{AreQuiet, apart_quiet, none_done}
+use Rattle.shared_session.proofs.Comebacks.{came_kept, same_fraction}
+use Rattle.shared_session.proofs.Spent.{turn_settings}
 
 run_on-more : (c : Core) (es : List Event) (e : Event) → run_on c (es ++ e ∷ []) ≡ (next_turn (run_on c es) e.kind).core
 run_on-more c [] e = refl
@@ -67,10 +76,12 @@ told_shown : (link : ℕ) (acts : List LinkAct) (os : List (Option Outcome)) (ti
 told_shown link [] os t c = refl
 told_shown link (act.Outcome n o ∷ more) os t c = told_shown link more _ _ _
 told_shown link (act.Created e ∷ more) os t c = told_shown link more os _ _
+told_shown link (act.Round n ∷ more) os t c = told_shown link more os _ _
 told_shown link (act.Took n count ∷ more) os t c = told_shown link more os _ _
 told_shown link (act.Timer n ms ∷ more) os t c = told_shown link more os _ _
 told_shown link (act.RenewalTimer k ms ∷ more) os t c = told_shown link more os _ _
 told_shown link (act.NeedCreds ∷ more) os t c = told_shown link more os _ _
+told_shown link (act.NeedRenewals ∷ more) os t c = told_shown link more os _ _
 told_shown link (act.Renewed message need len ∷ more) os t c = told_shown link more os _ _
 told_shown link (act.Watch message need len ∷ more) os t c = told_shown link more os _ _
 told_shown link (act.Push info ∷ more) os t c = told_shown link more os _ _
@@ -88,9 +99,52 @@ told_asked None timeout = refl
 told_asked (Some info) None = refl
 told_asked (Some info) (Some ms) = refl
 
+-- and so it is with the beginning of a generation, and with a creation at once
+told_begun : (manager : Option ConnectionManagerConfig) (lazy : Bool) (info : Option ConnectionInfo) (timeout : Option ℕ) → told_each [] (begun_as manager lazy (connect_asked info timeout)) ≡ []
+told_begun None lazy info timeout = told_asked info timeout
+told_begun (Some s) false info timeout = told_asked info timeout
+told_begun (Some s) true info timeout = refl
+
 pub outcomes-none : (config : Config) (word : ℕ) → outcomes_in (trace_of config word []) ≡ []
 unfolding outcomes_in
-outcomes-none config word = ap (λ (t : List Action). told_each [] t) (trace_of-none config word) ∙ told_asked (address config) (connect_timeout config)
+outcomes-none config word = ap (λ (t : List Action). told_each [] t) (trace_of-none config word) ∙ told_begun (manager_of config) (is_lazy config) (address config) (connect_timeout config)
+
+-- what a manager does of its own tells no outcome
+told_timed : (l timer : ℕ) (bound : Option ℕ) (os : List (Option Outcome)) → told_each os (connect_timed l timer bound) ≡ os
+told_timed l timer None os = refl
+told_timed l timer (Some ms) os = refl
+
+told_own : (m : Option Generations) (word : ℕ) (what : Comeback) (os : List (Option Outcome)) → told_each os (comeback_shown_in m word what) ≡ os
+told_own None word what os = refl
+told_own (Some g) word comeback.Stays os = refl
+told_own (Some g) word (comeback.Rests n a t) os = refl
+told_own (Some g) word (comeback.Dials l None t) os = told_timed l t g.settings.connection.connection_timeout os
+told_own (Some g) word (comeback.Dials l (Some n) t) os = told_timed l t g.settings.connection.connection_timeout os
+
+-- nor do the acts behind that
+told_return : (c : Core) (word : ℕ) (what : Comeback) (acts : List LinkAct) (os : List (Option Outcome)) → AreQuiet acts → told_each os (return_shown c word what acts) ≡ os
+told_return c word what acts os quiet =
+    told_append os (comeback_shown_in c.manager word what) (shown_behind c acts)
+    ∙ ap (λ (ps : List (Option Outcome)). told_each ps (shown_behind c acts)) (told_own c.manager word what os)
+    ∙ told_shown c.single.link acts os (length c.timers) (length c.sources)
+    ∙ ap (λ ds. put_each os ds) (none_done acts quiet)
+
+-- the last acts of a turn are bytes and waits
+pub last_quiet : (c : Core) (kind : EventKind) → AreQuiet (last_acts c kind)
+unfolding last_acts
+last_quiet c kind =
+    let behind = come_back_behind (numbered (passed_by (counted c) kind)) (has_ended c.single.connection.life) kind in
+    chosen AreQuiet (is_some c.manager) (flushed_apart behind).acts [] (λ managed. apart_quiet behind) (λ single. tt)
+
+-- so the effects of a turn tell the outcomes of its acts
+told_effects : (c : Core) (e : Event) (os : List (Option Outcome)) → told_each os (effects_of c e) ≡ put_each os (done_each (next_turn c e.kind).acts)
+told_effects c e os =
+    let first = shown_each c.single.link (length c.timers) (length c.sources) (next_turn c e.kind).acts in
+    let back = return_shown (next_turn c e.kind).core e.word (comeback_by c e.kind) (last_acts c e.kind) in
+    let told = told_shown c.single.link (next_turn c e.kind).acts os (length c.timers) (length c.sources) in
+    chosen (λ (xs : List Action). told_each os xs ≡ put_each os (done_each (next_turn c e.kind).acts)) (is_some c.manager) (first ++ back) first
+    (λ _. told_append os first back ∙ told_return (next_turn c e.kind).core e.word (comeback_by c e.kind) (last_acts c e.kind) (told_each os first) (last_quiet c e.kind) ∙ told)
+    (λ _. told)
 
 -- one more turn tells its outcomes
 pub outcomes-more : (config : Config) (word : ℕ) (es : List Event) (e : Event) →
@@ -99,7 +153,7 @@ unfolding outcomes_in
 outcomes-more config word es e =
     let c = state_after config word es in
     ap (λ (t : List Action). told_each [] t) (trace_of-more config word es e) ∙ told_append [] (trace_of config word es) (actions_of c e)
-    ∙ told_shown c.single.link (next_turn c e.kind).acts (with_room (told_each [] (trace_of config word es)) e.kind) (length c.timers) (length c.sources)
+    ∙ told_effects c e (with_room (told_each [] (trace_of config word es)) e.kind)
 
 -- what an event is to the submissions leaves the number of turns
 submitted_turns : (t : Turning) (what : Submission) → (submitted t what).core.turns ≡ t.core.turns
@@ -123,8 +177,11 @@ fired_turns t None = refl
 fired_turns t (Some (purpose.Connect l)) = refl
 fired_turns t (Some (purpose.Response owner.Setup)) = refl
 fired_turns t (Some (purpose.Response owner.Auth)) = refl
+fired_turns t (Some (purpose.Response owner.Resub)) = refl
 fired_turns t (Some (purpose.Response owner.Monitor)) = refl
 fired_turns t (Some (purpose.Renewal l k)) = refl
+fired_turns t (Some (purpose.Backoff g)) = refl
+fired_turns t (Some (purpose.Resubscription l)) = refl
 fired_turns t (Some (purpose.Response (owner.Try n round))) = late_turns t (slice_get t.core.table n)
 
 requested_turns : (t : Turning) (kind : EventKind) → (requested t kind).core.turns ≡ t.core.turns
@@ -133,7 +190,7 @@ requested_turns t (event.Cancel n) = left_turns t (slice_get t.core.table n)
 requested_turns t (event.Connected l) = refl
 requested_turns t (event.Refused l f) = refl
 requested_turns t (event.Fired n) = fired_turns t (slice_get t.core.timers n)
-requested_turns t (event.Timeout ms) = chosen (λ (c : Core). c.turns ≡ t.core.turns) (is_single t.core.kind) (record t.core { timeout = ms }) t.core (λ y. refl) (λ y. refl)
+requested_turns t (event.Timeout ms) = chosen (λ (c : Core). c.turns ≡ t.core.turns) (has_timeouts t.core.kind) (record t.core { timeout = ms }) t.core (λ y. refl) (λ y. refl)
 requested_turns t (event.Creds c auth) = refl
 requested_turns t (event.CredsError c text) = refl
 requested_turns t (event.CredsEnd c) = refl
@@ -147,39 +204,65 @@ requested_turns t event.Shutdown = refl
 
 turn_turns : (c : Core) (e : Event) → (next_turn c e.kind).core.turns ≡ c.turns + 1
 unfolding next_turn
-turn_turns c e = requested_turns (heard (counted c) e.kind) e.kind
+turn_turns c e =
+    let t = passed_by (counted c) e.kind in
+    let over = has_ended c.single.connection.life in
+    let same : t.core.turns ≡ c.turns + 1 = requested_turns (heard (counted c) e.kind) e.kind in
+    let n = numbered t in
+    let kept = came_kept (heeding n.core e.kind n.acts) (own_part n over e.kind) in
+    chosen (λ (x : Turning). x.core.turns ≡ c.turns + 1) (is_some c.manager) (ended_apart n over e.kind) (numbered (flushed_on t)) (λ _. kept.turns ∙ same) (λ _. same)
 
 run_on_turns : (c : Core) (es : List Event) → (run_on c es).turns ≡ c.turns + length es
 run_on_turns c [] = omega arith
 run_on_turns c (e ∷ es) = omega (arith, run_on_turns (next_turn c e.kind).core es, turn_turns c e)
 
+-- a fact of what was opened, as it comes back or doesn't
+opened_by : (P : Core → Type 0) (manager : Option ConnectionManagerConfig) (at : Option ConnectionInfo) (lazy : Bool) (c : Core) → P c
+    → ((s : ConnectionManagerConfig) (info : ConnectionInfo) → P (as_managed (Some s) (Some info) false c))
+    → ((s : ConnectionManagerConfig) (info : ConnectionInfo) → P (as_managed (Some s) (Some info) true c)) → P (as_managed manager at lazy c)
+opened_by P None at lazy c plain eager waits = plain
+opened_by P (Some s) None lazy c plain eager waits = plain
+opened_by P (Some s) (Some info) false c plain eager waits = eager s info
+opened_by P (Some s) (Some info) true c plain eager waits = waits s info
+
+of_opening : (P : Core → Type 0) (config : Config) (word : ℕ) → P (single_core config)
+    → ((s : ConnectionManagerConfig) (info : ConnectionInfo) → P (as_managed (Some s) (Some info) false (single_core config)))
+    → ((s : ConnectionManagerConfig) (info : ConnectionInfo) → P (as_managed (Some s) (Some info) true (single_core config))) → P (opening_core config word)
+of_opening P config word plain eager waits = opened_by P (manager_of config) (address config) (is_lazy config) (single_core config) plain eager waits
+
 -- the opening is a turn, and each event is one
 pub turns_after : (config : Config) (word : ℕ) (es : List Event) → (state_after config word es).turns ≡ 1 + length es
 unfolding state_after
-turns_after config word es = run_on_turns (opening_core config word) es
+turns_after config word es =
+    let opened : (opening_core config word).turns ≡ 1 = of_opening (λ (c : Core). c.turns ≡ 1) config word refl (λ s info. refl) (λ s info. refl) in
+    omega (arith, run_on_turns (opening_core config word) es, opened)
 
 -- the state of a session that has made its opening
 pub opened_is : (core : Core) (config : Config) (word : ℕ) (es : List Event) → core ≡ opening_core config word → es ≡ [] → core ≡ state_after config word es
 opened_is core config word es c e = rw (e, state_after-none config word) c
 
 -- a turn leads to where the history with its event leads
-pub state_kept : (before after : Core) (config : Config) (word : ℕ) (es fs : List Event) (e : Event) (acts : List LinkAct) →
-    before ≡ state_after config word es → ◌≡◌ {A = Turning} (record { core = after; acts = acts }) (next_turn before e.kind) → fs ≡ es ++ e ∷ [] → after ≡ state_after config word fs
-state_kept before after config word es fs e acts b a f = rw (f, state_after-more config word es e, ← b) (ap (λ (t : Turning). t.core) a)
+pub state_kept : (before after : Core) (config : Config) (word : ℕ) (es fs : List Event) (e : Event) →
+    before ≡ state_after config word es → after ≡ (next_turn before e.kind).core → fs ≡ es ++ e ∷ [] → after ≡ state_after config word fs
+state_kept before after config word es fs e b a f = rw (f, state_after-more config word es e, ← b) a
 
 -- and so do its outcomes
-pub outcomes_kept : (before after : Core) (config : Config) (word : ℕ) (es fs : List Event) (e : Event) (acts : List LinkAct) (os ps : List (Option Outcome)) (done : List Done) →
-    before ≡ state_after config word es → os ≡ outcomes_in (trace_of config word es) → ◌≡◌ {A = Turning} (record { core = after; acts = acts }) (next_turn before e.kind) → fs ≡ es ++ e ∷ []
-    → done ≡ done_each acts → ps ≡ put_each (with_room os e.kind) done → ps ≡ outcomes_in (trace_of config word fs)
-outcomes_kept before after config word es fs e acts os ps done b o a f d p =
-    rw (f, outcomes-more config word es e, ← b, ← o) (p ∙ ap (λ (ds : List Done). put_each (with_room os e.kind) ds) (d ∙ ap (λ (t : Turning). done_each t.acts) a))
+pub outcomes_kept : (before : Core) (config : Config) (word : ℕ) (es fs : List Event) (e : Event) (os ps : List (Option Outcome)) (done : List Done) →
+    before ≡ state_after config word es → os ≡ outcomes_in (trace_of config word es) → fs ≡ es ++ e ∷ []
+    → done ≡ done_each (next_turn before e.kind).acts → ps ≡ put_each (with_room os e.kind) done → ps ≡ outcomes_in (trace_of config word fs)
+outcomes_kept before config word es fs e os ps done b o f d p =
+    rw (f, outcomes-more config word es e, ← b, ← o) (p ∙ ap (λ (ds : List Done). put_each (with_room os e.kind) ds) d)
 
 -- the connection of an opening hasn't failed, and has no requests
 pub fewer_opening : (core : Core) (config : Config) (word : ℕ) → core ≡ opening_core config word → IsFewer core
-fewer_opening core config word c = rw c (omega arith)
+fewer_opening core config word c = rw c (of_opening IsFewer config word (omega arith) (λ s info. omega arith) (λ s info. omega arith))
 
 pub sound_opening : (core : Core) (config : Config) (word : ℕ) → core ≡ opening_core config word → core.single.connection.failure ≡ None
-sound_opening core config word c = rw c refl
+sound_opening core config word c = rw c (of_opening (λ (x : Core). x.single.connection.failure ≡ None) config word refl (λ s info. refl) (λ s info. refl))
+
+-- there are no more generations than links
+pub counted_opening : (core : Core) (config : Config) (word : ℕ) → core ≡ opening_core config word → IsCounted core
+counted_opening core config word c = rw c (of_opening IsCounted config word (omega arith) (λ s info. (omega arith, omega arith, omega arith)) (λ s info. (omega arith, omega arith, omega arith)))
 
 pub few_kept : (before : Core) (config : Config) (word : ℕ) (es fs : List Event) (e : Event) → before ≡ state_after config word es → before.turns ≤ 2 ^ 32 - 1 → fs ≡ es ++ e ∷ [] → length fs < 2 ^ 32
 few_kept before config word es fs e b t f =
@@ -211,13 +294,9 @@ unfolding AreUnspent state_after
 unspent-more config word es e all free = unspent_on-more (opening_core config word) es e all free
 
 -- what is shown of a turn is the effects of the history's next turn
-pub shown_kept : (before after : Core) (config : Config) (word : ℕ) (es : List Event) (e : Event) (link timers sources : ℕ) (acts : List LinkAct) (old new : List Action) →
-    before ≡ state_after config word es → ◌≡◌ {A = Turning} (record { core = after; acts = acts }) (next_turn before e.kind) → link ≡ before.single.link → timers ≡ length before.timers → sources ≡ length before.sources
-    → new ≡ old ++ shown_each link timers sources acts → new ≡ old ++ effects_of (state_after config word es) e
-shown_kept before after config word es e link timers sources acts old new b a l t c s =
-    rw (← b) (s ∙ ap (λ (k : ℕ). old ++ shown_each k timers sources acts) l ∙ ap (λ (k : ℕ). old ++ shown_each before.single.link k sources acts) t
-    ∙ ap (λ (k : ℕ). old ++ shown_each before.single.link (length before.timers) k acts) c
-    ∙ ap (λ (x : Turning). old ++ shown_each before.single.link (length before.timers) (length before.sources) x.acts) a)
+pub shown_kept : (before : Core) (config : Config) (word : ℕ) (es : List Event) (e : Event) (old new : List Action) →
+    before ≡ state_after config word es → new ≡ old ++ effects_of before e → new ≡ old ++ effects_of (state_after config word es) e
+shown_kept before config word es e old new b s = rw (← b) s
 
 -- the number of a turn is the number of the events that were then taken
 pub turn_numbered : (config : Config) (word : ℕ) (es fs : List Event) (e : Event) → fs ≡ es ++ e ∷ []
@@ -249,7 +328,29 @@ few_numbers (Some ms) = refl
 -- no number has run out at the opening
 pub unspent_opening : (core : Core) (config : Config) (word : ℕ) → core ≡ opening_core config word → has_run_out core ≡ false
 unfolding has_run_out
-unspent_opening core config word c = rw c (few_numbers (connect_timeout config))
+unspent_opening core config word c =
+    let few = few_numbers (connect_timeout config) in
+    rw c (of_opening (λ (x : Core). has_run_out x ≡ false) config word few (λ s info. few) (λ s info. refl))
+
+-- delays grow by a fraction, as in the opening so behind it
+opened_fraction : (manager : Option ConnectionManagerConfig) (at : Option ConnectionInfo) (lazy : Bool) (c : Core) → HasFraction c.manager
+    → ((s : ConnectionManagerConfig) → manager ≡ Some s → 0 < s.exponent_base.1) → HasFraction (as_managed manager at lazy c).manager
+opened_fraction None at lazy c none grow = none
+opened_fraction (Some s) None lazy c none grow = none
+opened_fraction (Some s) (Some info) false c none grow = grow s refl
+opened_fraction (Some s) (Some info) true c none grow = grow s refl
+
+fraction_on : (c : Core) (es : List Event) → HasFraction c.manager → HasFraction (run_on c es).manager
+fraction_on c [] f = f
+fraction_on c (e ∷ es) f = let next = (next_turn c e.kind).core in fraction_on next es (same_fraction next.manager c.manager (turn_settings c e.kind) f)
+
+fraction_after : (config : Config) (word : ℕ) (es : List Event) → first_fault config ≡ None → HasFraction (state_after config word es).manager
+unfolding state_after
+fraction_after config word es sound =
+    fraction_on (opening_core config word) es (opened_fraction (manager_of config) (address config) (is_lazy config) (single_core config) tt (grows config sound))
+
+pub fraction_kept : (core : Core) (config : Config) (word : ℕ) (es : List Event) → core ≡ state_after config word es → first_fault config ≡ None → HasFraction core.manager
+fraction_kept core config word es c sound = subst (λ (x : Core). HasFraction x.manager) (sym c) (fraction_after config word es sound)
 
 -- what a replay keeps from event to event: the session has taken those events, and their turns were shown
 pub record Kept (config : Config) (word : ℕ) (taken : List Event) (before : List Action) (s : History) (after : List Action) : Type 0 where

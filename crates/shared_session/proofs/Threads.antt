@@ -1,6 +1,7 @@
 -- A session may go to another thread, and threads may share it. With `crossing` a search proves the same of what holds sessions.
 use denote.Param.Send.{IsSend, IsSync}
 use Rattle.redis_error.specs.contracts.redis_error.RedisError as RedisError
+use Rattle.driver_model.specs.contracts.config.Config as Config
 use Rattle.driver_model.specs.contracts.event.Event as Event
 use Rattle.driver_model.specs.contracts.msg.Msg as Msg
 use Rattle.driver_model.specs.contracts.outcome.Outcome as Outcome
@@ -8,8 +9,16 @@ use Rattle.driver_model.specs.contracts.push_info.PushInfo as PushInfo
 use Rattle.mux_conn.proofs.Threads as connections
 use Rattle.mux_conn.specs.contracts.act.LinkAct as Act
 use Rattle.shared_session.specs.contracts.core_state.Core as Core
+use Rattle.shared_session.specs.contracts.generations.Generations as Generations
 use Rattle.shared_session.specs.contracts.session.Session as Session
 use Rattle.shared_session.specs.contracts.showing.Done as Done
+use Rattle.shared_session.specs.contracts.turns.Rooms as Rooms
+
+config_send : IsSend Config.the_field.row
+config_send = search connections.crossing depth 60 fits 20000
+
+config_sync : IsSync Config.the_field.row
+config_sync = search connections.crossing depth 60 fits 20000
 
 event_send : IsSend Event.the_field.row
 event_send = search connections.crossing depth 60 fits 20000
@@ -23,11 +32,17 @@ outcome_send = search connections.crossing depth 60 fits 20000
 outcome_sync : IsSync Outcome.the_field.row
 outcome_sync = search connections.crossing depth 60 fits 20000
 
+generations_send : IsSend Generations.the_field.row
+generations_send = search connections.crossing depth 60 fits 20000
+
+generations_sync : IsSync Generations.the_field.row
+generations_sync = search connections.crossing depth 60 fits 20000
+
 core_send : IsSend Core.the_field.row
-core_send = search connections.crossing depth 60 fits 20000
+core_send = search (generations_send, connections.crossing) depth 60 fits 20000
 
 core_sync : IsSync Core.the_field.row
-core_sync = search connections.crossing depth 60 fits 20000
+core_sync = search (generations_sync, connections.crossing) depth 60 fits 20000
 
 error_send : IsSend RedisError.the_field.row
 error_send = search connections.crossing depth 60 fits 20000
@@ -59,10 +74,16 @@ done_send = search (outcome_send, connections.crossing) depth 60 fits 20000
 done_sync : IsSync Done.the_field.row
 done_sync = search (outcome_sync, connections.crossing) depth 60 fits 20000
 
+rooms_send : IsSend Rooms.the_field.row
+rooms_send = search (act_send, connections.crossing) depth 60 fits 20000
+
+rooms_sync : IsSync Rooms.the_field.row
+rooms_sync = search (act_sync, connections.crossing) depth 60 fits 20000
+
 pub session_send : IsSend Session.the_field.row
-session_send = search (event_send, outcome_send, core_send, act_send, done_send, connections.crossing) depth 60 fits 20000
+session_send = search (config_send, event_send, outcome_send, core_send, rooms_send, done_send, connections.crossing) depth 60 fits 20000
 
 pub session_sync : IsSync Session.the_field.row
-session_sync = search (event_sync, outcome_sync, core_sync, act_sync, done_sync, connections.crossing) depth 60 fits 20000
+session_sync = search (config_sync, event_sync, outcome_sync, core_sync, rooms_sync, done_sync, connections.crossing) depth 60 fits 20000
 
 pub ruleset crossing = (session_send, session_sync, connections.crossing)

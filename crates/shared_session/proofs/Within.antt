@@ -1,5 +1,5 @@
 -- A good event says no more than was offered, and names what was given out.
-use Rattle.std.proofs.Common.{◌≡◌, refl, arith, ℕ, ◌<◌, ◌≤◌, ◌==◌, nat_lt, nat_le, ◌&&◌, ◌||◌, Bool, true, false, length, Option, Some, None}
+use Rattle.std.proofs.Common.{◌≡◌, refl, arith, ℕ, ◌<◌, ◌==◌, ◌&&◌, Bool, true, false, length, Option, Some, None}
 use Rattle.std.specs.Prelude.{slice_get}
 use Rattle.containers.proofs.Choices.{not_le_from, not_lt_from, or_right}
 use Rattle.driver_model.specs.declared.action.Purpose.{Purpose}
@@ -8,14 +8,15 @@ use Rattle.driver_model.specs.declared.action.SourceUse.{SourceUse}
 use Rattle.driver_model.specs.declared.action.SourceUse.TheVariants as source
 use Rattle.driver_model.specs.declared.event.EventKind.{EventKind}
 use Rattle.driver_model.specs.declared.event.EventKind.TheVariants as event
-use Rattle.driver_model.specs.News.{News, silence, connected, refused, overdue, took, came, failed, authorized, denied, deserted, renewed, unrenewed, late, shut, for_link, of_timer, of_source, news_of}
+use Rattle.driver_model.specs.News.{News, silence, connected, refused, overdue, took, came, failed, authorized, denied, deserted, renewed, unrenewed, late, unrepeated, for_link, of_timer, of_source, news_of}
 use Rattle.mux_conn.specs.declared.life.Life.{Life}
-use Rattle.mux_conn.specs.declared.life.Life.TheVariants.{Dialing, Wanting, SettingUp, Ready, Ended}
+use Rattle.mux_conn.specs.declared.life.Life.TheVariants.{Resting, Dialing, Wanting, SettingUp, Ready, Ended}
 use Rattle.mux_conn.specs.Effects.{IsWithin, CanTake}
 use Rattle.shared_session.specs.declared.core_state.Core.{Core}
 use Rattle.shared_session.specs.Turn.{is_bad, is_no_link, exceeds_offer, IsKnown}
 
 can_take : (life : Life) (count : ℕ) → exceeds_offer life count ≡ false → CanTake life count
+can_take Resting count f = tt
 can_take Dialing count f = tt
 can_take (Wanting link) count f = not_lt_from link.outbox.offered count f
 can_take (SettingUp link greeting) count f = not_lt_from link.outbox.offered count f
@@ -35,6 +36,8 @@ timer_within life n None = tt
 timer_within life n (Some (purpose.Connect l)) = either_news (l == n) life overdue tt
 timer_within life n (Some (purpose.Response who)) = tt
 timer_within life n (Some (purpose.Renewal l k)) = either_news (l == n) life (late k) tt
+timer_within life n (Some (purpose.Backoff g)) = tt
+timer_within life n (Some (purpose.Resubscription l)) = either_news (l == n) life unrepeated tt
 
 source_within : (life : Life) (n : ℕ) (slot : Option SourceUse) (first later : News) → IsWithin life first → IsWithin life later → IsWithin life (of_source n slot first later)
 source_within life n None first later h k = tt

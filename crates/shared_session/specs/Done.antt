@@ -1,5 +1,5 @@
 -- The outcomes of a turn, put in their places.
-use Rattle.std.specs.Prelude.{ℕ, List, [], ◌∷◌, ◌++◌, Option, Some, slice_set}
+use Rattle.std.specs.Prelude.{List, [], ◌∷◌, ◌++◌, Option, Some, slice_set}
 use Rattle.driver_model.specs.declared.outcome.Outcome.{Outcome}
 use Rattle.mux_conn.specs.declared.act.LinkAct.{LinkAct}
 use Rattle.mux_conn.specs.declared.act.LinkAct.TheVariants as act
@@ -9,10 +9,12 @@ use Rattle.shared_session.specs.declared.showing.Done.{Done}
 abbrev pub done_by : LinkAct → List Done
 done_by (act.Outcome n o) = record { submission = n; outcome = o } ∷ []
 done_by (act.Created e) = []
+done_by (act.Round n) = []
 done_by (act.Took n count) = []
 done_by (act.Timer n ms) = []
 done_by (act.RenewalTimer k ms) = []
 done_by act.NeedCreds = []
+done_by act.NeedRenewals = []
 done_by (act.Renewed message need len) = []
 done_by (act.SetUp message need len) = []
 done_by (act.Push info) = []

@@ -2,6 +2,7 @@
 use Rattle.std.specs.Prelude.{◌≡◌, ◌^◌, ◌<◌, length, false, None}
 use Rattle.shared_session.specs.declared.session.Failure.TheVariants.{Sound}
 use Rattle.shared_session.specs.declared.session.Session.TheInside.{Inside}
+use Rattle.shared_session.specs.Generations.{IsCounted}
 use Rattle.shared_session.specs.Turn.{has_run_out, IsFewer}
 use Rattle.shared_session.specs.Replay.{IsSound, state_after, trace_of, outcomes_in}
 
@@ -14,4 +15,5 @@ pub record IsReplay (s : Inside) : Type 0 where
   pub few : length s.events < 2 ^ 32
   pub unspent : s.failure ≡ Sound → has_run_out s.core ≡ false
   pub fewer : s.failure ≡ Sound → IsFewer s.core
+  pub counted : s.failure ≡ Sound → IsCounted s.core
   pub sound : s.failure ≡ Sound → s.core.single.connection.failure ≡ None

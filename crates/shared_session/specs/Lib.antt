@@ -1,3 +1,4 @@
+pub mod Generations
 pub mod Turn
 pub mod Done
 pub mod Replay

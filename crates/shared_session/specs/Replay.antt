@@ -1,9 +1,8 @@
 -- The state and the trace that a history leads to: a fold of one turn.
-use Rattle.std.specs.Prelude.{◌≡◌, ℕ, ◌+◌, Bool, false, List, [], ◌∷◌, ◌++◌, Option, Some, None, slice_get, slice_set}
+use Rattle.std.specs.Prelude.{◌≡◌, ℕ, ◌+◌, Bool, true, false, List, [], ◌∷◌, ◌++◌, Option, Some, None, slice_get, slice_set}
 use Rattle.connection_info.specs.declared.address.ConnectionInfo.{ConnectionInfo}
 use Rattle.driver_model.specs.declared.action.Action.{Action}
 use Rattle.driver_model.specs.declared.action.Action.TheVariants as action
-use Rattle.driver_model.specs.declared.action.Cause.{Cause}
 use Rattle.driver_model.specs.declared.action.Cause.TheVariants as cause
 use Rattle.driver_model.specs.declared.action.Purpose.{Purpose}
 use Rattle.driver_model.specs.declared.action.Purpose.TheVariants as purpose
@@ -12,10 +11,14 @@ use Rattle.driver_model.specs.declared.event.Event.{Event}
 use Rattle.driver_model.specs.declared.event.EventKind.{EventKind}
 use Rattle.driver_model.specs.declared.event.EventKind.TheVariants as event
 use Rattle.driver_model.specs.declared.outcome.Outcome.{Outcome}
-use Rattle.driver_model.specs.Config.{address, connect_timeout, response_timeout, buffer_size, boundary, permits, hearing_of, wants_credentials, told_info, first_fault}
+use Rattle.driver_model.specs.Config.{kind_of, address, connect_timeout, response_timeout, buffer_size, boundary, permits, hearing_of, wants_credentials, told_info, manager_of, is_lazy, first_fault}
+use Rattle.manager_config.specs.declared.config.ConnectionManagerConfig.{ConnectionManagerConfig}
+use Rattle.mux_conn.specs.declared.connection.MultiplexedConnection.{MultiplexedConnection}
+use Rattle.mux_conn.specs.Effects.{afresh, dialled}
 use Rattle.mux_conn.specs.Renewals.{no_renewal}
 use Rattle.mux_conn.specs.Turn.{dialing}
 use Rattle.shared_session.specs.declared.core_state.Core.{Core}
+use Rattle.shared_session.specs.Generations.{generations_at, is_last}
 use Rattle.shared_session.specs.Turn.{next_turn, actions_of, is_bad, spends}
 
 -- the number of the first link
@@ -27,10 +30,11 @@ abbrev pub connect_timers : Option ℕ → List Purpose
 connect_timers None = []
 connect_timers (Some ms) = purpose.Connect first_link ∷ []
 
--- after turn 0: the first link was asked for, and its timer
-abbrev pub opening_core : Config → ℕ → Core
-opening_core config word = record {
-  kind = config.kind;
+-- after turn 0 of what doesn't come back: the first link was asked for, and its timer
+abbrev pub single_core : Config → Core
+single_core config = record {
+  kind = kind_of config;
+  manager = None;
   turns = 1;
   links = first_link + 1;
   shut = false;
@@ -40,6 +44,33 @@ opening_core config word = record {
   table = [];
   single = record { link = first_link; connection = dialing (buffer_size config) (boundary config) (permits config) (hearing_of config) (told_info config) (no_renewal (wants_credentials config) (response_timeout config)) };
 }
+
+-- on this connection a first generation begins, of a manager that behaves so: the rounds of its requests are shown
+abbrev pub first_dialled : ConnectionManagerConfig → MultiplexedConnection → MultiplexedConnection
+first_dialled settings c = dialled (record c { rounds = true }) (is_last settings 0)
+
+-- no link is asked for before a request, and its creation is told; the rounds of its requests are shown
+abbrev pub unused : MultiplexedConnection → MultiplexedConnection
+unused c = record (afresh c) { rounds = true; told = true }
+
+-- it comes back so, if it does: the first generation begins as it opens, or with the first request
+abbrev pub as_managed : Option ConnectionManagerConfig → Option ConnectionInfo → Bool → Core → Core
+as_managed None at lazy c = c
+as_managed (Some settings) None lazy c = c
+as_managed (Some settings) (Some info) false c = record c {
+  manager = Some (generations_at settings info 1);
+  single = record c.single { connection = first_dialled settings c.single.connection };
+}
+as_managed (Some settings) (Some info) true c = record c {
+  manager = Some (generations_at settings info 0);
+  links = first_link;
+  timers = [];
+  single = record c.single { connection = unused c.single.connection };
+}
+
+-- after turn 0
+abbrev pub opening_core : Config → ℕ → Core
+opening_core config word = as_managed (manager_of config) (address config) (is_lazy config) (single_core config)
 
 -- the timer of the opening is asked for
 abbrev pub timer_asked : Option ℕ → List Action
@@ -51,9 +82,15 @@ abbrev pub connect_asked : Option ConnectionInfo → Option ℕ → List Action
 connect_asked None timeout = []
 connect_asked (Some info) timeout = action.Connect first_link info.host info.port ∷ timer_asked timeout
 
+-- what comes back begins with a generation, or it is told at once that it is created
+abbrev pub begun_as : Option ConnectionManagerConfig → Bool → List Action → List Action
+begun_as None lazy asked = asked
+begun_as (Some settings) false asked = action.Generation 1 ∷ asked
+begun_as (Some settings) true asked = action.Created None ∷ []
+
 -- what turn 0 shows, of a configuration whose URL is an address
 abbrev pub opening_actions : Config → ℕ → List Action
-opening_actions config word = action.Turn 0 (cause.Opening config word) ∷ connect_asked (address config) (connect_timeout config)
+opening_actions config word = action.Turn 0 (cause.Opening config word) ∷ begun_as (manager_of config) (is_lazy config) (connect_asked (address config) (connect_timeout config))
 
 abbrev pub run_on : Core → List Event → Core
 run_on c [] = c
@@ -106,6 +143,8 @@ told os (action.Push l info) = os
 told os (action.Message m) = os
 told os (action.Monitor v) = os
 told os (action.NeedCreds c l) = os
+told os (action.Generation g) = os
+told os (action.Round who l) = os
 told os (action.Close l) = os
 told os (action.Write l bytes) = os
 told os (action.Wait who kind) = os

@@ -1,5 +1,5 @@
 -- One turn of a session: what the outside sees by number, over a connection that knows no numbers.
-use Rattle.std.specs.Prelude.{◌<◌, ◌≤◌, ℕ, zero, suc, ◌+◌, ◌^◌, ◌==◌, nat_lt, nat_le, Bool, true, false, ◌&&◌, ◌||◌, List, [], ◌∷◌, ◌++◌, length, Option, Some, None, slice_get, if◌then◌else◌}
+use Rattle.std.specs.Prelude.{◌<◌, ◌≤◌, ℕ, ◌+◌, ◌^◌, ◌==◌, nat_lt, nat_le, Bool, true, false, ◌&&◌, ◌||◌, List, [], ◌∷◌, ◌++◌, length, Option, Some, None, is_some, slice_get, if◌then◌else◌}
 use Rattle.redis_error.specs.declared.redis_error.RedisError.{RedisError}
 use Rattle.redis_error.specs.declared.redis_error.RedisError.TheVariants as error
 use Rattle.driver_model.specs.declared.action.Action.{Action}
@@ -15,20 +15,23 @@ use Rattle.driver_model.specs.declared.event.EventKind.{EventKind}
 use Rattle.driver_model.specs.declared.event.EventKind.TheVariants as event
 use Rattle.driver_model.specs.declared.event.Submission.{Submission}
 use Rattle.driver_model.specs.declared.outcome.Outcome.TheVariants as outcome
-use Rattle.driver_model.specs.Kind.{is_single}
+use Rattle.driver_model.specs.Kind.{has_timeouts}
 use Rattle.driver_model.specs.News.{news_of}
 use Rattle.driver_model.specs.Request.{packed_bytes, shape_of, is_reply_awaited, lacks_resp3, has_no_form}
 use Rattle.mux_conn.specs.declared.act.LinkAct.{LinkAct}
 use Rattle.mux_conn.specs.declared.act.LinkAct.TheVariants as act
 use Rattle.mux_conn.specs.declared.life.Life.{Life}
-use Rattle.mux_conn.specs.declared.life.Life.TheVariants.{Dialing, Wanting, SettingUp, Ready, Ended}
+use Rattle.mux_conn.specs.declared.life.Life.TheVariants.{Resting, Dialing, Wanting, SettingUp, Ready, Ended}
 use Rattle.mux_conn.specs.declared.request.Pending.{Pending}
-use Rattle.mux_conn.specs.Connection.{Work, is_used_up}
+use Rattle.mux_conn.specs.Connection.{Work, work_with, is_used_up}
 use Rattle.mux_conn.specs.Requests.{asked}
 use Rattle.mux_conn.specs.Effects.{applied, left, timed_out}
 use Rattle.mux_conn.specs.Passes.{passed}
 use Rattle.mux_conn.specs.Turn.{flushed}
 use Rattle.shared_session.specs.declared.core_state.Core.{Core}
+use Rattle.shared_session.specs.declared.generations.Comeback.{Comeback}
+use Rattle.shared_session.specs.declared.generations.Comeback.TheVariants as comeback
+use Rattle.shared_session.specs.Generations.{has_ended, wakes_in, heeding, comeback_in, came_back, comeback_shown_in}
 
 -- a session in the middle of a turn, and the acts of its connection so far, which speak of submissions by their numbers
 pub record Turning : Type 0 where
@@ -115,13 +118,16 @@ fired_by t None = t
 fired_by t (Some (purpose.Connect l)) = t
 fired_by t (Some (purpose.Response owner.Setup)) = t
 fired_by t (Some (purpose.Response owner.Auth)) = t
+fired_by t (Some (purpose.Response owner.Resub)) = t
 fired_by t (Some (purpose.Response owner.Monitor)) = t
 fired_by t (Some (purpose.Renewal l k)) = t
+fired_by t (Some (purpose.Backoff g)) = t
+fired_by t (Some (purpose.Resubscription l)) = t
 fired_by t (Some (purpose.Response (owner.Try n round))) = late_by t (slice_get t.core.table n)
 
--- a new time for the requests of a multiplexed connection
+-- a new time for the requests of one multiplexed connection
 abbrev pub timed_by : Core → Option ℕ → Core
-timed_by c ms = if is_single c.kind then record c { timeout = ms } else c
+timed_by c ms = if has_timeouts c.kind then record c { timeout = ms } else c
 
 -- what an event is to the submissions
 abbrev pub requested : Turning → EventKind → Turning
@@ -162,9 +168,11 @@ whole_effect t kind = moved_on (effect t kind)
 abbrev pub timer_of : ℕ → LinkAct → List Purpose
 timer_of l (act.Timer n ms) = purpose.Response (owner.Try n 0) ∷ []
 timer_of l (act.RenewalTimer k ms) = purpose.Renewal l k ∷ []
+timer_of l (act.Round n) = []
 timer_of l (act.Took n count) = []
 timer_of l (act.Created e) = []
 timer_of l act.NeedCreds = []
+timer_of l act.NeedRenewals = []
 timer_of l (act.SetUp message need len) = []
 timer_of l (act.Renewed message need len) = []
 timer_of l (act.Push info) = []
@@ -182,56 +190,101 @@ abbrev pub timers_of : ℕ → List LinkAct → List Purpose
 timers_of l [] = []
 timers_of l (a ∷ more) = timer_of l a ++ timers_of l more
 
--- what the next source of credentials is for, behind so many: the first is for the setup of link l, and any other for its
--- renewals
-abbrev pub use_after : ℕ → ℕ → SourceUse
-use_after l zero = source.Setup l
-use_after l (suc n) = source.Renewal l
-
--- what the source of an act is for, behind so many, if it asks for one
-abbrev pub source_of : ℕ → ℕ → LinkAct → List SourceUse
-source_of l n act.NeedCreds = use_after l n ∷ []
-source_of l n (act.Created e) = []
-source_of l n (act.Took m count) = []
-source_of l n (act.Timer m ms) = []
-source_of l n (act.RenewalTimer k ms) = []
-source_of l n (act.SetUp message need len) = []
-source_of l n (act.Renewed message need len) = []
-source_of l n (act.Push info) = []
-source_of l n (act.Message m) = []
-source_of l n (act.Monitor v) = []
-source_of l n (act.Watch message need len) = []
-source_of l n act.Close = []
-source_of l n (act.Write bytes) = []
-source_of l n (act.Wait m kind) = []
-source_of l n (act.Start message m need len) = []
-source_of l n (act.Outcome m o) = []
+-- what the source of credentials of an act of the connection of link l is for, if it asks for one
+abbrev pub source_of : ℕ → LinkAct → List SourceUse
+source_of l act.NeedCreds = source.Setup l ∷ []
+source_of l act.NeedRenewals = source.Renewal l ∷ []
+source_of l (act.Created e) = []
+source_of l (act.Round m) = []
+source_of l (act.Took m count) = []
+source_of l (act.Timer m ms) = []
+source_of l (act.RenewalTimer k ms) = []
+source_of l (act.SetUp message need len) = []
+source_of l (act.Renewed message need len) = []
+source_of l (act.Push info) = []
+source_of l (act.Message m) = []
+source_of l (act.Monitor v) = []
+source_of l (act.Watch message need len) = []
+source_of l act.Close = []
+source_of l (act.Write bytes) = []
+source_of l (act.Wait m kind) = []
+source_of l (act.Start message m need len) = []
+source_of l (act.Outcome m o) = []
 
 -- what the sources of acts are for, in order
-abbrev pub sources_of : ℕ → ℕ → List LinkAct → List SourceUse
-sources_of l n [] = []
-sources_of l n (a ∷ more) = source_of l n a ++ sources_of l (n + length (source_of l n a)) more
+abbrev pub sources_of : ℕ → List LinkAct → List SourceUse
+sources_of l [] = []
+sources_of l (a ∷ more) = source_of l a ++ sources_of l more
 
 -- the timers and the sources of the turn have got their numbers
 abbrev pub numbered : Turning → Turning
 numbered t = record t {
   core = record t.core {
     timers = t.core.timers ++ timers_of t.core.single.link t.acts;
-    sources = t.core.sources ++ sources_of t.core.single.link (length t.core.sources) t.acts;
+    sources = t.core.sources ++ sources_of t.core.single.link t.acts;
   };
 }
 
+-- the event has its effect, and open submissions are moved
+abbrev pub passed_by : Turning → EventKind → Turning
+passed_by t kind = let u = effect t kind in with_work u (passed (work_of u))
+
+-- bytes and waits are shown, behind what was
+abbrev pub flushed_on : Turning → Turning
+flushed_on t = with_work t (flushed (work_of t))
+
+-- bytes and waits are shown, apart from what was
+abbrev pub flushed_apart : Core → Work
+flushed_apart c = flushed (work_with c.single.connection [])
+
+-- a manager does something of its own behind these acts, where its link was over before the event or not
+abbrev pub own_part : Turning → Bool → EventKind → Comeback
+own_part t over kind = let c = heeding t.core kind t.acts in comeback_in c.manager (wakes_in t.core.manager kind) over c t.acts
+
+-- it is done
+abbrev pub come_back_behind : Turning → Bool → EventKind → Core
+come_back_behind t over kind = came_back (heeding t.core kind t.acts) (own_part t over kind)
+
+-- and then bytes and waits are shown
+abbrev pub ended_apart : Turning → Bool → EventKind → Turning
+ended_apart t over kind =
+    let c = come_back_behind t over kind in
+    record { core = record c { single = record c.single { connection = (flushed_apart c).conn } }; acts = t.acts }
+
+-- so a turn ends, behind the submissions that were moved: timers and sources get their numbers, a manager does something of its own, and
+-- bytes and waits are shown
+abbrev pub ended_as : Bool → Turning → Bool → EventKind → Turning
+ended_as managed t over kind = if managed then ended_apart (numbered t) over kind else numbered (flushed_on t)
+
+-- what a manager does of its own then
+abbrev pub comeback_as : Bool → Turning → Bool → EventKind → Comeback
+comeback_as managed t over kind = if managed then own_part (numbered t) over kind else comeback.Stays
+
+-- the acts of its connection behind that: bytes and waits
+abbrev pub last_as : Bool → Turning → Bool → EventKind → List LinkAct
+last_as managed t over kind = if managed then (flushed_apart (come_back_behind (numbered t) over kind)).acts else []
+
 -- a turn
 unfoldable pub next_turn : Core → EventKind → Turning
-next_turn c kind = numbered (whole_effect (counted c) kind)
+next_turn c kind = ended_as (is_some c.manager) (passed_by (counted c) kind) (has_ended c.single.connection.life) kind
+
+-- what a manager does of its own in it
+unfoldable pub comeback_by : Core → EventKind → Comeback
+comeback_by c kind = comeback_as (is_some c.manager) (passed_by (counted c) kind) (has_ended c.single.connection.life) kind
+
+-- and the acts of its connection behind that
+unfoldable pub last_acts : Core → EventKind → List LinkAct
+last_acts c kind = last_as (is_some c.manager) (passed_by (counted c) kind) (has_ended c.single.connection.life) kind
 
 -- what an act of the connection of link l shows, where so many timers, and so many sources, were asked for before
 abbrev pub shown : ℕ → ℕ → ℕ → LinkAct → Action
 shown l t c (act.Created e) = action.Created e
+shown l t c (act.Round n) = action.Round (owner.Try n 0) (Some l)
 shown l t c (act.Took n count) = action.Took (owner.Try n 0) l count
 shown l t c (act.Timer n ms) = action.Timer t ms (purpose.Response (owner.Try n 0))
 shown l t c (act.RenewalTimer k ms) = action.Timer t ms (purpose.Renewal l k)
 shown l t c act.NeedCreds = action.NeedCreds c l
+shown l t c act.NeedRenewals = action.NeedCreds c l
 shown l t c (act.SetUp message need len) = action.Start l message owner.Setup need len
 shown l t c (act.Renewed message need len) = action.Start l message owner.Auth need len
 shown l t c (act.Push info) = action.Push l info
@@ -246,11 +299,21 @@ shown l t c (act.Outcome n o) = action.Outcome n o
 
 abbrev pub shown_each : ℕ → ℕ → ℕ → List LinkAct → List Action
 shown_each l t c [] = []
-shown_each l t c (a ∷ more) = shown l t c a ∷ shown_each l (t + length (timer_of l a)) (c + length (source_of l c a)) more
+shown_each l t c (a ∷ more) = shown l t c a ∷ shown_each l (t + length (timer_of l a)) (c + length (source_of l a)) more
+
+-- what acts show that begin no timer and no source, behind a turn that led to this
+abbrev pub shown_behind : Core → List LinkAct → List Action
+shown_behind c acts = shown_each c.single.link (length c.timers) (length c.sources) acts
+
+-- what a manager shows of a turn behind the acts of its event, where it led to this
+abbrev pub return_shown : Core → ℕ → Comeback → List LinkAct → List Action
+return_shown c word what acts = comeback_shown_in c.manager word what ++ shown_behind c acts
 
 -- what one turn shows behind its first action
 abbrev pub effects_of : Core → Event → List Action
-effects_of c e = shown_each c.single.link (length c.timers) (length c.sources) (next_turn c e.kind).acts
+effects_of c e =
+    let acts = shown_each c.single.link (length c.timers) (length c.sources) (next_turn c e.kind).acts in
+    if is_some c.manager then acts ++ return_shown (next_turn c e.kind).core e.word (comeback_by c e.kind) (last_acts c e.kind) else acts
 
 -- the actions of one turn: which turn it is, with its event, and its effects
 abbrev pub actions_of : Core → Event → List Action
@@ -267,6 +330,7 @@ IsFewer c = length c.single.connection.requests ≤ length c.table
 
 -- more bytes were taken than are offered
 abbrev pub exceeds_offer : Life → ℕ → Bool
+exceeds_offer Resting count = nat_lt 0 count
 exceeds_offer Dialing count = nat_lt 0 count
 exceeds_offer (Wanting link) count = nat_lt link.outbox.offered count
 exceeds_offer (SettingUp link greeting) count = nat_lt link.outbox.offered count
@@ -297,9 +361,9 @@ is_bad c (event.WriteFault l kind) = is_no_link c l
 is_bad c event.DropStream = false
 is_bad c event.Shutdown = false
 
--- the number 2^32 - 1 was given to a message, to new credentials, a submission, a timer or a source of credentials
+-- the number 2^32 - 1 was given to a link, to a message, to new credentials, a submission, a timer or a source of credentials
 unfoldable pub has_run_out : Core → Bool
-has_run_out c = is_used_up c.single.connection || (nat_le (2 ^ 32) (length c.table) || (nat_le (2 ^ 32) (length c.timers) || nat_le (2 ^ 32) (length c.sources)))
+has_run_out c = nat_le (2 ^ 32) c.links || (is_used_up c.single.connection || (nat_le (2 ^ 32) (length c.table) || (nat_le (2 ^ 32) (length c.timers) || nat_le (2 ^ 32) (length c.sources))))
 
 -- the step of an event is spent: the history holds 2^32 - 1 events, or the turn would give out a number too many
 unfoldable pub spends : Core → Event → Bool

@@ -1,8 +1,10 @@
 ghost use Rattle.std.specs.Prelude.{◌≡◌, ◌<◌, ◌≤◌, ◌+◌, ◌++◌, ◌∷◌, ◌^◌, [], length, slice_get};
-ghost use Rattle.std.specs.Prelude.{true, false, None, Some, OnOk, OnErr, IfErr, IsErrOf};
-ghost use Rattle.std.specs.Prelude.{nat_le};
-ghost use Rattle.shared_session.specs.Turn.{timer_of, timers_of, source_of, sources_of, use_after};
+ghost use Rattle.std.specs.Prelude.{true, false, None, Some, OnOk, OnErr, IfErr, IfOk, IsErrOf};
+ghost use Rattle.std.specs.Prelude.{nat_le, is_some};
+ghost use Rattle.mux_conn.specs.Connection.{is_used_up};
+ghost use Rattle.shared_session.specs.Turn.{timer_of, timers_of, source_of, sources_of};
 
+use crate::generations::{Comeback, Generations, has_ended};
 use containers::{Bytes, Seq};
 use driver_model::{EventKind, Outcome, Owner, Purpose, SessionKind, SourceUse, Submission};
 use mux_conn::{ConnectionError, Life, LinkAct, MultiplexedConnection, Pending};
@@ -28,14 +30,15 @@ impl Drop for Single {
     }
 }
 
-/// The state of a session: how many turns it has made, the opening among them, how many links were asked for, whether
-/// everything was shut down, what each timer and each source of credentials was asked for, the request of each submission,
-/// where it has one, and its connection.
+/// The state of a session: its generations, where it comes back, how many turns it has made, the opening among them, how many links
+/// were asked for, whether everything was shut down, what each timer and each source of credentials was asked for, the request of
+/// each submission, where it has one, and its connection.
 pub struct Core {
     /// What the session is.
     pub kind: SessionKind,
+    pub manager: Option<Generations>,
     pub turns: u64,
-    pub links: u32,
+    pub links: u64,
     pub shut: bool,
     /// Within how many milliseconds a request that is handed in now is to be answered, if within any.
     pub timeout: Option<u64>,
@@ -49,6 +52,7 @@ impl Drop for Core {
     fn drop(self) {
         let Core {
             kind: _,
+            manager,
             turns: _,
             links: _,
             shut: _,
@@ -58,6 +62,7 @@ impl Drop for Core {
             table,
             single,
         } = self;
+        drop(manager);
         drop(timers);
         drop(sources);
         drop(table);
@@ -72,8 +77,11 @@ impl Core {
     ghost use Rattle.shared_session.specs.Turn.{turning_with, heard, refused_with, asked_for};
     ghost use Rattle.shared_session.specs.Turn.{submitted, left_by, late_by, fired_by, timed_by};
     ghost use Rattle.shared_session.specs.Turn.{requested, effect, timers_of, sources_of};
-    ghost use Rattle.shared_session.specs.Turn.{whole_effect, next_turn, is_bad, has_run_out};
-    ghost use Rattle.shared_session.specs.Turn.{exceeds_offer, IsFewer, IsKnown};
+    ghost use Rattle.shared_session.specs.Turn.{passed_by, flushed_on, flushed_apart, own_part, numbered};
+    ghost use Rattle.shared_session.specs.Turn.{come_back_behind, ended_apart, ended_as, comeback_as, last_as};
+    ghost use Rattle.shared_session.specs.Turn.{next_turn, comeback_by, last_acts, is_bad, has_run_out};
+    ghost use Rattle.shared_session.specs.Generations.{bound_of, IsCounted, IsShowable};
+    ghost use Rattle.shared_session.specs.Turn.{exceeds_offer, is_no_link, IsFewer, IsKnown};
 
     /// The connection hears its link's news.
     fn hear(
@@ -249,9 +257,14 @@ impl Core {
             } => Ok(()),
             Purpose::Response { owner: Owner::Auth } => Ok(()),
             Purpose::Response {
+                owner: Owner::Resub,
+            } => Ok(()),
+            Purpose::Response {
                 owner: Owner::Monitor,
             } => Ok(()),
             Purpose::Renewal { link: _, number: _ } => Ok(()),
+            Purpose::Backoff { generation: _ } => Ok(()),
+            Purpose::Resubscription { link: _ } => Ok(()),
             Purpose::Response {
                 owner: Owner::Try {
                     submission,
@@ -261,11 +274,11 @@ impl Core {
         }
     }
 
-    /// A new time for the requests that are handed in from now on: those of a multiplexed connection have one.
+    /// A new time for the requests that are handed in from now on: those of one multiplexed connection have one.
     fn set_timeout(&mut self, ms: Option<u64>)
         ensures { self.new ≡ timed_by self.old ms }
     {
-        if self.kind.is_single() {
+        if self.kind.has_timeouts() {
             self.timeout = ms;
         }
     }
@@ -313,16 +326,16 @@ impl Core {
         match event {
             EventKind::Submit { submission } => submission.has_no_form(self.kind),
             EventKind::Cancel { submission } => *submission as usize >= self.table.len(),
-            EventKind::Connected { link } => *link >= self.links,
-            EventKind::Refused { link, fault: _ } => *link >= self.links,
+            EventKind::Connected { link } => self.is_no_link(*link),
+            EventKind::Refused { link, fault: _ } => self.is_no_link(*link),
             EventKind::Fired { timer } => *timer as usize >= self.timers.len(),
             EventKind::Wrote { link, count } => {
-                *link >= self.links || (*link == self.single.link && self.takes_too_much(*count))
+                self.is_no_link(*link) || (*link == self.single.link && self.takes_too_much(*count))
             }
-            EventKind::Bytes { link, piece: _ } => *link >= self.links,
-            EventKind::Ended { link } => *link >= self.links,
-            EventKind::ReadFault { link, fault: _ } => *link >= self.links,
-            EventKind::WriteFault { link, fault: _ } => *link >= self.links,
+            EventKind::Bytes { link, piece: _ } => self.is_no_link(*link),
+            EventKind::Ended { link } => self.is_no_link(*link),
+            EventKind::ReadFault { link, fault: _ } => self.is_no_link(*link),
+            EventKind::WriteFault { link, fault: _ } => self.is_no_link(*link),
             EventKind::Creds { source, auth: _ } => self.is_no_source(*source),
             EventKind::CredsError { source, text: _ } => self.is_no_source(*source),
             EventKind::CredsEnd { source } => self.is_no_source(*source),
@@ -330,6 +343,13 @@ impl Core {
             EventKind::DropStream => false,
             EventKind::Shutdown => false,
         }
+    }
+
+    /// Whether no link of this number was asked for.
+    fn is_no_link(&self, link: u32) -> bool
+        ensures { result ≡ is_no_link self.now link }
+    {
+        u64::from(link) >= self.links
     }
 
     /// Whether no source of credentials of this number was asked for.
@@ -344,6 +364,7 @@ impl Core {
         ensures { result ≡ exceeds_offer self.now.single.connection.life count }
     {
         match &self.single.connection.life {
+            Life::Resting => count > 0,
             Life::Dialing => count > 0,
             Life::Wanting { link } => count > link.offered_len(),
             Life::SettingUp { link, greeting: _ } => count > link.offered_len(),
@@ -352,18 +373,20 @@ impl Core {
         }
     }
 
-    /// Whether the number 2^32 - 1 was given to a message, to new credentials, a submission, a timer or a source of credentials.
+    /// Whether the number 2^32 - 1 was given to a link, to a message, to new credentials, a submission, a timer or a source of
+    /// credentials.
     #[tactic(auto, unfolding(crate::specs::Turn::has_run_out))]
     fn is_spent(&self) -> bool
         ensures { result ≡ has_run_out self.now }
     {
-        self.single.connection.is_used_up()
+        self.links >= TOO_MANY
+            || self.single.connection.is_used_up()
             || self.table.len() as u64 >= TOO_MANY
             || self.timers.len() as u64 >= TOO_MANY
             || self.sources.len() as u64 >= TOO_MANY
     }
 
-    /// The event's own effect, and then requests are moved, and bytes and waits are shown.
+    /// The event's own effect, and then requests are moved.
     fn run(
         &mut self,
         alloc: Global,
@@ -376,10 +399,10 @@ impl Core {
         requires sound { self.old.single.connection.failure ≡ None }
         ensures turning { OnOk result (
             turning_with self.new acts.new.items
-            ≡ whole_effect (turning_with self.old acts.old.items) event.now
+            ≡ passed_by (turning_with self.old acts.old.items) event.now
             ) }
         ensures spent { IsErrOf result ConnectionError.Spent
-            → has_run_out (whole_effect (turning_with self.old acts.old.items) event.now).core
+            → is_used_up (passed_by (turning_with self.old acts.old.items) event.now).core.single.connection
             ≡ true }
         ensures fewer { OnOk result (IsFewer self.new) }
         ensures sound { OnOk result (self.new.single.connection.failure ≡ None) }
@@ -389,57 +412,169 @@ impl Core {
             Err(error) => return Err(error),
         }
         self.take_requests(alloc, event, acts)?;
-        match self.single.connection.advance_all(alloc, acts) {
+        self.single.connection.advance_all(alloc, acts)
+    }
+
+    /// The timers and the sources of credentials of these acts get their numbers.
+    fn number(&mut self, acts: &[LinkAct]) -> Result<(), AllocError>
+        ensures { OnOk result (
+            turning_with self.new acts.now ≡ numbered (turning_with self.old acts.now)
+            ) }
+    {
+        let link = self.single.link;
+        note_timers(link, acts, &mut self.timers)?;
+        note_sources(link, acts, &mut self.sources)
+    }
+
+    /// What a turn of a session ends with that doesn't come back: bytes and waits are shown behind its acts.
+    fn end(&mut self, alloc: Global, acts: &mut Vec<LinkAct>) -> Result<(), ConnectionError>
+        requires fewer { IsFewer self.old }
+        requires sound { self.old.single.connection.failure ≡ None }
+        ensures turning { OnOk result (
+            turning_with self.new acts.new.items
+            ≡ numbered (flushed_on (turning_with self.old acts.old.items))
+            ) }
+        ensures unspent { IsErrOf result ConnectionError.Spent → ⊥ }
+        ensures fewer { OnOk result (IsFewer self.new) }
+        ensures sound { OnOk result (self.new.single.connection.failure ≡ None) }
+    {
+        match self.single.connection.flush(alloc, acts) {
             Ok(()) => {}
             Err(error) => return Err(error),
         }
-        self.single.connection.flush(alloc, acts)
+        self.number(acts.as_slice())?;
+        Ok(())
     }
 
-    /// One turn, whose acts `acts` gains. Its timers and its sources of credentials get their numbers.
-    #[tactic(auto, unfolding(crate::specs::Turn::next_turn))]
+    /// What a turn of a manager ends with, whose link was over before the event or not: it does something of its own behind its
+    /// acts, and then bytes and waits are shown.
+    fn end_managed(
+        &mut self,
+        alloc: Global,
+        event: &EventKind,
+        over: bool,
+        acts: &[LinkAct],
+        rest: &mut Vec<LinkAct>,
+    ) -> Result<Comeback, ConnectionError>
+        requires counted { IsCounted self.old }
+        requires links { self.old.links < 2 ^ 32 }
+        requires fewer { IsFewer self.old }
+        requires sound { self.old.single.connection.failure ≡ None }
+        requires none { rest.old.items ≡ [] }
+        ensures turning { OnOk result (
+            turning_with self.new acts.now
+            ≡ ended_apart (numbered (turning_with self.old acts.now)) over event.now
+            ) }
+        ensures comeback { IfOk result (λ comeback.
+            comeback ≡ own_part (numbered (turning_with self.old acts.now)) over event.now
+            ) }
+        ensures rest { OnOk result (
+            rest.new.items
+            ≡ (flushed_apart (come_back_behind (numbered (turning_with self.old acts.now)) over event.now)).acts
+            ) }
+        ensures unspent { IsErrOf result ConnectionError.Spent → ⊥ }
+        ensures fewer { OnOk result (IsFewer self.new) }
+        ensures sound { OnOk result (self.new.single.connection.failure ≡ None) }
+    {
+        self.number(acts)?;
+        let comeback = self.choose(event, over, acts);
+        self.come_back(alloc, comeback)?;
+        match self.single.connection.flush(alloc, rest) {
+            Ok(()) => Ok(comeback),
+            Err(error) => Err(error),
+        }
+    }
+
+    /// What a turn ends with, behind its acts. `rest` gains the acts behind what a manager does of its own.
+    fn end_either(
+        &mut self,
+        alloc: Global,
+        event: &EventKind,
+        over: bool,
+        acts: &mut Vec<LinkAct>,
+        rest: &mut Vec<LinkAct>,
+    ) -> Result<Comeback, ConnectionError>
+        requires counted { IsCounted self.old }
+        requires links { self.old.links < 2 ^ 32 }
+        requires fewer { IsFewer self.old }
+        requires sound { self.old.single.connection.failure ≡ None }
+        requires none { rest.old.items ≡ [] }
+        ensures turning { OnOk result (
+            turning_with self.new acts.new.items
+            ≡ ended_as (is_some self.old.manager) (turning_with self.old acts.old.items) over event.now
+            ) }
+        ensures comeback { IfOk result (λ comeback.
+            comeback ≡ comeback_as (is_some self.old.manager) (turning_with self.old acts.old.items) over event.now
+            ) }
+        ensures rest { OnOk result (
+            rest.new.items ≡ last_as (is_some self.old.manager) (turning_with self.old acts.old.items) over event.now
+            ) }
+        ensures unspent { IsErrOf result ConnectionError.Spent → ⊥ }
+        ensures fewer { OnOk result (IsFewer self.new) }
+        ensures sound { OnOk result (self.new.single.connection.failure ≡ None) }
+    {
+        if self.manager.is_some() {
+            return self.end_managed(alloc, event, over, acts.as_slice(), rest);
+        }
+        match self.end(alloc, acts) {
+            Ok(()) => Ok(Comeback::Stays),
+            Err(error) => Err(error),
+        }
+    }
+
+    /// One turn, whose acts `acts` gains, and `rest` those behind what a manager does of its own, which is the answer. Its timers and
+    /// its sources of credentials get their numbers.
+    #[tactic(auto, unfolding(crate::specs::Turn::next_turn, crate::specs::Turn::comeback_by, crate::specs::Turn::last_acts))]
     pub fn turn(
         &mut self,
         alloc: Global,
         event: &EventKind,
         acts: &mut Vec<LinkAct>,
-    ) -> Result<(), ConnectionError>
+        rest: &mut Vec<LinkAct>,
+    ) -> Result<Comeback, ConnectionError>
         requires good { is_bad self.old event.now ≡ false }
         requires room { has_run_out self.old ≡ false }
         requires turns { self.old.turns < 2 ^ 32 }
         requires fewer { IsFewer self.old }
+        requires counted { IsCounted self.old }
         requires sound { self.old.single.connection.failure ≡ None }
         requires none { acts.old.items ≡ [] }
+        requires no_rest { rest.old.items ≡ [] }
         ensures turning { OnOk result (
             turning_with self.new acts.new.items ≡ next_turn self.old event.now
             ) }
+        ensures comeback { IfOk result (λ comeback. comeback ≡ comeback_by self.old event.now) }
+        ensures rest { OnOk result (rest.new.items ≡ last_acts self.old event.now) }
         ensures unspent { OnOk result (has_run_out self.new ≡ false) }
         ensures timers { OnOk result (
             length self.old.timers + length (timers_of self.old.single.link acts.new.items)
             < 2 ^ 32
             ) }
         ensures sources { OnOk result (
-            length self.old.sources
-            + length (sources_of self.old.single.link (length self.old.sources) acts.new.items)
+            length self.old.sources + length (sources_of self.old.single.link acts.new.items)
             < 2 ^ 32
             ) }
+        ensures showable { IfOk result (λ comeback. IsShowable (bound_of self.new.manager) comeback) }
         ensures spent { IsErrOf result ConnectionError.Spent
             → has_run_out (next_turn self.old event.now).core ≡ true }
         ensures fewer { OnOk result (IsFewer self.new) }
+        ensures counted { OnOk result (IsCounted self.new) }
         ensures sound { OnOk result (self.new.single.connection.failure ≡ None) }
     {
         self.turns += 1;
+        let over = has_ended(&self.single.connection.life);
         match self.run(alloc, event, acts) {
             Ok(()) => {}
             Err(error) => return Err(error),
         }
-        let link = self.single.link;
-        note_timers(link, acts.as_slice(), &mut self.timers)?;
-        note_sources(link, acts.as_slice(), &mut self.sources)?;
+        let comeback = match self.end_either(alloc, event, over, acts, rest) {
+            Ok(comeback) => comeback,
+            Err(error) => return Err(error),
+        };
         if self.is_spent() {
             return Err(ConnectionError::Spent);
         }
-        Ok(())
+        Ok(comeback)
     }
 }
 
@@ -474,9 +609,7 @@ fn note_timer(link: u32, act: &LinkAct, timers: &mut Seq<Purpose>) -> Result<(),
 
 /// What the sources of acts of the connection of that link are for is kept, in order.
 fn note_sources(link: u32, acts: &[LinkAct], sources: &mut Seq<SourceUse>) -> Result<(), AllocError>
-    ensures { OnOk result (
-        sources.new ≡ sources.old ++ sources_of link (length sources.old) acts.now
-        ) }
+    ensures { OnOk result (sources.new ≡ sources.old ++ sources_of link acts.now) }
 {
     for act in acts {
         note_source(link, act, sources)?;
@@ -484,25 +617,13 @@ fn note_sources(link: u32, acts: &[LinkAct], sources: &mut Seq<SourceUse>) -> Re
     Ok(())
 }
 
-/// What the source of an act is for is kept, if it asks for one: the first is for the setup, and any other for renewals.
+/// What the source of an act is for is kept, if it asks for one.
 fn note_source(link: u32, act: &LinkAct, sources: &mut Seq<SourceUse>) -> Result<(), AllocError>
-    ensures { OnOk result (
-        sources.new ≡ sources.old ++ source_of link (length sources.old) act.now
-        ) }
+    ensures { OnOk result (sources.new ≡ sources.old ++ source_of link act.now) }
 {
     match act {
-        LinkAct::NeedCreds => sources.push(use_after(link, sources.len())),
+        LinkAct::NeedCreds => sources.push(SourceUse::Setup { link }),
+        LinkAct::NeedRenewals => sources.push(SourceUse::Renewal { link }),
         _ => Ok(()),
-    }
-}
-
-/// What the next source of the connection of that link is for, behind so many.
-fn use_after(link: u32, count: usize) -> SourceUse
-    ensures { result ≡ use_after link count }
-{
-    if count == 0 {
-        SourceUse::Setup { link }
-    } else {
-        SourceUse::Renewal { link }
     }
 }

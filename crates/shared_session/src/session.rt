@@ -1,24 +1,21 @@
 ghost use Rattle.std.specs.Prelude.{◌≡◌, ◌⊎◌, ℕ, ◌<◌, ◌+◌, ◌^◌, ◌↔◌, [], ◌∷◌, ◌++◌, length, take, true};
 ghost use Rattle.std.specs.Prelude.{false, Some, OnOk, OnErr, IfOk, IsErrOf, option_copied};
-ghost use Rattle.shared_session.specs.Turn.{shown_each, timers_of, sources_of};
-ghost use Rattle.shared_session.specs.Done.{done_each, put_each};
-ghost use Rattle.driver_model.specs.Config.{address, told_info, first_fault};
-ghost use Rattle.shared_session.specs.Replay.{first_link, opening_core, opening_actions, with_room};
-ghost use Rattle.shared_session.specs.Replay.{connect_timers, timer_asked, IsSound};
+ghost use Rattle.shared_session.specs.Done.{put_each};
+ghost use Rattle.driver_model.specs.Config.{first_fault};
+ghost use Rattle.shared_session.specs.Replay.{opening_actions, with_room, IsSound};
 
-use crate::core_state::{Core, Single};
+use crate::core_state::Core;
 use crate::errors::{MakeError, StepError};
-use crate::showing::{Done, show_each};
-use connection_info::{ConnectionInfo, OpenError, RedisConnectionInfo};
+use crate::opening::{opened, show_opening};
+use crate::showing::Done;
+use crate::turns::{Rooms, make_turn};
+use connection_info::OpenError;
 use containers::Seq;
-use driver_model::{Action, Cause, Config, Event, EventKind, Outcome, Purpose};
-use mux_conn::{ConnectionError, LinkAct, MultiplexedConnection, Renewal, Rest, Spare};
+use driver_model::{Action, Cause, Config, Event, EventKind, Outcome};
+use mux_conn::{ConnectionError, Rest, Spare};
 use redis_error::ConfigName;
 use std::alloc::{AllocError, Global};
 use std::marker::Model;
-
-/// The number of the first link.
-const FIRST_LINK: u32 = 0;
 
 /// Whether a session has failed.
 #[derive(Clone, Copy, PartialEq, Eq)]
@@ -38,7 +35,7 @@ pub struct Session {
     core: Core,
     outcomes: Seq<Option<Outcome>>,
     /// Room for the lists of a turn: of its acts, and of its outcomes.
-    acts: Spare<LinkAct>,
+    rooms: Rooms,
     done: Spare<Done>,
     failure: Failure,
 }
@@ -68,7 +65,7 @@ impl Drop for Session {
             events,
             core,
             outcomes,
-            acts,
+            rooms,
             done,
             failure: _,
         } = self;
@@ -76,101 +73,9 @@ impl Drop for Session {
         drop(events);
         drop(core);
         drop(outcomes);
-        drop(acts);
+        drop(rooms);
         drop(done);
     }
-}
-
-/// What the timer of the opening is asked for, where the connect is bounded.
-fn opening_timers(alloc: Global, timeout: Option<u64>) -> Result<Seq<Purpose>, AllocError>
-    ensures { IfOk result (λ timers. timers ≡ connect_timers timeout) }
-{
-    let mut timers = Seq::new(alloc);
-    match timeout {
-        Some(_) => timers.push(Purpose::Connect { link: FIRST_LINK })?,
-        None => {}
-    }
-    Ok(timers)
-}
-
-/// The state after the opening, where this is what is said to the server.
-fn opened(alloc: Global, config: &Config, info: RedisConnectionInfo) -> Result<Core, AllocError>
-    requires { info ≡ told_info config.now }
-    ensures { IfOk result (λ core. (word : ℕ) → core ≡ opening_core config.now word) }
-{
-    let timers = opening_timers(alloc, config.connect_timeout())?;
-    let renewal = Renewal::new(alloc, config.wants_credentials(), config.response_timeout());
-    Ok(Core {
-        kind: config.kind,
-        turns: 1,
-        links: FIRST_LINK + 1,
-        shut: false,
-        timeout: config.response_timeout(),
-        timers,
-        sources: Seq::new(alloc),
-        table: Seq::new(alloc),
-        single: Single {
-            link: FIRST_LINK,
-            connection: MultiplexedConnection::new(
-                alloc,
-                config.buffer_size(),
-                config.boundary(),
-                config.permits(),
-                config.hearing(),
-                info,
-                renewal,
-            ),
-        },
-    })
-}
-
-/// The timer of the opening is asked for, where the connect is bounded.
-fn show_timer(timeout: Option<u64>, out: &mut Vec<Action>) -> Result<(), AllocError>
-    ensures { OnOk result (out.new.items ≡ out.old.items ++ timer_asked timeout) }
-{
-    match timeout {
-        Some(ms) => {
-            out.push(Action::Timer {
-                timer: 0,
-                ms,
-                purpose: Purpose::Connect { link: FIRST_LINK },
-            })?;
-            Ok(())
-        }
-        None => Ok(()),
-    }
-}
-
-/// The actions of the opening. After an error `out` is as it was.
-fn show_opening(
-    alloc: Global,
-    config: &Config,
-    info: ConnectionInfo,
-    word: u64,
-    out: &mut Vec<Action>,
-) -> Result<(), AllocError>
-    requires { address config.now ≡ Some info }
-    ensures actions { OnOk result (
-        out.new.items ≡ out.old.items ++ opening_actions config.now word
-        ) }
-    ensures err { OnErr result (out.new.items ≡ out.old.items) }
-{
-    let shown = config.clone(alloc)?;
-    let mut actions = Vec::new(alloc);
-    actions.push(Action::Turn {
-        number: 0,
-        cause: Cause::Opening {
-            config: shown,
-            word,
-        },
-    })?;
-    actions.push(Action::Connect {
-        link: FIRST_LINK,
-        host: info.host,
-        port: info.port,
-    })?;
-    show_timer(config.connect_timeout(), &mut actions)?;
-    out.append(&mut actions)
 }
 
 impl Session {
@@ -206,7 +111,7 @@ impl Session {
         let events = Seq::new(alloc);
         let outcomes = Seq::new(alloc);
         let told = config.told_info(alloc, &info)?;
-        let core = opened(alloc, &config, told)?;
+        let core = opened(alloc, &config, &info, told)?;
         show_opening(alloc, &config, info, word, out)?;
         Ok(Session {
             config,
@@ -214,7 +119,7 @@ impl Session {
             events,
             core,
             outcomes,
-            acts: Spare::new(alloc),
+            rooms: Rooms::new(alloc),
             done: Spare::new(alloc),
             failure: Failure::Sound,
         })
@@ -425,22 +330,25 @@ impl Session {
             return Err(StepError::Spent { events });
         }
         self.failure = Failure::NoMemory;
-        let link = self.core.single.link;
-        let timers = self.core.timers.len() as u64;
-        let sources = self.core.sources.len() as u64;
-        let mut acts = self.acts.take(alloc);
-        match self.core.turn(alloc, &event.kind, &mut acts) {
+        let mut done = self.done.take(alloc);
+        match make_turn(
+            alloc,
+            &mut self.core,
+            &event,
+            &mut self.rooms,
+            &mut done,
+            out,
+        ) {
             Ok(()) => {}
             Err(ConnectionError::Spent) => {
+                out.truncate(before);
                 self.failure = Failure::Spent;
                 return Err(StepError::Spent { events });
             }
-            Err(ConnectionError::NoMemory) => return Err(StepError::NoMemory),
-        }
-        let mut done = self.done.take(alloc);
-        match show_turn(alloc, link, timers, sources, acts, &mut done, out) {
-            Ok(acts) => self.acts.give(acts),
-            Err(_) => return Err(StepError::NoMemory),
+            Err(ConnectionError::NoMemory) => {
+                out.truncate(before);
+                return Err(StepError::NoMemory);
+            }
         }
         match keep(&mut self.outcomes, &mut self.events, event) {
             Ok(()) => {}
@@ -475,36 +383,6 @@ fn show_line(
         cause: Cause::Event { event },
     })?;
     Ok(())
-}
-
-/// The effects of a turn are shown, where so many timers, and so many sources of credentials, were asked for before it, and its
-/// outcomes kept. The answer is the list of its acts, emptied. After an error `out` is as it was.
-fn show_turn(
-    alloc: Global,
-    link: u32,
-    timers: u64,
-    sources: u64,
-    acts: Vec<LinkAct>,
-    done: &mut Vec<Done>,
-    out: &mut Vec<Action>,
-) -> Result<Vec<LinkAct>, AllocError>
-    requires timers { timers + length (timers_of link acts.items) < 2 ^ 32 }
-    requires sources { sources + length (sources_of link sources acts.items) < 2 ^ 32 }
-    ensures actions { OnOk result (
-        out.new.items ≡ out.old.items ++ shown_each link timers sources acts.items
-        ) }
-    ensures done { OnOk result (done.new.items ≡ done.old.items ++ done_each acts.items) }
-    ensures emptied { IfOk result (λ list. list.items ≡ []) }
-    ensures err { OnErr result (out.new.items ≡ out.old.items) }
-{
-    let before = out.len();
-    match show_each(alloc, link, timers, sources, acts, done, out) {
-        Ok(list) => Ok(list),
-        Err(error) => {
-            out.truncate(before);
-            Err(error)
-        }
-    }
 }
 
 /// Room for the outcome of a submission, and the event in the history. After an error both are as before.

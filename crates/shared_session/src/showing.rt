@@ -45,6 +45,17 @@ fn timer_asked(timer: u64, ms: u64, purpose: Purpose) -> Action
     }
 }
 
+/// A source of credentials is asked for, of that number.
+fn source_asked(source: u64, link: u32) -> Action
+    requires { source < 2 ^ 32 }
+    ensures { result ≡ Action.NeedCreds source link }
+{
+    Action::NeedCreds {
+        source: source as u32,
+        link,
+    }
+}
+
 /// A message of the link starts.
 fn started(link: u32, message: u32, owner: Owner, need: u64, len: u64) -> Action
     ensures { result ≡ Action.Start link message owner need len }
@@ -62,11 +73,15 @@ fn started(link: u32, message: u32, owner: Owner, need: u64, len: u64) -> Action
 /// before.
 fn action_of(link: u32, timer: u64, source: u64, act: LinkAct) -> Action
     requires timer { timer + length (timer_of link act) < 2 ^ 32 }
-    requires source { source + length (source_of link source act) < 2 ^ 32 }
+    requires source { source + length (source_of link act) < 2 ^ 32 }
     ensures { result ≡ shown link timer source act }
 {
     match act {
         LinkAct::Created { error } => Action::Created { error },
+        LinkAct::Round { request } => Action::Round {
+            owner: try_of(request),
+            link: Some(link),
+        },
         LinkAct::Took { request, count } => Action::Took {
             owner: try_of(request),
             link,
@@ -76,10 +91,8 @@ fn action_of(link: u32, timer: u64, source: u64, act: LinkAct) -> Action
         LinkAct::RenewalTimer { number, ms } => {
             timer_asked(timer, ms, Purpose::Renewal { link, number })
         }
-        LinkAct::NeedCreds => Action::NeedCreds {
-            source: source as u32,
-            link,
-        },
+        LinkAct::NeedCreds => source_asked(source, link),
+        LinkAct::NeedRenewals => source_asked(source, link),
         LinkAct::Push { info } => Action::Push { link, info },
         LinkAct::Message { msg } => Action::Message { msg },
         LinkAct::Monitor { value } => Action::Monitor { value },
@@ -118,10 +131,11 @@ fn timers_in(act: &LinkAct) -> u64
 
 /// How many sources of credentials an act asks for.
 fn sources_in(act: &LinkAct) -> u64
-    ensures { (link n : ℕ) → result ≡ length (source_of link n act.now) }
+    ensures { (link : ℕ) → result ≡ length (source_of link act.now) }
 {
     match act {
         LinkAct::NeedCreds => 1,
+        LinkAct::NeedRenewals => 1,
         _ => 0,
     }
 }
@@ -155,7 +169,7 @@ pub fn show_each(
     out: &mut Vec<Action>,
 ) -> Result<Vec<LinkAct>, AllocError>
     requires timers { timers + length (timers_of link acts.items) < 2 ^ 32 }
-    requires sources { sources + length (sources_of link sources acts.items) < 2 ^ 32 }
+    requires sources { sources + length (sources_of link acts.items) < 2 ^ 32 }
     ensures actions { OnOk result (
         out.new.items ≡ out.old.items ++ shown_each link timers sources acts.items
         ) }

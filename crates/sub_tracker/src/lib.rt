@@ -6,7 +6,7 @@ mod name_set;
 mod tracker;
 
 pub use laws::{one_pipeline_resubscribes, the_last_command_decides};
-pub use mux_resp::SubscriptionAction;
+pub use resp_write::SubscriptionAction;
 pub use tracker::SubscriptionTracker;
 
 #[cfg(test)]

@@ -6,7 +6,8 @@ ghost use Rattle.sub_tracker.specs.Subscribed.{byte_order};
 ghost use Rattle.sub_tracker.specs.Held.{with_all, without_all};
 ghost use Rattle.sub_tracker.specs.Pipeline.{command_for, followed_by};
 
-use mux_resp::{Cmd, Names, Pipeline, cmd};
+use containers::Names;
+use resp_write::{Cmd, Pipeline, cmd};
 use std::alloc::{AllocError, Global};
 use std::collections::BTreeSet;
 use std::marker::Model;

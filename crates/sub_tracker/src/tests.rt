@@ -1,5 +1,5 @@
 use crate::SubscriptionTracker;
-use mux_resp::Cmd;
+use resp_write::Cmd;
 use std::alloc::{AllocError, Global};
 
 /// Tracks a command, and says whether it is one of the six.

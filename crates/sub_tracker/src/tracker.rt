@@ -4,7 +4,8 @@ ghost use Rattle.sub_tracker.specs.Held.{nothing, holding, held_with, held_after
 ghost use Rattle.sub_tracker.specs.Pipeline.{request_of, resubscription, Resubscribes};
 
 use crate::name_set::NameSet;
-use mux_resp::{Bytes, Cmd, Names, Pipeline, SubscriptionAction};
+use containers::{Bytes, Names};
+use resp_write::{Cmd, Pipeline, SubscriptionAction};
 use std::alloc::{AllocError, Global};
 use std::marker::Model;
 

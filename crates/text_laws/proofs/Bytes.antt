@@ -1,5 +1,5 @@
 -- The words of a cause are bytes, and its numbers are read back.
-use Rattle.std.proofs.Common.{◌≡◌, ℕ, zero, suc, ◌+◌, ◌/◌, ◌%◌, ◌^◌, ◌<◌, ◌≤◌, Bool, true, false, not, ◌&&◌, ◌||◌, ◌==◌, nat_lt, nat_le, List, [], ◌∷◌, ◌++◌, length, get_or, All, Option, Some, None, IfSome, codes, decimal, bytes_eq, refl, ap, ◌∙◌, if◌then◌else◌, arith}
+use Rattle.std.proofs.Common.{◌≡◌, ℕ, zero, suc, ◌+◌, ◌/◌, ◌%◌, ◌^◌, ◌<◌, ◌≤◌, Bool, true, false, not, ◌&&◌, ◌||◌, ◌==◌, nat_lt, nat_le, List, [], ◌∷◌, ◌++◌, length, get_or, All, Option, Some, None, IfSome, option_map, codes, decimal, bytes_eq, refl, ap, ◌∙◌, if◌then◌else◌, arith}
 use Rattle.std.specs.Fmt.{digits, digits_onto, digit_glyph}
 use Rattle.std.specs.List.{list_all}
 use Rattle.std.specs.Str.{all_ascii_digits}
@@ -12,6 +12,10 @@ use Rattle.std.proofs.lemmas.List.Elements.{All-nil, All-cons, All-head, All-tai
 use Rattle.driver_model.specs.declared.action.Cause.{Cause}
 use Rattle.driver_model.specs.declared.action.Cause.TheVariants.{Opening, Event}
 use Rattle.driver_model.specs.declared.config.Config.{Config}
+use Rattle.driver_model.specs.declared.config.Config.TheVariants as variant
+use Rattle.driver_model.specs.declared.config_words.AddressWords.{AddressWords}
+use Rattle.driver_model.specs.declared.config_words.ConnectionWords.{ConnectionWords}
+use Rattle.driver_model.specs.declared.config_words.ManagerWords.{ManagerWords}
 use Rattle.driver_model.specs.declared.kind.SessionKind.{SessionKind}
 use Rattle.driver_model.specs.declared.kind.SessionKind.TheVariants as kind
 use Rattle.driver_model.specs.Request.{listed}
@@ -25,9 +29,10 @@ use Rattle.redis_error.specs.declared.fault_kind.FaultKind.{FaultKind}
 use Rattle.redis_error.specs.declared.fault_kind.FaultKind.TheVariants as fault
 use Rattle.redis_error.specs.Names.{fault_name}
 use Rattle.script_text.specs.Numbers.{is_decimal, number}
-use Rattle.trace_text.specs.Show.{url, connect_words, response_words, buffer_words, limit_words, boundary_words, lib_words, times_words, numbers_words, later_words, time_word, draw_words, kind_word, config_words, first_of, behind_first, call_word, submission_words, submission_more, event_words, event_more, cause_words, cause_more, push_words, creds_words, switch_words}
+use Rattle.script_text.specs.Words.{cut_at}
+use Rattle.trace_text.specs.Show.{url, connect_words, response_words, buffer_words, limit_words, boundary_words, lib_words, retries_words, min_words, max_words, fraction_word, base_words, resub_words, delay_words, manager_words, times_words, numbers_words, setting_words, session_words, time_word, draw_words, kind_word, config_words, first_of, behind_first, call_word, submission_words, submission_more, event_words, event_more, cause_words, cause_more, push_words, creds_words, switch_words}
 use Rattle.containers.proofs.Choices.{chosen, lt_from, not_lt_from, le_test, ne_test}
-use Rattle.text_laws.specs.Fits.{IsByte, AreBytes, FitsSubmission, FitsKind, FitsEvent, FitsConfig}
+use Rattle.text_laws.specs.Fits.{IsByte, AreBytes, FitsSubmission, FitsKind, FitsEvent, FitsAddress, FitsConfig}
 
 -- a text whose bytes were looked at one by one
 pub looked : (bs : List ℕ) → list_all (λ b. nat_lt b 256) bs ≡ true → AreBytes bs
@@ -59,6 +64,18 @@ decimal_bytes n = All-weaker IsDigit IsByte (λ b d. omega (arith, d.1)) (decima
 no_none : (ds : List ℕ) → All IsDigit ds → bytes_eq ds (codes "none") ≡ false
 no_none [] each = refl
 no_none (d ∷ ds) each = ap (λ b. b && bytes_eq ds (codes "one")) (ne_test d 110 (λ e. let first = All-head IsDigit d ds each in omega (arith, first.1, e)))
+
+-- digits before a `/` and what is behind it, cut there
+digits_cut : (ds rest : List ℕ) → All IsDigit ds → cut_at 47 (ds ++ 47 ∷ rest) ≡ Some (ds, rest)
+digits_cut [] rest each = refl
+digits_cut (d ∷ ds) rest each =
+    let first = All-head IsDigit d ds each in
+    ap (λ b. if b then Some ([], ds ++ 47 ∷ rest) else option_map (λ c. (d ∷ c.0, c.1)) (cut_at 47 (ds ++ 47 ∷ rest))) (ne_test d 47 (λ e. omega (arith, first.0, e)))
+    ∙ ap (option_map (λ c. (d ∷ c.0, c.1))) (digits_cut ds rest (All-tail IsDigit d ds each))
+
+-- the parts of a fraction
+pub fraction_cut : (base : ℕ × ℕ) → cut_at 47 (fraction_word base) ≡ Some (decimal base.0, decimal base.1)
+fraction_cut base = digits_cut (decimal base.0) (decimal base.1) (decimal_digits base.0)
 
 -- a number is never the word `none`
 pub decimal_is_no_none : (n : ℕ) → bytes_eq (decimal n) (codes "none") ≡ false
@@ -203,9 +220,9 @@ kind_more_bytes event.Shutdown fits = All-nil (All AreBytes)
 draw_bytes : (w : ℕ) → All AreBytes (draw_words w)
 draw_bytes w = chosen (All AreBytes) (w == 0) [] ((64 ∷ decimal w) ∷ []) (λ t. no_words) (λ f. word_and (64 ∷ decimal w) [] (All-cons IsByte 64 (decimal w) (omega arith) (decimal_bytes w)) no_words)
 
-url_bytes : (config : Config) → FitsConfig config → AreBytes (url config)
+url_bytes : (address : AddressWords) → FitsAddress address → AreBytes (url address)
 unfolding url
-url_bytes config fits = All-append IsByte (codes "url=") config.url (looked (codes "url=") refl) fits.url
+url_bytes address fits = All-append IsByte (codes "url=") address.url (looked (codes "url=") refl) fits
 
 -- a setting that is given
 setting_bytes : (key value : List ℕ) → AreBytes key → AreBytes value → All AreBytes ((key ++ value) ∷ [])
@@ -248,33 +265,82 @@ lib_bytes None = no_words
 lib_bytes (Some true) = word_and (codes "lib=on") [] (looked (codes "lib=on") refl) no_words
 lib_bytes (Some false) = word_and (codes "lib=off") [] (looked (codes "lib=off") refl) no_words
 
-times_bytes : (config : Config) → All AreBytes (times_words config)
-times_bytes config = All-append AreBytes (connect_words config.connect) (response_words config.response) (connect_bytes config.connect) (response_bytes config.response)
+retries_bytes : (retries : Option ℕ) → All AreBytes (retries_words retries)
+retries_bytes None = no_words
+retries_bytes (Some count) = setting_bytes (codes "retries=") (decimal count) (looked (codes "retries=") refl) (decimal_bytes count)
 
-numbers_bytes : (config : Config) → All AreBytes (numbers_words config)
-numbers_bytes config =
-    All-append AreBytes (buffer_words config.buffer ++ limit_words config.limit) (boundary_words config.boundary)
-    (All-append AreBytes (buffer_words config.buffer) (limit_words config.limit) (buffer_bytes config.buffer) (limit_bytes config.limit)) (boundary_bytes config.boundary)
+min_bytes : (min : Option ℕ) → All AreBytes (min_words min)
+min_bytes None = no_words
+min_bytes (Some ms) = setting_bytes (codes "min=") (decimal ms) (looked (codes "min=") refl) (decimal_bytes ms)
 
-switch_bytes : (config : Config) → All AreBytes (switch_words config)
-switch_bytes config =
-    All-append AreBytes (push_words config.push ++ creds_words config.creds) (lib_words config.lib)
-    (All-append AreBytes (push_words config.push) (creds_words config.creds) (push_bytes config.push) (creds_bytes config.creds)) (lib_bytes config.lib)
+max_bytes : (max : Option (Option ℕ)) → All AreBytes (max_words max)
+max_bytes None = no_words
+max_bytes (Some None) = word_and (codes "max=none") [] (looked (codes "max=none") refl) no_words
+max_bytes (Some (Some ms)) = setting_bytes (codes "max=") (decimal ms) (looked (codes "max=") refl) (decimal_bytes ms)
 
-later_bytes : (config : Config) → All AreBytes (later_words config)
-later_bytes config =
-    All-append AreBytes (times_words config ++ numbers_words config) (switch_words config)
-    (All-append AreBytes (times_words config) (numbers_words config) (times_bytes config) (numbers_bytes config)) (switch_bytes config)
+fraction_bytes : (base : ℕ × ℕ) → AreBytes (fraction_word base)
+fraction_bytes base =
+    All-append IsByte (decimal base.0) (47 ∷ decimal base.1) (decimal_bytes base.0) (All-cons IsByte 47 (decimal base.1) (omega arith) (decimal_bytes base.1))
+
+base_bytes : (base : Option (ℕ × ℕ)) → All AreBytes (base_words base)
+base_bytes None = no_words
+base_bytes (Some base) = setting_bytes (codes "base=") (fraction_word base) (looked (codes "base=") refl) (fraction_bytes base)
+
+resub_bytes : (resub : Option Bool) → All AreBytes (resub_words resub)
+resub_bytes None = no_words
+resub_bytes (Some true) = word_and (codes "resub=on") [] (looked (codes "resub=on") refl) no_words
+resub_bytes (Some false) = word_and (codes "resub=off") [] (looked (codes "resub=off") refl) no_words
+
+delays_bytes : (m : ManagerWords) → All AreBytes (delay_words m)
+delays_bytes m =
+    All-append AreBytes (min_words m.min ++ max_words m.max) (base_words m.base)
+    (All-append AreBytes (min_words m.min) (max_words m.max) (min_bytes m.min) (max_bytes m.max)) (base_bytes m.base)
+
+manager_bytes : (m : ManagerWords) → All AreBytes (manager_words m)
+manager_bytes m =
+    All-append AreBytes (retries_words m.retries ++ delay_words m) (resub_words m.resub)
+    (All-append AreBytes (retries_words m.retries) (delay_words m) (retries_bytes m.retries) (delays_bytes m)) (resub_bytes m.resub)
+
+times_bytes : (c : ConnectionWords) → All AreBytes (times_words c)
+times_bytes c = All-append AreBytes (connect_words c.connect) (response_words c.response) (connect_bytes c.connect) (response_bytes c.response)
+
+numbers_bytes : (c : ConnectionWords) → All AreBytes (numbers_words c)
+numbers_bytes c =
+    All-append AreBytes (buffer_words c.buffer ++ limit_words c.limit) (boundary_words c.boundary)
+    (All-append AreBytes (buffer_words c.buffer) (limit_words c.limit) (buffer_bytes c.buffer) (limit_bytes c.limit)) (boundary_bytes c.boundary)
+
+switch_bytes : (c : ConnectionWords) → All AreBytes (switch_words c)
+switch_bytes c = All-append AreBytes (push_words c.push) (creds_words c.creds) (push_bytes c.push) (creds_bytes c.creds)
+
+settings_bytes : (c : ConnectionWords) → All AreBytes (setting_words c)
+settings_bytes c =
+    All-append AreBytes (times_words c ++ numbers_words c) (switch_words c) (All-append AreBytes (times_words c) (numbers_words c) (times_bytes c) (numbers_bytes c)) (switch_bytes c)
 
 name_bytes : (kind : SessionKind) → AreBytes (kind_word kind)
 name_bytes kind.Single = looked (codes "single") refl
+name_bytes (kind.Manager false) = looked (codes "manager") refl
+name_bytes (kind.Manager true) = looked (codes "lazy") refl
 name_bytes kind.PubSub = looked (codes "pubsub") refl
 name_bytes kind.Monitor = looked (codes "monitor") refl
 
+-- what a session is, and its address, before what else is given of it
+session_at : (k : SessionKind) (address : AddressWords) (more : List (List ℕ)) → FitsAddress address → All AreBytes more → All AreBytes (kind_word k ∷ url address ∷ more)
+session_at k address more fits rest = word_and (kind_word k) (url address ∷ more) (name_bytes k) (word_and (url address) more (url_bytes address fits) rest)
+
+-- how a connection behaves, and whether its server is told which library speaks
+connection_bytes : (connection : ConnectionWords) (lib : Option Bool) → All AreBytes (setting_words connection ++ lib_words lib)
+connection_bytes connection lib = All-append AreBytes (setting_words connection) (lib_words lib) (settings_bytes connection) (lib_bytes lib)
+
+session_bytes : (config : Config) → FitsConfig config → All AreBytes (session_words config)
+session_bytes (variant.Single address connection) fits = session_at kind.Single address (setting_words connection ++ lib_words address.lib) fits.0 (connection_bytes connection address.lib)
+session_bytes (variant.Manager lazy address connection manager) fits =
+    session_at (kind.Manager lazy) address (setting_words connection ++ lib_words address.lib ++ manager_words manager) fits.0
+    (All-append AreBytes (setting_words connection ++ lib_words address.lib) (manager_words manager) (connection_bytes connection address.lib) (manager_bytes manager))
+session_bytes (variant.PubSub address) fits = session_at kind.PubSub address (lib_words address.lib) fits (lib_bytes address.lib)
+session_bytes (variant.Monitor address) fits = session_at kind.Monitor address (lib_words address.lib) fits (lib_bytes address.lib)
+
 config_bytes : (config : Config) → FitsConfig config → All AreBytes (config_words config)
-config_bytes config fits =
-    word_and (codes "config") (kind_word config.kind ∷ url config ∷ later_words config) (looked (codes "config") refl)
-    (word_and (kind_word config.kind) (url config ∷ later_words config) (name_bytes config.kind) (word_and (url config) (later_words config) (url_bytes config fits) (later_bytes config)))
+config_bytes config fits = word_and (codes "config") (session_words config) (looked (codes "config") refl) (session_bytes config fits)
 
 -- a cause that its type holds
 abbrev pub FitsCause : Cause → Type 0

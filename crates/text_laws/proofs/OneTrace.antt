@@ -6,7 +6,7 @@ use Rattle.script_text.specs.Script.{script_of}
 use Rattle.script_text.specs.declared.script.Script.{Script}
 use Rattle.shared_session.specs.Replay.{trace_of, AreGood}
 use Rattle.trace_text.specs.Show.{show}
-use Rattle.text_laws.specs.Fits.{AreBytes, FitsHistory, HasLine, HaveForms}
+use Rattle.text_laws.specs.Fits.{AreBytes, FitsHistory, HaveForms}
 use Rattle.text_laws.specs.History.{history_of}
 use Rattle.text_laws.proofs.Scripts.{script_fits}
 use Rattle.text_laws.proofs.Traces.{history_back, good_forms}
@@ -27,10 +27,10 @@ same_trace config config' word word' events events' first forms second forms' sa
     ap (λ (s : Script). trace_of s.config s.word s.events)
     (one_history (record { config = config; word = word; events = events }) (record { config = config'; word = word'; events = events' }) (first, forms) (second, forms') same)
 
-pub same_good_trace : (config config' : Config) (word word' : ℕ) (events events' : List Event) → FitsHistory config word events → HasLine config → AreGood config word events → FitsHistory config' word' events' → HasLine config' → AreGood config' word' events'
+pub same_good_trace : (config config' : Config) (word word' : ℕ) (events events' : List Event) → FitsHistory config word events → AreGood config word events → FitsHistory config' word' events' → AreGood config' word' events'
     → show (trace_of config word events) ≡ show (trace_of config' word' events') → trace_of config word events ≡ trace_of config' word' events'
-same_good_trace config config' word word' events events' first line good second line' good' same =
-    same_trace config config' word word' events events' first (good_forms config word events line good) second (good_forms config' word' events' line' good') same
+same_good_trace config config' word word' events events' first good second good' same =
+    same_trace config config' word word' events events' first (good_forms config word events good) second (good_forms config' word' events' good') same
 
 pub same_script : (a b : List ℕ) (s t : Script) → AreBytes a → AreBytes b → script_of a ≡ Ok s → script_of b ≡ Ok t
     → show (trace_of s.config s.word s.events) ≡ show (trace_of t.config t.word t.events) → s ≡ t

@@ -7,6 +7,7 @@ use Rattle.std.proofs.lemmas.List.Elements.{All-nil, All-head, All-tail}
 use Rattle.driver_model.specs.declared.action.Cause.{Cause}
 use Rattle.driver_model.specs.declared.action.Cause.TheVariants as cause
 use Rattle.driver_model.specs.declared.config.Config.{Config}
+use Rattle.driver_model.specs.Config.{kind_of}
 use Rattle.driver_model.specs.declared.kind.SessionKind.{SessionKind}
 use Rattle.driver_model.specs.declared.event.Event.{Event}
 use Rattle.driver_model.specs.declared.event.EventKind.{EventKind}
@@ -25,7 +26,7 @@ use Rattle.trace_text.specs.Words.{escaped, line_of}
 use Rattle.trace_text.specs.Show.{cause_words, cause_more, event_words, event_more, script_line}
 use Rattle.trace_text.proofs.ScriptLines.{some_cause}
 use Rattle.containers.proofs.Choices.{chosen}
-use Rattle.text_laws.specs.Fits.{AreBytes, FitsEvent, FitsHistory, HasLine, HasForm, WithForm, HaveForms}
+use Rattle.text_laws.specs.Fits.{AreBytes, FitsEvent, FitsHistory, HasForm, WithForm, HaveForms}
 use Rattle.text_laws.specs.Records.{event_lines, record_text, TellsRecord}
 use Rattle.text_laws.proofs.Back.{event_back, opening_back}
 use Rattle.text_laws.proofs.Bytes.{FitsCause, cause_bytes, more_bytes, looked, word_and, no_words}
@@ -155,15 +156,15 @@ events_told session (e ∷ es) fits forms number room keeps =
     let rest = events_told session es (All-tail FitsEvent e es fits) (All-tail (WithForm session) e es forms) (number + 1) (room - (length (raw_cause c) + 1)) (kept_behind number room (raw_cause c) behind some kept) in
     ap (events_from session number room) lines ∙ an_event session number room e (All-head FitsEvent e es fits) (All-head (WithForm session) e es forms) behind some kept es rest
 
-an_opening : (config : Config) (word : ℕ) → FitsCause (cause.Opening config word) → HasLine config → (behind : List (List ℕ)) → 0 < length behind → Keeps 1 max_text (raw_cause (cause.Opening config word) ∷ behind) → (es : List Event)
-    → events_from config.kind 2 (max_text - (length (raw_cause (cause.Opening config word)) + 1)) behind ≡ Ok es
+an_opening : (config : Config) (word : ℕ) → FitsCause (cause.Opening config word) → (behind : List (List ℕ)) → 0 < length behind → Keeps 1 max_text (raw_cause (cause.Opening config word) ∷ behind) → (es : List Event)
+    → events_from (kind_of config) 2 (max_text - (length (raw_cause (cause.Opening config word)) + 1)) behind ≡ Ok es
     → script_from (raw_cause (cause.Opening config word) ∷ behind) ≡ Ok (record { config = config; word = word; events = es })
-an_opening config word fits has behind some keeps es rest =
+an_opening config word fits behind some keeps es rest =
     let line = raw_cause (cause.Opening config word) in
     let left = λ (session : SessionKind). events_from session 2 (max_text - (length line + 1)) behind in
     ap (λ o. config_then (option_and_then opening_of (option_and_then words_of_line o)) left) (kept_line 1 max_text line behind some keeps)
     ∙ ap (λ o. config_then (option_and_then opening_of o) left) (opening_told config word fits)
-    ∙ ap (λ o. config_then o left) (opening_back config word fits.0 has fits.1)
+    ∙ ap (λ o. config_then o left) (opening_back config word fits.0 fits.1)
     ∙ ap (result_map_both (λ events. record { config = config; word = word; events = events }) (λ n. n)) rest
 
 -- where the text keeps the limits, it is the script of the history
@@ -177,8 +178,8 @@ record_told config word events fits forms keeps =
     let text = append_assoc (script_line c) (event_lines events) (codes "end\n") ∙ ap (λ t. script_line c ++ t) (lines_are events) in
     let lines = ap (parts 10) text ∙ parts_line (cause_words c) (cause_more c) (lines_behind events) in
     let kept = subst (Keeps 1 max_text) lines (keeps_parts (record_text config word events) keeps) in
-    let rest = events_told config.kind events fits.events forms.events 2 (max_text - (length (raw_cause c) + 1)) (kept_behind 1 max_text (raw_cause c) behind some kept) in
-    ap script_from lines ∙ an_opening config word (fits.config, fits.word) forms.config behind some kept events rest
+    let rest = events_told (kind_of config) events fits.events forms 2 (max_text - (length (raw_cause c) + 1)) (kept_behind 1 max_text (raw_cause c) behind some kept) in
+    ap script_from lines ∙ an_opening config word (fits.config, fits.word) behind some kept events rest
 
 told_by : (config : Config) (word : ℕ) (events : List Event) → FitsHistory config word events → HaveForms config events → (keeps : Bool) → keeps_limits (record_text config word events) ≡ keeps
     → MatchBool keeps (script_of (record_text config word events) ≡ Ok (record { config = config; word = word; events = events })) (IsErr (script_of (record_text config word events)))

@@ -1,22 +1,17 @@
--- The configurations of scripts are configurations that their type holds, and have lines.
-use Rattle.std.proofs.Common.{◌≡◌, ℕ, ◌^◌, ◌<◌, ◌≤◌, ◌==◌, ◌&&◌, Bool, true, false, List, [], ◌∷◌, ◌++◌, All, Option, Some, None, IfSome, bytes_eq, option_map, option_and_then, codes, if◌then◌else◌, refl, ap, ◌∙◌, subst, arith}
-use Rattle.std.specs.List.{list_all, list_any}
-use Rattle.std.proofs.lemmas.Bool.{and_parts, both_ways}
-use Rattle.std.proofs.lemmas.Slice.Eq.{bytes_eq-Decides}
+-- The configurations of scripts are configurations that their type holds.
+use Rattle.std.proofs.Common.{ℕ, ◌^◌, ◌<◌, ◌≤◌, ◌==◌, List, [], ◌∷◌, All, Option, Some, None, IfSome, bytes_eq, option_map, option_and_then, codes, if◌then◌else◌, arith}
 use Rattle.std.specs.Option.{option_to_list}
 use Rattle.std.proofs.lemmas.List.Elements.{All-nil, All-cons, All-head, All-tail, All-append}
 use Rattle.containers.proofs.Choices.{chosen}
 use Rattle.driver_model.specs.declared.config.Config.{Config}
-use Rattle.driver_model.specs.Config.{is_bare}
-use Rattle.std.specs.Prelude.{is_none}
 use Rattle.driver_model.specs.declared.kind.SessionKind.{SessionKind}
 use Rattle.driver_model.specs.declared.kind.SessionKind.TheVariants as kind
 use Rattle.script_text.specs.Words.{LineWords, cut_at}
-use Rattle.script_text.specs.Numbers.{number, max_u32, max_u64, time_limit, switch}
+use Rattle.script_text.specs.Numbers.{number, max_u32, max_u64, time_limit, fraction_by, fraction}
 use Rattle.script_text.specs.Draws.{drawn}
 use Rattle.script_text.specs.EventLine.{whole}
-use Rattle.script_text.specs.ConfigLine.{has_key, is_setting, link_keys, keys, are_allowed, value_of, values, only, given, config_with, session, kind_named, named_session, config_of, opening_of}
-use Rattle.text_laws.specs.Fits.{IsByte, AreBytes, FitsLimit, FitsNumber, FitsConfig, HasLine}
+use Rattle.script_text.specs.ConfigLine.{value_of, values, only, connection_with, manager_with, config_with, session, kind_named, named_session, config_of, opening_of}
+use Rattle.text_laws.specs.Fits.{IsByte, AreBytes, FitsLimit, FitsNumber, FitsConnection, FitsFraction, FitsManager, FitsConfig}
 use Rattle.text_laws.proofs.Held.{mapped, then_read, if_read, any_read, number_within}
 use Rattle.text_laws.proofs.ScriptEvents.{IsByteLine, FitsDrawn, drawn_fits, by_form, whole_fits, time_fits}
 
@@ -62,9 +57,8 @@ given_fits : (most bound : ℕ) → most < bound → (value : Option (List ℕ))
 given_fits most bound less None = tt
 given_fits most bound less (Some value) = bounded most bound less (number most value) (number_within most value)
 
-with_url : (k : SessionKind) (words : List (List ℕ)) (url : List ℕ) → AreBytes url → FitsConfig (config_with k words url)
-with_url k words url small = record {
-  url = small;
+connection_fits : (words : List (List ℕ)) → FitsConnection (connection_with words)
+connection_fits words = record {
   connect = limit_fits (only (values (codes "connect") words));
   response = limit_fits (only (values (codes "response") words));
   limit = given_fits max_u32 (2 ^ 32) (omega arith) (only (values (codes "limit") words));
@@ -72,70 +66,63 @@ with_url k words url small = record {
   boundary = given_fits max_u64 (2 ^ 64) (omega arith) (only (values (codes "boundary") words));
 }
 
--- a key that isn't one of these
-abbrev IsOther : List (List ℕ) → List ℕ → Type 0
-IsOther keys key = list_any (bytes_eq key) keys ≡ false
+-- a number of 32 bits
+below_two : (o : Option ℕ) → IfSome o (λ n. n ≤ max_u32) → IfSome o (λ n. n < 2 ^ 32)
+below_two None within = tt
+below_two (Some n) within = omega (arith, within)
 
-other_key : (given : List (List ℕ)) (key : List ℕ) → IsOther given key → (c : List ℕ × List ℕ) (same : Bool) → bytes_eq c.0 key ≡ same → has_key given (Some c) ≡ true → (if same then Some c.1 else None) ≡ None
-other_key given key other c true is has =
-    absurd (both_ways (list_any (bytes_eq key) given) other (subst (λ (k : List ℕ). list_any (bytes_eq k) given ≡ true) ((bytes_eq-Decides c.0 key).0 is) has))
-other_key given key other c false is has = refl
+-- two of them are a fraction
+parts_fit : (parts : List ℕ × List ℕ) → IfSome (fraction_by parts) FitsFraction
+parts_fit parts =
+    then_read (λ n. n < 2 ^ 32) FitsFraction (λ above. option_map (λ below. (above, below)) (number max_u32 parts.1))
+    (λ above small. mapped (λ n. n < 2 ^ 32) FitsFraction (λ below. (above, below)) (λ below less. (small, less)) (number max_u32 parts.1) (below_two (number max_u32 parts.1) (number_within max_u32 parts.1)))
+    (number max_u32 parts.0) (below_two (number max_u32 parts.0) (number_within max_u32 parts.0))
 
-no_value : (given : List (List ℕ)) (key : List ℕ) → IsOther given key → (cut : Option (List ℕ × List ℕ)) → has_key given cut ≡ true → option_and_then (λ c. if bytes_eq c.0 key then Some c.1 else None) cut ≡ None
-no_value given key other None has = refl
-no_value given key other (Some c) has = other_key given key other c (bytes_eq c.0 key) refl has
+fraction_fits : (value : List ℕ) → IfSome (fraction value) FitsFraction
+fraction_fits value = then_read (λ _. Unit {0}) FitsFraction fraction_by (λ parts any. parts_fit parts) (cut_at 47 value) (any_read (cut_at 47 value))
 
--- words that give these keys alone give any other key no value
-no_values : (given : List (List ℕ)) (key : List ℕ) → IsOther given key → (words : List (List ℕ)) → list_all (is_setting given) words ≡ true → values key words ≡ []
-no_values given key other [] are = refl
-no_values given key other (word ∷ words) are =
-    let each = and_parts (is_setting given word) (list_all (is_setting given) words) are in
-    ap (λ o. option_to_list o ++ values key words) (no_value given key other (cut_at 61 word) each.0) ∙ no_values given key other words each.1
+base_fits : (value : Option (List ℕ)) → IfSome (option_and_then fraction value) FitsFraction
+base_fits None = tt
+base_fits (Some value) = fraction_fits value
 
--- so nothing is read of it
-nothing_given : {A : Type 0} (read : List ℕ → Option A) (key : List ℕ) → IsOther link_keys key → (words : List (List ℕ)) → list_all (is_setting link_keys) words ≡ true → is_none (given read (values key words)) ≡ true
-nothing_given read key other words are = ap (λ vs. is_none (given read vs)) (no_values link_keys key other words are)
+manager_fits : (words : List (List ℕ)) → FitsManager (manager_with words)
+manager_fits words = record {
+  retries = given_fits max_u32 (2 ^ 32) (omega arith) (only (values (codes "retries") words));
+  min = given_fits max_u64 (2 ^ 64) (omega arith) (only (values (codes "min") words));
+  max = limit_fits (only (values (codes "max") words));
+  base = base_fits (only (values (codes "base") words));
+}
 
--- of a link nothing is given but its address and whether the library is named
-link_bare : (k : SessionKind) (words : List (List ℕ)) (url : List ℕ) → list_all (is_setting link_keys) words ≡ true → is_bare (config_with k words url) ≡ true
-link_bare k words url are = λ i.
-    nothing_given time_limit (codes "connect") refl words are i && nothing_given time_limit (codes "response") refl words are i && nothing_given (number max_u32) (codes "limit") refl words are i
-    && nothing_given (number max_u32) (codes "buffer") refl words are i && nothing_given (number max_u64) (codes "boundary") refl words are i && nothing_given switch (codes "push") refl words are i
-    && nothing_given switch (codes "creds") refl words are i
+with_url : (k : SessionKind) (words : List (List ℕ)) (url : List ℕ) → AreBytes url → FitsConfig (config_with k words url)
+with_url kind.Single words url small = (small, connection_fits words)
+with_url (kind.Manager lazy) words url small = (small, connection_fits words, manager_fits words)
+with_url kind.PubSub words url small = small
+with_url kind.Monitor words url small = small
 
-line_of : (k : SessionKind) (words : List (List ℕ)) (url : List ℕ) → list_all (is_setting (keys k)) words ≡ true → HasLine (config_with k words url)
-line_of kind.Single words url are = refl
-line_of kind.PubSub words url are = link_bare kind.PubSub words url are
-line_of kind.Monitor words url are = link_bare kind.Monitor words url are
-
--- a configuration that its type holds, and that has a line
-abbrev pub SaidConfig : Config → Type 0
-SaidConfig c = FitsConfig c × HasLine c
-
-session_fits : (k : SessionKind) (words : List (List ℕ)) → All AreBytes words → IfSome (session k words) SaidConfig
+session_fits : (k : SessionKind) (words : List (List ℕ)) → All AreBytes words → IfSome (session k words) FitsConfig
 session_fits k words small =
     let url = only (values (codes "url") words) in
-    if_read SaidConfig _ (option_map (config_with k words) url)
-    (λ t. mapped AreBytes SaidConfig (config_with k words) (λ text bytes. (with_url k words text bytes, line_of k words text (and_parts (list_all (is_setting (keys k)) words) (are_allowed words) t).0))
+    if_read FitsConfig _ (option_map (config_with k words) url)
+    (λ t. mapped AreBytes FitsConfig (config_with k words) (λ text bytes. with_url k words text bytes)
     url (only_bytes (values (codes "url") words) (values_bytes (codes "url") words small)))
 
-named_fits : (words : List (List ℕ)) → All AreBytes words → IfSome (named_session words) SaidConfig
+named_fits : (words : List (List ℕ)) → All AreBytes words → IfSome (named_session words) FitsConfig
 named_fits [] small = tt
 named_fits (name ∷ words) small =
-    then_read (λ _. Unit {0}) SaidConfig (λ k. session k words) (λ k any. session_fits k words (All-tail AreBytes name words small)) (kind_named name) (any_read (kind_named name))
+    then_read (λ _. Unit {0}) FitsConfig (λ k. session k words) (λ k any. session_fits k words (All-tail AreBytes name words small)) (kind_named name) (any_read (kind_named name))
 
-pub config_fits : (line : LineWords) → IsByteLine line → IfSome (config_of line) SaidConfig
+pub config_fits : (line : LineWords) → IsByteLine line → IfSome (config_of line) FitsConfig
 unfolding config_of
 config_fits line small =
-    by_form SaidConfig ((codes "config", whole named_session) ∷ []) (whole_fits SaidConfig named_session named_fits, tt) line.words line.more small.words small.more
+    by_form FitsConfig ((codes "config", whole named_session) ∷ []) (whole_fits FitsConfig named_session named_fits, tt) line.words line.more small.words small.more
 
--- a configuration that its type holds and that has a line, and a word of draws of 64 bits
+-- a configuration that its type holds, and a word of draws of 64 bits
 abbrev pub FitsOpening : Config × ℕ → Type 0
-FitsOpening opening = SaidConfig opening.0 × (opening.1 < 2 ^ 64)
+FitsOpening opening = FitsConfig opening.0 × (opening.1 < 2 ^ 64)
 
 pub opening_fits : (line : LineWords) → IsByteLine line → IfSome (opening_of line) FitsOpening
 opening_fits line small =
     then_read FitsDrawn FitsOpening (λ d. option_map (λ config. (config, d.0)) (config_of (record { words = d.1; more = line.more })))
-    (λ d held. mapped SaidConfig FitsOpening (λ config. (config, d.0)) (λ config fits. (fits, held.0)) (config_of (record { words = d.1; more = line.more }))
+    (λ d held. mapped FitsConfig FitsOpening (λ config. (config, d.0)) (λ config fits. (fits, held.0)) (config_of (record { words = d.1; more = line.more }))
     (config_fits (record { words = d.1; more = line.more }) (record { words = held.1; more = small.more })))
     (drawn line.words) (drawn_fits line.words small.words)

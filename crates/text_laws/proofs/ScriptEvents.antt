@@ -15,7 +15,7 @@ use Rattle.redis_error.specs.declared.fault_kind.FaultKind.{FaultKind}
 use Rattle.script_text.specs.Numbers.{number, max_u32, max_u64, time_limit}
 use Rattle.script_text.specs.Words.{LineWords}
 use Rattle.script_text.specs.Draws.{is_draw, drawn}
-use Rattle.script_text.specs.EventLine.{Forms, by_first, whole, numbered, wrote, came, authorized, denied, timed, alone, faults, fault_among, failed, commands, packed, pinged, calls, submissions, others, events, drawing, event_of}
+use Rattle.script_text.specs.EventLine.{Forms, by_first, whole, numbered, wrote, came, authorized, denied, timed, alone, faults, fault_among, failed, commands, packed, pinged, calls, requests, submissions, others, events, drawing, event_of}
 use Rattle.containers.proofs.Choices.{chosen}
 use Rattle.text_laws.specs.Fits.{AreBytes, FitsCommands, FitsSubmission, FitsNumber, FitsLimit, FitsKind, FitsEvent, HasForm}
 use Rattle.text_laws.proofs.Held.{mapped, then_read, any_read, number_within}
@@ -199,10 +199,14 @@ pinged_fits [] small = (tt, refl)
 pinged_fits (message ∷ []) small = (All-head AreBytes message [] small, refl)
 pinged_fits (message ∷ next ∷ more) small = tt
 
-submissions_fit : (session : SessionKind) → AllRead (SaidSubmission session) (submissions session)
-submissions_fit kind.Single =
+requests_fit : AllRead (SaidSubmission kind.Single) requests
+requests_fit =
     let said = SaidSubmission kind.Single in
     (whole_fits said _ (λ args each. (each, refl)), (whole_fits said _ (λ args each. (each, refl)), (commands_fit, (commands_fit, (packed_fits, calls_fit kind.Single (λ what names is. is))))))
+
+submissions_fit : (session : SessionKind) → AllRead (SaidSubmission session) (submissions session)
+submissions_fit kind.Single = requests_fit
+submissions_fit (kind.Manager lazy) = requests_fit
 submissions_fit kind.PubSub = (whole_fits (SaidSubmission kind.PubSub) pinged pinged_fits, calls_fit kind.PubSub (λ what names is. is))
 submissions_fit kind.Monitor = tt
 

@@ -1,4 +1,4 @@
--- The history that a script is has nothing but what its types hold, its configuration has a line, and its submissions have forms.
+-- The history that a script is has nothing but what its types hold, and its submissions have forms.
 use Rattle.std.proofs.Common.{◌≡◌, ℕ, ◌+◌, ◌-◌, Bool, ◌&&◌, ◌==◌, bytes_eq, codes, nat_le, nat_lt, List, [], ◌∷◌, length, All, Some, None, Option, IfSome, IfOk, Ok, Err, Result, map, option_and_then, if◌then◌else◌}
 use Rattle.std.specs.List.{onto_first, slice_split}
 use Rattle.std.specs.Result.{result_map_both}
@@ -7,6 +7,7 @@ use Rattle.std.proofs.lemmas.Result.{IfOk-at_ok}
 use Rattle.percent_encoding.specs.Percent.{percent_decode}
 use Rattle.percent_encoding.proofs.PercentLemmas.{All-percent_decode}
 use Rattle.driver_model.specs.declared.config.Config.{Config}
+use Rattle.driver_model.specs.Config.{kind_of}
 use Rattle.driver_model.specs.declared.kind.SessionKind.{SessionKind}
 use Rattle.driver_model.specs.declared.event.Event.{Event}
 use Rattle.script_text.specs.declared.script.Script.{Script}
@@ -99,21 +100,21 @@ module _ (session : SessionKind) where
       line_then_fits number (words_at number room (line ∷ rest)) (words_bytes number room (line ∷ rest) each) (is_nothing rest)
       (events_from session (number + 1) (room - (length line + 1)) rest) (events_fit (number + 1) (room - (length line + 1)) rest (All-tail AreBytes line rest each))
 
--- a script that its types hold, whose configuration has a line, and whose submissions have forms
+-- a script that its types hold, and whose submissions have forms
 abbrev FitsScript : Script → Type 0
 FitsScript s = FitsHistory s.config s.word s.events × HaveForms s.config s.events
 
-with_opening : (opening : Config × ℕ) → FitsOpening opening → (rest : Result (List Event) ℕ) → IfOk rest (AllFit opening.0.kind)
+with_opening : (opening : Config × ℕ) → FitsOpening opening → (rest : Result (List Event) ℕ) → IfOk rest (AllFit (kind_of opening.0))
     → IfOk (result_map_both (λ events. script_with opening events) (λ n. n) rest) FitsScript
 with_opening opening fits (Ok es) each = (
-  record { config = fits.0.0; word = fits.1; events = All-weaker (SaidEvent opening.0.kind) FitsEvent (λ e said. said.0) es each },
-  record { config = fits.0.1; events = All-weaker (SaidEvent opening.0.kind) (WithForm opening.0.kind) (λ e said. said.1) es each },
+  record { config = fits.0; word = fits.1; events = All-weaker (SaidEvent (kind_of opening.0)) FitsEvent (λ e said. said.0) es each },
+  All-weaker (SaidEvent (kind_of opening.0)) (WithForm (kind_of opening.0)) (λ e said. said.1) es each,
 )
 with_opening opening fits (Err n) each = tt
 
 config_then_fits : (o : Option (Config × ℕ)) → IfSome o FitsOpening → (rest : SessionKind → Result (List Event) ℕ) → ((session : SessionKind) → IfOk (rest session) (AllFit session)) → IfOk (config_then o rest) FitsScript
 config_then_fits None fits rest each = tt
-config_then_fits (Some opening) fits rest each = with_opening opening fits (rest opening.0.kind) (each opening.0.kind)
+config_then_fits (Some opening) fits rest each = with_opening opening fits (rest (kind_of opening.0)) (each (kind_of opening.0))
 
 lines_fit : (lines : List (List ℕ)) → AllBytes lines → IfOk (script_from lines) FitsScript
 lines_fit [] each = tt

@@ -1,53 +1,78 @@
 -- The turns of a replay's trace are those of its history, and its text tells them.
-use Rattle.std.proofs.Common.{◌≡◌, ℕ, ◌+◌, Bool, true, false, not, if◌then◌else◌, List, [], ◌∷◌, ◌++◌, length, All, Option, Some, None, map, refl, ap, ◌∙◌, subst}
+use Rattle.std.proofs.Common.{◌≡◌, ℕ, false, List, [], ◌∷◌, ◌++◌, All, Some, map, refl, ap, ◌∙◌, subst}
 use Rattle.std.specs.Prelude.{option_and_then}
 use Rattle.std.proofs.lemmas.List.Elements.{All-nil, All-cons, All-head, All-tail, All-same}
 use Rattle.driver_model.specs.declared.action.Action.{Action}
 use Rattle.driver_model.specs.declared.action.Action.TheVariants as action
 use Rattle.driver_model.specs.declared.action.Cause.{Cause}
 use Rattle.driver_model.specs.declared.action.Cause.TheVariants as cause
-use Rattle.connection_info.specs.declared.address.ConnectionInfo.{ConnectionInfo}
 use Rattle.driver_model.specs.declared.config.Config.{Config}
-use Rattle.driver_model.specs.Config.{address, connect_timeout, hearing_of, permits, buffer_size, fault_in, has_line, first_fault}
-use Rattle.driver_model.specs.Hearing.{hears_pushes}
-use Rattle.redis_error.specs.declared.config_name.ConfigName.{ConfigName}
-use Rattle.redis_error.specs.declared.config_name.ConfigName.TheVariants as name
+use Rattle.driver_model.specs.Config.{address, connect_timeout, manager_of, is_lazy}
 use Rattle.driver_model.specs.declared.event.Event.{Event}
 use Rattle.driver_model.specs.declared.event.EventKind.{EventKind}
 use Rattle.driver_model.specs.declared.event.EventKind.TheVariants as event
 use Rattle.mux_conn.specs.declared.act.LinkAct.{LinkAct}
 use Rattle.mux_conn.specs.declared.act.LinkAct.TheVariants as act
 use Rattle.shared_session.specs.declared.core_state.Core.{Core}
-use Rattle.shared_session.specs.Turn.{next_turn, is_bad, shown_each, actions_of}
-use Rattle.shared_session.specs.Replay.{opening_core, connect_asked, turns_on, trace_of, AreGoodOn, AreGood}
+use Rattle.shared_session.specs.Turn.{next_turn, is_bad, shown, effects_of, actions_of}
+use Rattle.shared_session.specs.Replay.{opening_core, begun_as, connect_asked, turns_on, trace_of, AreGoodOn, AreGood}
 use Rattle.legal_trace.specs.Legal.{causes, event_causes}
 use Rattle.trace_text.specs.Show.{show}
-use Rattle.text_laws.specs.Fits.{FitsEvent, FitsHistory, HasLine, HasForm, WithForm, HaveForms}
+use Rattle.text_laws.specs.Fits.{FitsEvent, FitsHistory, HasForm, WithForm, HaveForms}
 use Rattle.text_laws.specs.History.{history_in, history_of}
 use Rattle.text_laws.proofs.Back.{causes_back}
 use Rattle.text_laws.proofs.Bytes.{FitsCause}
-use Rattle.shared_session.proofs.Stays.{turn_kind}
+use Rattle.shared_session.proofs.Stays.{turn_kind, opening_kind}
+use Rattle.shared_session.proofs.Effects.{EachIs, IsTrueOfEffects, each_effect, each_begun}
 use Rattle.text_laws.proofs.Turns.{cause_line, turns_told}
 
--- what a connection shows begins no turn
-no_causes : (l t c : ℕ) (acts : List LinkAct) → causes (shown_each l t c acts) ≡ []
-no_causes l t c [] = refl
-no_causes l t c (act.Created error ∷ more) = no_causes l (t + 0) (c + 0) more
-no_causes l t c (act.Took n count ∷ more) = no_causes l (t + 0) (c + 0) more
-no_causes l t c (act.Timer n ms ∷ more) = no_causes l (t + 1) (c + 0) more
-no_causes l t c (act.RenewalTimer k ms ∷ more) = no_causes l (t + 1) (c + 0) more
-no_causes l t c (act.NeedCreds ∷ more) = no_causes l (t + 0) (c + 1) more
-no_causes l t c (act.Close ∷ more) = no_causes l (t + 0) (c + 0) more
-no_causes l t c (act.Push info ∷ more) = no_causes l (t + 0) (c + 0) more
-no_causes l t c (act.Message m ∷ more) = no_causes l (t + 0) (c + 0) more
-no_causes l t c (act.Monitor v ∷ more) = no_causes l (t + 0) (c + 0) more
-no_causes l t c (act.Watch message need len ∷ more) = no_causes l (t + 0) (c + 0) more
-no_causes l t c (act.Write bytes ∷ more) = no_causes l (t + 0) (c + 0) more
-no_causes l t c (act.Wait n kind ∷ more) = no_causes l (t + 0) (c + 0) more
-no_causes l t c (act.SetUp message need len ∷ more) = no_causes l (t + 0) (c + 0) more
-no_causes l t c (act.Renewed message need len ∷ more) = no_causes l (t + 0) (c + 0) more
-no_causes l t c (act.Start message n need len ∷ more) = no_causes l (t + 0) (c + 0) more
-no_causes l t c (act.Outcome n o ∷ more) = no_causes l (t + 0) (c + 0) more
+-- it begins no turn
+abbrev IsNoTurn : Action → Type 0
+IsNoTurn (action.Turn k c) = ⊥
+IsNoTurn _ = Unit {0}
+
+-- what a connection shows begins none
+no_turn : (l t c : ℕ) (x : LinkAct) → IsNoTurn (shown l t c x)
+no_turn l t c (act.Created error) = tt
+no_turn l t c (act.Round n) = tt
+no_turn l t c (act.Took n count) = tt
+no_turn l t c (act.Timer n ms) = tt
+no_turn l t c (act.RenewalTimer k ms) = tt
+no_turn l t c act.NeedCreds = tt
+no_turn l t c act.NeedRenewals = tt
+no_turn l t c act.Close = tt
+no_turn l t c (act.Push info) = tt
+no_turn l t c (act.Message m) = tt
+no_turn l t c (act.Monitor v) = tt
+no_turn l t c (act.Watch message need len) = tt
+no_turn l t c (act.Write bytes) = tt
+no_turn l t c (act.Wait n kind) = tt
+no_turn l t c (act.SetUp message need len) = tt
+no_turn l t c (act.Renewed message need len) = tt
+no_turn l t c (act.Start message n need len) = tt
+no_turn l t c (act.Outcome n o) = tt
+
+effects_begin_none : IsTrueOfEffects IsNoTurn
+effects_begin_none = record { shows = no_turn; generation = λ g. tt; connect = λ l host port. tt; timer = λ t ms what. tt; lazy = tt }
+
+no_causes : (xs : List Action) → EachIs IsNoTurn xs → causes xs ≡ []
+no_causes [] none = refl
+no_causes (action.Turn k c ∷ xs) none = absurd none.0
+no_causes (action.Connect link host port ∷ xs) none = no_causes xs none.1
+no_causes (action.Timer timer ms what ∷ xs) none = no_causes xs none.1
+no_causes (action.Took owner link count ∷ xs) none = no_causes xs none.1
+no_causes (action.Push link info ∷ xs) none = no_causes xs none.1
+no_causes (action.Message msg ∷ xs) none = no_causes xs none.1
+no_causes (action.Monitor value ∷ xs) none = no_causes xs none.1
+no_causes (action.NeedCreds source link ∷ xs) none = no_causes xs none.1
+no_causes (action.Generation g ∷ xs) none = no_causes xs none.1
+no_causes (action.Round who link ∷ xs) none = no_causes xs none.1
+no_causes (action.Close link ∷ xs) none = no_causes xs none.1
+no_causes (action.Write link bytes ∷ xs) none = no_causes xs none.1
+no_causes (action.Wait owner kind ∷ xs) none = no_causes xs none.1
+no_causes (action.Start link message owner need len ∷ xs) none = no_causes xs none.1
+no_causes (action.Created error ∷ xs) none = no_causes xs none.1
+no_causes (action.Outcome s outcome ∷ xs) none = no_causes xs none.1
 
 causes_append : (xs ys : List Action) → causes (xs ++ ys) ≡ causes xs ++ causes ys
 causes_append [] ys = refl
@@ -59,6 +84,8 @@ causes_append (action.Push link info ∷ xs) ys = causes_append xs ys
 causes_append (action.Message msg ∷ xs) ys = causes_append xs ys
 causes_append (action.Monitor value ∷ xs) ys = causes_append xs ys
 causes_append (action.NeedCreds source link ∷ xs) ys = causes_append xs ys
+causes_append (action.Generation g ∷ xs) ys = causes_append xs ys
+causes_append (action.Round who link ∷ xs) ys = causes_append xs ys
 causes_append (action.Close link ∷ xs) ys = causes_append xs ys
 causes_append (action.Write link bytes ∷ xs) ys = causes_append xs ys
 causes_append (action.Wait owner kind ∷ xs) ys = causes_append xs ys
@@ -68,7 +95,7 @@ causes_append (action.Outcome s outcome ∷ xs) ys = causes_append xs ys
 
 -- a turn has its own cause alone
 one_cause : (c : Core) (e : Event) → causes (actions_of c e) ≡ cause.Event e ∷ []
-one_cause c e = ap (λ (cs : List Cause). cause.Event e ∷ cs) (no_causes c.single.link (length c.timers) (length c.sources) (next_turn c e.kind).acts)
+one_cause c e = ap (λ (cs : List Cause). cause.Event e ∷ cs) (no_causes (effects_of c e) (each_effect IsNoTurn effects_begin_none c e))
 
 causes_on : (c : Core) (es : List Event) → causes (turns_on c es) ≡ event_causes es
 causes_on c [] = refl
@@ -77,20 +104,15 @@ causes_on c (e ∷ es) =
     causes_append (actions_of c e) (turns_on next es) ∙ ap (λ (cs : List Cause). cs ++ causes (turns_on next es)) (one_cause c e)
     ∙ ap (λ (cs : List Cause). cause.Event e ∷ cs) (causes_on next es)
 
--- nor does what an opening asks for
-no_asking_causes : (info : Option ConnectionInfo) (timeout : Option ℕ) → causes (connect_asked info timeout) ≡ []
-no_asking_causes None timeout = refl
-no_asking_causes (Some info) None = refl
-no_asking_causes (Some info) (Some ms) = refl
-
 -- also where an event is bad
 pub turns_of_history : (config : Config) (word : ℕ) (events : List Event) → causes (trace_of config word events) ≡ cause.Opening config word ∷ event_causes events
 unfolding trace_of
 turns_of_history config word events =
-    let asked = connect_asked (address config) (connect_timeout config) in
+    let begun = begun_as (manager_of config) (is_lazy config) (connect_asked (address config) (connect_timeout config)) in
+    let none = each_begun IsNoTurn effects_begin_none (manager_of config) (is_lazy config) (address config) (connect_timeout config) in
     let rest = turns_on (opening_core config word) events in
     ap (λ (cs : List Cause). cause.Opening config word ∷ cs)
-    (causes_append asked rest ∙ ap (λ (cs : List Cause). cs ++ causes rest) (no_asking_causes (address config) (connect_timeout config)) ∙ causes_on (opening_core config word) events)
+    (causes_append begun rest ∙ ap (λ (cs : List Cause). cs ++ causes rest) (no_causes begun none) ∙ causes_on (opening_core config word) events)
 
 events_fit : (es : List Event) → All FitsEvent es → All FitsCause (event_causes es)
 events_fit [] fits = All-nil FitsCause
@@ -133,20 +155,12 @@ good_forms_on c [] good = All-nil (WithForm c.kind)
 good_forms_on c (e ∷ es) good =
     All-cons (WithForm c.kind) e es (good_form c e.kind good.0) (subst (λ session. All (WithForm session) es) (turn_kind c e.kind) (good_forms_on (next_turn c e.kind).core es good.1))
 
--- a configuration of which nothing is refused has a line
-line_by : (has : Bool) (rest : Option ConfigName) → (if not has then Some name.Kind else rest) ≡ None → has ≡ true
-line_by true rest none = refl
-line_by false rest none = cc none
-
-pub sound_line : (config : Config) → first_fault config ≡ None → HasLine config
-sound_line config none = line_by (has_line config) (fault_in (address config) (hears_pushes (hearing_of config)) (permits config) (buffer_size config)) none
-
 -- nor does a good history
-pub good_forms : (config : Config) (word : ℕ) (events : List Event) → HasLine config → AreGood config word events → HaveForms config events
+pub good_forms : (config : Config) (word : ℕ) (events : List Event) → AreGood config word events → HaveForms config events
 unfolding AreGood
-good_forms config word events line good = record { config = line; events = good_forms_on (opening_core config word) events good }
+good_forms config word events good = subst (λ session. All (WithForm session) events) (opening_kind config word) (good_forms_on (opening_core config word) events good)
 
 -- without exception where no event is bad
-pub good_history_back : (config : Config) (word : ℕ) (events : List Event) → FitsHistory config word events → HasLine config → AreGood config word events
+pub good_history_back : (config : Config) (word : ℕ) (events : List Event) → FitsHistory config word events → AreGood config word events
     → history_of (show (trace_of config word events)) ≡ Some (record { config = config; word = word; events = events })
-good_history_back config word events fits line good = history_back config word events fits (good_forms config word events line good)
+good_history_back config word events fits good = history_back config word events fits (good_forms config word events good)

@@ -9,7 +9,7 @@ use Rattle.resp_write.specs.Canonical.{canonical}
 use Rattle.script_text.specs.Words.{LineWords, parts, all_of}
 use Rattle.legal_trace.specs.Legal.{causes}
 use Rattle.trace_text.specs.Words.{escaped, line_of}
-use Rattle.trace_text.specs.Show.{address, purpose_words, created_words, owner_word, wait_word, push_word, message_words, submission_word, outcome_words, cause_words, cause_more, words_of, action_line, show}
+use Rattle.trace_text.specs.Show.{address, purpose_words, created_words, owner_word, wait_word, link_word, push_word, message_words, submission_word, outcome_words, cause_words, cause_more, words_of, action_line, show}
 use Rattle.text_laws.specs.History.{begins_turn, turn_lines, without, cause_in}
 use Rattle.text_laws.proofs.Lines.{raw_of, parts_words, parts_line, line_back}
 use Rattle.text_laws.proofs.Bytes.{FitsCause, looked, decimal_bytes, word_and, cause_bytes, more_bytes}
@@ -59,6 +59,8 @@ turns_told (action.Push link info ∷ more) fits = untold (codes "push") (decima
 turns_told (action.Message msg ∷ more) fits = untold (codes "message") (message_words msg) (show more) refl ∙ turns_told more fits
 turns_told (action.Monitor value ∷ more) fits = untold (codes "monitor") (canonical (data_of value) ∷ []) (show more) refl ∙ turns_told more fits
 turns_told (action.NeedCreds source link ∷ more) fits = untold (codes "need-creds") (decimal source ∷ decimal link ∷ []) (show more) refl ∙ turns_told more fits
+turns_told (action.Generation number ∷ more) fits = untold (codes "generation") (decimal number ∷ []) (show more) refl ∙ turns_told more fits
+turns_told (action.Round owner link ∷ more) fits = untold (codes "round") (owner_word owner ∷ link_word link ∷ []) (show more) refl ∙ turns_told more fits
 turns_told (action.Close link ∷ more) fits = untold (codes "close") (decimal link ∷ []) (show more) refl ∙ turns_told more fits
 turns_told (action.Write link bytes ∷ more) fits = untold (codes "write") (decimal link ∷ bytes ∷ []) (show more) refl ∙ turns_told more fits
 turns_told (action.Wait owner kind ∷ more) fits = untold (codes "wait") (owner_word owner ∷ wait_word kind ∷ []) (show more) refl ∙ turns_told more fits

@@ -1,9 +1,13 @@
 -- What the types of a history hold: each number is in the range of its type, and each byte is one. And which histories have
--- lines: a configuration that has one, and submissions with forms alone.
-use Rattle.std.specs.Prelude.{◌≡◌, ℕ, ◌^◌, ◌<◌, true, false, List, Option, Some, None, IfSome, All}
+-- lines: those whose submissions have forms.
+use Rattle.std.specs.Prelude.{◌≡◌, ℕ, ◌^◌, ◌<◌, false, List, Option, Some, None, IfSome, All}
 use Rattle.driver_model.specs.declared.config.Config.{Config}
+use Rattle.driver_model.specs.declared.config.Config.TheVariants as config
+use Rattle.driver_model.specs.declared.config_words.AddressWords.{AddressWords}
+use Rattle.driver_model.specs.declared.config_words.ConnectionWords.{ConnectionWords}
+use Rattle.driver_model.specs.declared.config_words.ManagerWords.{ManagerWords}
 use Rattle.driver_model.specs.declared.kind.SessionKind.{SessionKind}
-use Rattle.driver_model.specs.Config.{has_line}
+use Rattle.driver_model.specs.Config.{kind_of}
 use Rattle.driver_model.specs.declared.event.Event.{Event}
 use Rattle.driver_model.specs.declared.event.EventKind.{EventKind}
 use Rattle.driver_model.specs.declared.event.EventKind.TheVariants as event
@@ -66,24 +70,41 @@ pub record FitsEvent (e : Event) : Type 0 where
 abbrev pub FitsLimit : Option (Option ℕ) → Type 0
 FitsLimit limit = IfSome limit (FitsNumber (2 ^ 64))
 
+-- the words of an address that their type holds
+abbrev pub FitsAddress : AddressWords → Type 0
+FitsAddress words = AreBytes words.url
+
+-- the words of a connection that their type holds
+pub record FitsConnection (words : ConnectionWords) : Type 0 where
+  pub connect : FitsLimit words.connect
+  pub response : FitsLimit words.response
+  pub limit : FitsNumber (2 ^ 32) words.limit
+  pub buffer : FitsNumber (2 ^ 32) words.buffer
+  pub boundary : FitsNumber (2 ^ 64) words.boundary
+
+-- a numerator and a denominator that their type holds
+abbrev pub FitsFraction : ℕ × ℕ → Type 0
+FitsFraction base = (base.0 < 2 ^ 32) × (base.1 < 2 ^ 32)
+
+-- the words of how a connection comes back that their type holds
+pub record FitsManager (words : ManagerWords) : Type 0 where
+  pub retries : FitsNumber (2 ^ 32) words.retries
+  pub min : FitsNumber (2 ^ 64) words.min
+  pub max : FitsLimit words.max
+  pub base : IfSome words.base FitsFraction
+
 -- a configuration that its type holds
-pub record FitsConfig (config : Config) : Type 0 where
-  pub url : AreBytes config.url
-  pub connect : FitsLimit config.connect
-  pub response : FitsLimit config.response
-  pub limit : FitsNumber (2 ^ 32) config.limit
-  pub buffer : FitsNumber (2 ^ 32) config.buffer
-  pub boundary : FitsNumber (2 ^ 64) config.boundary
+abbrev pub FitsConfig : Config → Type 0
+FitsConfig (config.Single address connection) = FitsAddress address × FitsConnection connection
+FitsConfig (config.Manager lazy address connection manager) = FitsAddress address × FitsConnection connection × FitsManager manager
+FitsConfig (config.PubSub address) = FitsAddress address
+FitsConfig (config.Monitor address) = FitsAddress address
 
 -- a history that the types hold
 pub record FitsHistory (c : Config) (w : ℕ) (es : List Event) : Type 0 where
   pub config : FitsConfig c
   pub word : w < 2 ^ 64
   pub events : All FitsEvent es
-
--- nothing is given but what its kind has, so that it is a line; of what is refused in no way this is true
-abbrev pub HasLine : Config → Type 0
-HasLine c = has_line c ≡ true
 
 -- an event that hands in no submission for which a session of this kind has no form
 abbrev pub HasForm : SessionKind → EventKind → Type 0
@@ -108,7 +129,6 @@ HasForm session event.Shutdown = Unit {0}
 abbrev pub WithForm : SessionKind → Event → Type 0
 WithForm session e = HasForm session e.kind
 
--- the configuration has a line, and each submission a form
-pub record HaveForms (c : Config) (es : List Event) : Type 0 where
-  pub config : HasLine c
-  pub events : All (WithForm c.kind) es
+-- each submission has a form
+abbrev pub HaveForms : Config → List Event → Type 0
+HaveForms c es = All (WithForm (kind_of c)) es

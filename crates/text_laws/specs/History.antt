@@ -1,6 +1,7 @@
 -- Which history the text of a trace tells, read from the lines of its turns.
 use Rattle.std.specs.Prelude.{ℕ, Bool, false, List, [], ◌∷◌, map, filter, drop, Option, None, option_map, option_and_then, bytes_eq, codes}
 use Rattle.driver_model.specs.declared.config.Config.{Config}
+use Rattle.driver_model.specs.Config.{kind_of}
 use Rattle.driver_model.specs.declared.event.Event.{Event}
 use Rattle.script_text.specs.declared.script.Script.{Script}
 use Rattle.script_text.specs.Words.{LineWords, parts, all_of, words_of_line}
@@ -31,7 +32,7 @@ script_with opening events = record { config = opening.0; word = opening.1; even
 -- the first turn is the opening, and each other one that of an event
 abbrev pub history_in : List LineWords → Option Script
 history_in [] = None
-history_in (first ∷ rest) = option_and_then (λ opening. option_map (script_with opening) (all_of (map (event_of opening.0.kind) rest))) (opening_of first)
+history_in (first ∷ rest) = option_and_then (λ opening. option_map (script_with opening) (all_of (map (event_of (kind_of opening.0)) rest))) (opening_of first)
 
 -- the configuration, the word and the events that the text of a trace tells
 unfoldable pub history_of : List ℕ → Option Script

@@ -6,7 +6,7 @@ use Rattle.script_text.specs.Script.{script_of}
 use Rattle.script_text.specs.declared.script.Script.{Script}
 use Rattle.shared_session.specs.Replay.{trace_of, AreGood}
 use Rattle.trace_text.specs.Show.{show}
-use Rattle.text_laws.specs.Fits.{AreBytes, FitsHistory, HasLine, HaveForms}
+use Rattle.text_laws.specs.Fits.{AreBytes, FitsHistory, HaveForms}
 use Rattle.text_laws.specs.History.{history_of}
 
 -- the text of a replay's trace
@@ -18,10 +18,10 @@ abbrev pub TellsHistory : Config → ℕ → List Event → Type 0
 TellsHistory config word events =
     history_of (text_of config word events) ≡ Some (record { config = config; word = word; events = events })
 
--- so it does for each history that the types hold, whose configuration has a line, and in which no event is bad
+-- so it does for each history that the types hold, and in which no event is bad
 abbrev pub GoodAreTold : Type 0
 GoodAreTold =
-    (config : Config) (word : ℕ) (events : List Event) → FitsHistory config word events → HasLine config → AreGood config word events
+    (config : Config) (word : ℕ) (events : List Event) → FitsHistory config word events → AreGood config word events
     → TellsHistory config word events
 
 -- also where an event is bad, if no submission is without a form
@@ -36,12 +36,12 @@ OneText config word events config' word' events' =
     text_of config word events ≡ text_of config' word' events'
     → trace_of config word events ≡ trace_of config' word' events'
 
--- so it is for histories that the types hold, whose configurations have lines, and in which no event is bad
+-- so it is for histories that the types hold, and in which no event is bad
 abbrev pub OneTextOfGood : Type 0
 OneTextOfGood =
     (config config' : Config) (word word' : ℕ) (events events' : List Event)
-    → FitsHistory config word events → HasLine config → AreGood config word events
-    → FitsHistory config' word' events' → HasLine config' → AreGood config' word' events'
+    → FitsHistory config word events → AreGood config word events
+    → FitsHistory config' word' events' → AreGood config' word' events'
     → OneText config word events config' word' events'
 
 -- also where an event is bad, if no submission is without a form

@@ -24,6 +24,6 @@ TellsRecord config word events =
     (script_of (record_text config word events) ≡ Ok (record { config = config; word = word; events = events }))
     (IsErr (script_of (record_text config word events)))
 
--- so it is for each history that the types hold, if the configuration has a line and no submission is without a form
+-- so it is for each history that the types hold, if no submission is without a form
 abbrev pub RecordsAreTold : Type 0
 RecordsAreTold = (config : Config) (word : ℕ) (events : List Event) → FitsHistory config word events → HaveForms config events → TellsRecord config word events

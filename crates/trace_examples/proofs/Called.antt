@@ -14,6 +14,7 @@ use Rattle.driver_model.specs.Config.{address}
 use Rattle.driver_model.specs.declared.action.Action.TheVariants as action
 use Rattle.driver_model.specs.declared.event.EventKind.TheVariants as event
 use Rattle.driver_model.specs.declared.outcome.Outcome.TheVariants as outcome
+use Rattle.legal_trace.specs.Managers.{settings_in, is_lazy}
 use Rattle.legal_trace.specs.Events.{is_bad_event}
 use Rattle.trace_examples.specs.Parts.{turn, unbounded}
 use Rattle.trace_examples.specs.Traces.{came_up}
@@ -44,7 +45,7 @@ pub call_confirmed : IsTraceIn of_third
     (event.Connected 0 ∷ event.Bytes 0 hello_well ∷ event.Submit call_of_c ∷ event.Bytes 0 confirmation ∷ [])
     called
     (turn 4 (event.Bytes 0 confirmation) ∷ action.Outcome 0 outcome.Done ∷ [])
-unfolding digits is_bad_event items values left_over is_spoiled max_depth kind_of url_on_literals utf8_lossy utf8_valid_len
+unfolding digits settings_in is_lazy is_bad_event items values left_over is_spoiled max_depth kind_of url_on_literals utf8_lossy utf8_valid_len
 call_confirmed word = legal of_third word _ _ refl refl (at_third, (refl, (refl, tt)))
 
 -- or the server denies it
@@ -52,7 +53,7 @@ pub call_denied : IsTraceIn of_third
     (event.Connected 0 ∷ event.Bytes 0 hello_well ∷ event.Submit call_of_c ∷ event.Bytes 0 denied_line ∷ [])
     called
     (turn 4 (event.Bytes 0 denied_line) ∷ action.Outcome 0 (outcome.Fault (error.Server denial)) ∷ [])
-unfolding digits is_bad_event items values left_over is_spoiled max_depth kind_of url_on_literals utf8_lossy utf8_valid_len
+unfolding digits settings_in is_lazy is_bad_event items values left_over is_spoiled max_depth kind_of url_on_literals utf8_lossy utf8_valid_len
 call_denied word = legal of_third word _ _ refl refl (at_third, (refl, (refl, tt)))
 
 -- on a link that doesn't speak it the call is refused at once
@@ -60,10 +61,10 @@ pub call_refused : IsTraceOf
     (event.Connected 0 ∷ event.Submit call_of_c ∷ [])
     came_up
     (turn 2 (event.Submit call_of_c) ∷ action.Outcome 0 (outcome.Fault error.Resp3Required) ∷ [])
-unfolding digits is_bad_event url_on_literals utf8_lossy utf8_valid_len
+unfolding digits settings_in is_lazy is_bad_event url_on_literals utf8_lossy utf8_valid_len
 call_refused word = legal unbounded word _ _ refl refl (at_h (Some None), (refl, tt))
 
 -- it is not done before it is confirmed
 pub done_early : NoneBeginsIn of_third called (action.Outcome 0 outcome.Done)
-unfolding digits items values left_over is_spoiled max_depth kind_of url_on_literals utf8_lossy utf8_valid_len
+unfolding digits settings_in is_lazy items values left_over is_spoiled max_depth kind_of url_on_literals utf8_lossy utf8_valid_len
 done_early word events after h = cc (answer of_third word events (called of_third word) after 0 outcome.Done refl h).owes

@@ -5,7 +5,7 @@ use Rattle.std.proofs.lemmas.Bool.{not-true}
 use Rattle.containers.proofs.Choices.{by_test, eq_from, ne_from, both_left, both_right, not_both}
 use Rattle.driver_model.specs.declared.action.WaitKind.{WaitKind}
 use Rattle.driver_model.specs.declared.action.WaitKind.TheVariants as wait
-use Rattle.legal_trace.specs.Steps.{Step, waits, takes, asks, tells, starts, nothing}
+use Rattle.legal_trace.specs.Steps.{Step, waits, rounds, takes, asks, tells, starts, nothing}
 
 -- the second test, where the first is true
 abbrev pub holds_if : Bool → Bool → Bool
@@ -53,6 +53,8 @@ abbrev pub same_wait : WaitKind → WaitKind → Bool
 same_wait wait.Connect wait.Connect = true
 same_wait wait.Creds wait.Creds = true
 same_wait wait.Setup wait.Setup = true
+same_wait wait.Resubscribe wait.Resubscribe = true
+same_wait wait.Backoff wait.Backoff = true
 same_wait wait.Permit wait.Permit = true
 same_wait wait.Place wait.Place = true
 same_wait wait.Room wait.Room = true
@@ -63,6 +65,8 @@ wait_from : (k j : WaitKind) → same_wait k j ≡ true → k ≡ j
 wait_from wait.Connect wait.Connect e = refl
 wait_from wait.Creds wait.Creds e = refl
 wait_from wait.Setup wait.Setup e = refl
+wait_from wait.Resubscribe wait.Resubscribe e = refl
+wait_from wait.Backoff wait.Backoff e = refl
 wait_from wait.Permit wait.Permit e = refl
 wait_from wait.Place wait.Place e = refl
 wait_from wait.Room wait.Room e = refl
@@ -73,6 +77,8 @@ wait_is_one : (k : WaitKind) → same_wait k k ≡ true
 wait_is_one wait.Connect = refl
 wait_is_one wait.Creds = refl
 wait_is_one wait.Setup = refl
+wait_is_one wait.Resubscribe = refl
+wait_is_one wait.Backoff = refl
 wait_is_one wait.Permit = refl
 wait_is_one wait.Place = refl
 wait_is_one wait.Room = refl
@@ -80,6 +86,7 @@ wait_is_one wait.Room = refl
 -- two steps of one sort
 abbrev pub same_step : Step → Step → Bool
 same_step (waits k) (waits j) = same_wait k j
+same_step rounds rounds = true
 same_step (takes m) (takes n) = m == n
 same_step (asks m) (asks n) = m == n
 same_step tells tells = true
@@ -90,6 +97,7 @@ same_step _ _ = false
 -- what this says
 pub step_from : (s t : Step) → same_step s t ≡ true → s ≡ t
 step_from (waits k) (waits j) e = ap waits (wait_from k j e)
+step_from rounds rounds e = refl
 step_from (takes m) (takes n) e = ap takes (eq_from m n e)
 step_from (asks m) (asks n) e = ap asks (eq_from m n e)
 step_from tells tells e = refl

@@ -18,6 +18,7 @@ pub mod Setups
 pub mod Unready
 pub mod Called
 pub mod Pushes
+pub mod Managers
 pub mod Creds
 pub mod Renewals
 pub mod Listeners

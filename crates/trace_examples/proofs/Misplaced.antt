@@ -1,5 +1,5 @@
 -- Actions that stand where they may not: whatever comes after these fronts, no trace that begins so is legal.
-use Rattle.std.proofs.Common.{length, ap, ◌∙◌, ◌≡◌, ◌≢◌, ℕ, ◌+◌, ◌<◌, nat_le, Bool, true, false, List, ◌∷◌, ◌++◌, nat_lt, ◌&&◌, ◌||◌, Option, Some, None, is_none, refl, sym, inl, inr, arith}
+use Rattle.std.proofs.Common.{length, ap, ◌∙◌, ◌≡◌, ◌≢◌, ℕ, ◌+◌, ◌<◌, nat_le, Bool, true, false, List, [], ◌∷◌, ◌++◌, nat_lt, ◌&&◌, ◌||◌, Option, Some, None, is_none, refl, sym, inl, inr, arith}
 use Rattle.containers.proofs.Choices.{not_both, not_le_from, not_le_test}
 use Rattle.std.specs.Fmt.{digits}
 use Rattle.resp_value.specs.declared.value.Value.TheVariants.{Nil}
@@ -17,21 +17,24 @@ use Rattle.driver_model.specs.declared.config.Config.{Config}
 use Rattle.driver_model.specs.declared.event.Event.{Event}
 use Rattle.driver_model.specs.declared.event.EventKind.TheVariants as event
 use Rattle.driver_model.specs.declared.outcome.Outcome.TheVariants as outcome
-use Rattle.driver_model.specs.Config.{buffer_size, boundary, permits}
+use Rattle.driver_model.specs.Config.{kind_of, buffer_size, boundary, permits}
 use Rattle.driver_model.specs.Request.{packed_bytes}
 use Rattle.legal_trace.specs.Events.{is_bad_event}
-use Rattle.legal_trace.specs.Ledger.{dials, is_ready}
+use Rattle.legal_trace.specs.Ledger.{Ledger, dials, is_ready, is_served}
 use Rattle.legal_trace.specs.Story.{is_told, is_awaited}
 use Rattle.legal_trace.specs.Book.{Book}
 use Rattle.legal_trace.specs.Steps.{tells, starts, permits_in, line_before, is_outside, is_held_back, renewals_in_line, is_due, next_step}
 use Rattle.legal_trace.specs.Owed.{owed}
 use Rattle.legal_trace.specs.Legal.{link_of, MayTurn, Legal, VerdictsAreShown}
 use Rattle.legal_trace.proofs.Moves.{is_timed, starts_mean, tells_mean, placed_is_awaited, free_is_due}
+use Rattle.legal_trace.specs.Managers.{settings_in}
+use Rattle.legal_trace.specs.Again.{repeats_in}
+use Rattle.legal_trace.proofs.Again.{unwanted_is_served}
 use Rattle.trace_examples.specs.Parts.{turn, command, unawaited, reply, one_nameless, nameless_atomic, nameless_skipped}
 use Rattle.trace_examples.specs.Traces.{opening, taken_in_part, came_up, arrived, started_one, started_unoffered, held_back, spoiled, cut_off, left_untold, left_out, both_left_out, up_in_wait, both_in_wait, first_of_both, ended}
 use Rattle.legal_trace.proofs.Setups.{silent_is_set}
-use Rattle.trace_examples.proofs.Stood.{book_of, may_stand, both_up_silent, both_up_given}
-use Rattle.trace_examples.proofs.Single.{none_is_some, some_is_none, no_session_has, single_behind, unwatched, of_single, of_arrived}
+use Rattle.trace_examples.proofs.Stood.{book_of, created_by_link, may_stand, opens_alone, opens_at_once, both_up_silent, both_up_given}
+use Rattle.trace_examples.proofs.Single.{none_is_some, some_is_none, no_session_has, multiplexed_behind, unwatched, of_multiplexed, of_arrived}
 
 -- whoever starts and wasn't told starts at its place, where its reply is awaited
 untold_starts : (b : Book) (n : ℕ) → is_told (b.story n) ≡ false → is_awaited (b.story n) ≡ false → next_step b n ≡ starts → ⊥
@@ -67,9 +70,13 @@ started_untold config word events after h =
     let m = may_stand config word events (left_untold config word) after (action.Start 0 0 (owner.Try 0 0) 1 11) h in
     untold_starts (book_of (left_untold config word)) 0 refl refl m.1.starts
 
+-- where a session doesn't come back nothing is subscribed again on its link
+pub alone_is_served : (config : Config) (l : Ledger) → settings_in (Some config) ≡ None → l.again.wanted ≡ repeats_in (settings_in (Some config)) [] → is_served l ≡ true
+alone_is_served config l alone said = unwanted_is_served l (said ∙ ap (λ s. repeats_in s []) alone)
+
 -- where the second of two that came before the connect has its place, the first is to make a step
-pub first_is_due : (b : Book) → dials (link_of b 0) ≡ false → is_ready (link_of b 0) ≡ true → is_held_back b (link_of b 0) ≡ false → is_told (b.story 0) ≡ false → permits_in b.config ≡ None → is_outside b 0 ≡ false → is_due (next_step b 0) ≡ true
-first_is_due b d u h t limit o = free_is_due b 0 d u h t (ap (λ x. is_none x || nat_lt 0 (b.story 0).permits) limit) o
+pub first_is_due : (b : Book) → dials (link_of b 0) ≡ false → is_ready (link_of b 0) ≡ true → is_served (link_of b 0) ≡ true → is_held_back b (link_of b 0) ≡ false → is_told (b.story 0) ≡ false → permits_in b.config ≡ None → is_outside b 0 ≡ false → is_due (next_step b 0) ≡ true
+first_is_due b d u s h t limit o = free_is_due b 0 d u s h t (ap (λ x. is_none x || nat_lt 0 (b.story 0).permits) limit) o
 
 -- the Nil of a command whose reply nobody awaits, before the start of an earlier one
 pub told_out_of_order : (config : Config) (word : ℕ) (events : List Event) (after : List Action)
@@ -78,10 +85,10 @@ unfolding digits
 told_out_of_order config word events after h =
     let b = book_of (both_in_wait config word (unawaited 72)) in
     elim (may_stand config word events (both_in_wait config word (unawaited 72)) after (action.Outcome 1 (outcome.One Nil)) h) [
-      | inl answer ↦ of_single config word (both_in_wait config word (unawaited 72)) (λ b. owed b 1 ≡ Some (outcome.One Nil) → ⊥) (single_behind config word events (opening config word) _ 1 (command 71) refl refl h) (none_is_some (outcome.One Nil)) (none_is_some (outcome.One Nil)) answer.owes
+      | inl answer ↦ of_multiplexed config word (both_in_wait config word (unawaited 72)) (λ b. owed b 1 ≡ Some (outcome.One Nil) → ⊥) (multiplexed_behind config word events (opening config word) _ 1 (command 71) refl refl h) (opens_alone config word events _ h) (none_is_some (outcome.One Nil)) (none_is_some (outcome.One Nil)) answer.owes
       | inr tell ↦
           let t = tells_uncounted b 1 refl tell.tells in
-          tell.in_order 0 (omega arith) (record { unstarted = refl; due = first_is_due b refl (tells_mean b 1 tell.tells).1 refl refl t.0 (room_for_one (buffer_size config) (renewals_in_line (b.link 0) + line_before (permits config) b.story 0 1) t.1) })
+          tell.in_order 0 (omega arith) (record { unstarted = refl; due = first_is_due b refl (tells_mean b 1 tell.tells).1 (alone_is_served config (b.link 0) (opens_alone config word events _ h) refl) refl refl t.0 (room_for_one (buffer_size config) (renewals_in_line (b.link 0) + line_before (permits config) b.story 0 1) t.1) })
     ]
 
 -- and before the creation
@@ -90,8 +97,8 @@ pub told_before_the_creation : (config : Config) (word : ℕ) (events : List Eve
 unfolding digits
 told_before_the_creation config word events after h =
     elim (may_stand config word events (up_in_wait config word (unawaited 71)) after (action.Outcome 0 (outcome.One Nil)) h) [
-      | inl answer ↦ of_single config word (up_in_wait config word (unawaited 71)) (λ b. owed b 0 ≡ Some (outcome.One Nil) → ⊥) (single_behind config word events (opening config word) _ 1 (unawaited 71) refl refl h) (none_is_some (outcome.One Nil)) (none_is_some (outcome.One Nil)) answer.owes
-      | inr tell ↦ tell.begun.applied.created.shown 0 (tells_mean (book_of (up_in_wait config word (unawaited 71))) 0 tell.tells).1 refl
+      | inl answer ↦ of_multiplexed config word (up_in_wait config word (unawaited 71)) (λ b. owed b 0 ≡ Some (outcome.One Nil) → ⊥) (multiplexed_behind config word events (opening config word) _ 1 (unawaited 71) refl refl h) (opens_alone config word events _ h) (none_is_some (outcome.One Nil)) (none_is_some (outcome.One Nil)) answer.owes
+      | inr tell ↦ tell.begun.applied.shown.created.shown 0 (tells_mean (book_of (up_in_wait config word (unawaited 71))) 0 tell.tells).1 refl
     ]
 
 -- a close by bytes that begin no value, before the outcome of the value in front of them
@@ -118,10 +125,6 @@ held_back_behind config word events after number c h = of_cause c (may_stand con
     of_cause (cause.Opening config word) m = cc m.is_for
     of_cause (cause.Event e) m = elim (m.is_for.1.goes 1 refl) [ inl started ↦ cc started.last | inr waits ↦ cc waits.shown ]
 
--- an opening has one configuration
-pub same_config : (c d : Config) (v w : ℕ) → Some (cause.Opening c v) ≡ Some (cause.Opening d w) → c ≡ d
-same_config c d v w e = cc
-
 -- bytes that are offered before a message that may start, where these 11 don't hold it back
 pub offered_before_a_start : (config : Config) (word : ℕ) (events : List Event) (after : List Action) (bytes : List ℕ) → 11 < boundary config
     → Legal config word events (first_of_both config word ++ action.Write 0 bytes ∷ after) → ⊥
@@ -131,10 +134,10 @@ offered_before_a_start config word events after bytes free h =
     let first = may_stand config word events (both_in_wait config word (command 72)) (action.Write 0 bytes ∷ after) (action.Start 0 0 (owner.Try 0 0) 1 11) h in
     let s = starts_uncounted (book_of (both_in_wait config word (command 72))) 0 refl refl first.1.starts in
     let b = book_of (first_of_both config word) in
-    let single = single_behind config word events (opening config word) _ 1 (command 71) refl refl h in
+    let multiplexed = multiplexed_behind config word events (opening config word) _ 1 (command 71) refl refl h in
     let silent = both_up_silent config word events (command 72) (action.Start 0 0 (owner.Try 0 0) 1 11 ∷ action.Write 0 bytes ∷ after) h in
     let given = both_up_given config word events (command 72) (action.Start 0 0 (owner.Try 0 0) 1 11 ∷ action.Write 0 bytes ∷ after) h in
-    m.moved.moved 1 (record { unstarted = refl; due = free_is_due b 1 refl (silent_is_set (link_of b 1) (unwatched config single) given silent) (not_le_test (boundary config) 11 free) refl (ap (λ x. is_none x || false) s.0) s.1 })
+    m.moved.moved 1 (record { unstarted = refl; due = free_is_due b 1 refl (silent_is_set (link_of b 1) (unwatched config multiplexed) given silent) (alone_is_served config (b.link 0) (opens_alone config word events _ h) refl) (not_le_test (boundary config) 11 free) refl (ap (λ x. is_none x || false) s.0) s.1 })
 
 -- bytes that are offered twice
 pub offered_twice : (config : Config) (word : ℕ) (events : List Event) (after : List Action)
@@ -200,21 +203,21 @@ pub nameless : (config : Config) (word : ℕ) (events : List Event) (after : Lis
 unfolding is_bad_event
 nameless config word events after h =
     let m = may_stand config word events (came_up config word) after (turn 2 (event.Submit one_nameless)) h in
-    no_session_has config.kind one_nameless refl refl m.is_for.2
+    no_session_has (kind_of config) one_nameless refl refl m.is_for.2
 
 pub nameless_transaction : (config : Config) (word : ℕ) (events : List Event) (after : List Action)
     → Legal config word events (came_up config word ++ turn 2 (event.Submit nameless_atomic) ∷ after) → ⊥
 unfolding is_bad_event
 nameless_transaction config word events after h =
     let m = may_stand config word events (came_up config word) after (turn 2 (event.Submit nameless_atomic)) h in
-    no_session_has config.kind nameless_atomic refl refl m.is_for.2
+    no_session_has (kind_of config) nameless_atomic refl refl m.is_for.2
 
 pub nameless_packed : (config : Config) (word : ℕ) (events : List Event) (after : List Action) (offset count : ℕ)
     → Legal config word events (came_up config word ++ turn 2 (event.Submit (nameless_skipped offset count)) ∷ after) → ⊥
 unfolding is_bad_event
 nameless_packed config word events after offset count h =
     let m = may_stand config word events (came_up config word) after (turn 2 (event.Submit (nameless_skipped offset count))) h in
-    no_session_has config.kind (nameless_skipped offset count) refl refl m.is_for.2
+    no_session_has (kind_of config) (nameless_skipped offset count) refl refl m.is_for.2
 
 -- the turn of more bytes taken than were offered
 pub took_too_much : (config : Config) (word : ℕ) (events : List Event) (after : List Action)
@@ -228,5 +231,5 @@ took_too_much config word events after h =
 pub created_twice : (config : Config) (word : ℕ) (events : List Event) (after : List Action)
     → Legal config word events (came_up config word ++ action.Created None ∷ after) → ⊥
 created_twice config word events after h =
-    let m = may_stand config word events (came_up config word) after (action.Created None) h in
+    let m = created_by_link (book_of (came_up config word)) (opens_at_once config word events _ h) (may_stand config word events (came_up config word) after (action.Created None) h) in
     cc m.once

@@ -22,6 +22,7 @@ use Rattle.driver_model.specs.declared.outcome.Outcome.{Outcome}
 use Rattle.driver_model.specs.declared.outcome.Outcome.TheVariants as outcome
 use Rattle.driver_model.specs.declared.push_info.PushInfo.{PushInfo}
 use Rattle.driver_model.specs.declared.hearing.Notice.TheVariants as notice
+use Rattle.legal_trace.specs.Managers.{settings_in, is_lazy}
 use Rattle.legal_trace.specs.Events.{is_bad_event}
 use Rattle.legal_trace.specs.Ledger.{Heard, is_full_by}
 use Rattle.legal_trace.specs.Story.{Try}
@@ -54,7 +55,7 @@ pub told_between : IsTraceIn heard
     (event.Connected 0 ∷ event.Wrote 0 22 ∷ event.Bytes 0 hello_well ∷ event.Submit (get 97) ∷ event.Submit (get 98) ∷ event.Bytes 0 invalid_between ∷ [])
     invalid_while_asked
     (action.Outcome 0 (reply 120) ∷ action.Push 0 invalidation ∷ action.Outcome 1 (reply 121) ∷ [])
-unfolding digits is_bad_event items values left_over is_spoiled max_depth kind_of url_on_literals utf8_lossy utf8_valid_len
+unfolding digits settings_in is_lazy is_bad_event items values left_over is_spoiled max_depth kind_of url_on_literals utf8_lossy utf8_valid_len
 told_between word = legal heard word _ _ refl refl (at_heard, (refl, (refl, (refl, (refl, (refl, tt))))))
 
 -- a push with reply is told before the outcome that it gives
@@ -62,7 +63,7 @@ pub told_and_answered : IsTraceIn heard
     (event.Connected 0 ∷ event.Wrote 0 22 ∷ event.Bytes 0 hello_well ∷ event.Submit subscribe ∷ event.Bytes 0 confirmation ∷ [])
     confirmed
     (action.Push 0 subscription ∷ action.Outcome 0 subscribed ∷ [])
-unfolding digits is_bad_event items values left_over is_spoiled max_depth kind_of url_on_literals utf8_lossy utf8_valid_len
+unfolding digits settings_in is_lazy is_bad_event items values left_over is_spoiled max_depth kind_of url_on_literals utf8_lossy utf8_valid_len
 told_and_answered word = legal heard word _ _ refl refl (at_heard, (refl, (refl, (refl, (refl, tt)))))
 
 -- where nobody hears pushes it gives its outcome alone
@@ -70,7 +71,7 @@ pub answered_unheard : IsTraceIn unheard
     (event.Connected 0 ∷ event.Wrote 0 22 ∷ event.Bytes 0 hello_well ∷ event.Submit subscribe ∷ event.Bytes 0 confirmation ∷ [])
     confirmed
     (action.Outcome 0 subscribed ∷ [])
-unfolding digits is_bad_event items values left_over is_spoiled max_depth kind_of url_on_literals utf8_lossy utf8_valid_len
+unfolding digits settings_in is_lazy is_bad_event items values left_over is_spoiled max_depth kind_of url_on_literals utf8_lossy utf8_valid_len
 answered_unheard word = legal unheard word _ _ refl refl (at_unheard, (refl, (refl, (refl, tt))))
 
 -- a link that a fault ended is closed, this is told, and then the outcome comes
@@ -78,12 +79,12 @@ pub end_is_told : IsTraceIn heard
     (event.Connected 0 ∷ event.Wrote 0 22 ∷ event.Bytes 0 hello_well ∷ event.Submit (get 97) ∷ event.ReadFault 0 Reset ∷ [])
     cut_off_asked
     (action.Push 0 disconnection ∷ action.Outcome 0 (outcome.Fault (error.Io Reset)) ∷ [])
-unfolding digits is_bad_event items values left_over is_spoiled max_depth url_on_literals utf8_lossy utf8_valid_len
+unfolding digits settings_in is_lazy is_bad_event items values left_over is_spoiled max_depth url_on_literals utf8_lossy utf8_valid_len
 end_is_told word = legal heard word _ _ refl refl (at_heard, (refl, (refl, (refl, (refl, tt)))))
 
 -- these fronts stand
 pub push_fronts_stand : (word : ℕ) → EachStands (push_fronts word)
-unfolding digits is_bad_event items values left_over is_spoiled max_depth kind_of url_on_literals utf8_lossy utf8_valid_len
+unfolding digits settings_in is_lazy is_bad_event items values left_over is_spoiled max_depth kind_of url_on_literals utf8_lossy utf8_valid_len
 push_fronts_stand word =
     let early = stands (pushed_early heard word) refl (at_heard, (refl, tt)) in
     let cut_early = stands (cut_off_early heard word) refl (at_heard, (refl, tt)) in
@@ -99,7 +100,7 @@ push_fronts_stand word =
 
 -- a push that is told twice
 pub told_twice : NoneBeginsIn heard invalid_told (action.Push 0 invalidation)
-unfolding digits items values left_over max_depth kind_of url_on_literals utf8_lossy utf8_valid_len
+unfolding digits settings_in is_lazy items values left_over max_depth kind_of url_on_literals utf8_lossy utf8_valid_len
 told_twice word events after h = let m = may_stand heard word events (invalid_told heard word) after (action.Push 0 invalidation) h in cc m.next
 
 -- the push that came between the replies, and the one that confirms
@@ -115,7 +116,7 @@ first_try = record { link = 0; message = 1 }
 
 -- a push that is told before the outcome of a message that was full when it came
 pub told_too_soon : NoneBeginsIn heard invalid_while_asked (action.Push 0 invalidation)
-unfolding digits items values left_over max_depth kind_of url_on_literals utf8_lossy utf8_valid_len
+unfolding digits settings_in is_lazy items values left_over max_depth kind_of url_on_literals utf8_lossy utf8_valid_len
 told_too_soon word events after h =
     let b = book_of (invalid_while_asked heard word) in
     let m = may_stand heard word events (invalid_while_asked heard word) after (action.Push 0 invalidation) h in
@@ -123,7 +124,7 @@ told_too_soon word events after h =
 
 -- an outcome that stands before the push that gives it
 pub answered_before_the_push : (o : Outcome) → NoneBeginsIn heard confirmed (action.Outcome 0 o)
-unfolding digits items values left_over max_depth kind_of url_on_literals utf8_lossy utf8_valid_len
+unfolding digits settings_in is_lazy items values left_over max_depth kind_of url_on_literals utf8_lossy utf8_valid_len
 answered_before_the_push o word events after h =
     let b = book_of (confirmed heard word) in
     let m = answer heard word events (confirmed heard word) after 0 o refl h in
@@ -132,7 +133,7 @@ answered_before_the_push o word events after h =
 
 -- or before one that came before its reply
 pub answered_before_another : (o : Outcome) → NoneBeginsIn heard first_told (action.Outcome 1 o)
-unfolding digits items values left_over max_depth kind_of url_on_literals utf8_lossy utf8_valid_len
+unfolding digits settings_in is_lazy items values left_over max_depth kind_of url_on_literals utf8_lossy utf8_valid_len
 answered_before_another o word events after h =
     let b = book_of (first_told heard word) in
     let m = answer heard word events (first_told heard word) after 1 o refl h in
@@ -154,45 +155,45 @@ push_heard b l info false may = may.is_heard
 
 -- a push that is told with nobody to hear it
 pub told_unheard : (l : ℕ) (info : PushInfo) → NoneBeginsIn unheard confirmed (action.Push l info)
-unfolding digits items values left_over max_depth kind_of url_on_literals utf8_lossy utf8_valid_len
+unfolding digits settings_in is_lazy items values left_over max_depth kind_of url_on_literals utf8_lossy utf8_valid_len
 told_unheard l info word events after h =
     let m = may_stand unheard word events (confirmed unheard word) after (action.Push l info) h in
     let x : false ≡ true = push_heard (book_of (confirmed unheard word)) l info (is_disconnection info.kind) m in cc x
 
 -- a push that came before the link was set up
 pub told_early : NoneBeginsIn heard pushed_early (action.Push 0 invalidation)
-unfolding digits items values left_over max_depth kind_of url_on_literals utf8_lossy utf8_valid_len
+unfolding digits settings_in is_lazy items values left_over max_depth kind_of url_on_literals utf8_lossy utf8_valid_len
 told_early word events after h = let m = may_stand heard word events (pushed_early heard word) after (action.Push 0 invalidation) h in cc m.next
 
 -- the end of a link that was never set up
 pub early_end_told : NoneBeginsIn heard cut_off_early (action.Push 0 disconnection)
-unfolding digits url_on_literals utf8_lossy utf8_valid_len
+unfolding digits settings_in is_lazy url_on_literals utf8_lossy utf8_valid_len
 early_end_told word events after h = let m = may_stand heard word events (cut_off_early heard word) after (action.Push 0 disconnection) h in cc m.ended
 
 -- the end of a link that has not ended
 pub no_end_told : NoneBeginsIn heard confirmed (action.Push 0 disconnection)
-unfolding digits items values left_over max_depth kind_of url_on_literals utf8_lossy utf8_valid_len
+unfolding digits settings_in is_lazy items values left_over max_depth kind_of url_on_literals utf8_lossy utf8_valid_len
 no_end_told word events after h = let m = may_stand heard word events (confirmed heard word) after (action.Push 0 disconnection) h in cc m.ended
 
 -- an end that is told twice
 pub end_told_twice : NoneBeginsIn heard end_told (action.Push 0 disconnection)
-unfolding digits items values left_over max_depth url_on_literals utf8_lossy utf8_valid_len
+unfolding digits settings_in is_lazy items values left_over max_depth url_on_literals utf8_lossy utf8_valid_len
 end_told_twice word events after h =
     let m = may_stand heard word events (end_told heard word) after (action.Push 0 disconnection) h in
     let x : true ≡ false = m.once in cc x
 
 -- an outcome that the end gives, before it is told
 pub answered_before_the_end : (o : Outcome) → NoneBeginsIn heard cut_off_asked (action.Outcome 0 o)
-unfolding digits items values left_over max_depth url_on_literals utf8_lossy utf8_valid_len
+unfolding digits settings_in is_lazy items values left_over max_depth url_on_literals utf8_lossy utf8_valid_len
 answered_before_the_end o word events after h =
     let m = answer heard word events (cut_off_asked heard word) after 0 o refl h in
     let x : false ≡ true = (m.after_closes refl).3 0 refl refl in cc x
 
 -- a turn that begins while a push waits
 pub push_left_out : (number : ℕ) (c : Cause) → NoneBeginsIn heard pushed_alone (action.Turn number c)
-unfolding digits items values left_over max_depth kind_of url_on_literals utf8_lossy utf8_valid_len
+unfolding digits settings_in is_lazy items values left_over max_depth kind_of url_on_literals utf8_lossy utf8_valid_len
 push_left_out number c word events after h = of_cause c (may_stand heard word events (pushed_alone heard word) after (action.Turn number c) h)
   where
     of_cause : (c : Cause) → MayTurn (book_of (pushed_alone heard word)) number c → ⊥
     of_cause (cause.Opening config draws) m = cc m.is_for
-    of_cause (cause.Event e) m = cc (m.is_for.1.written.moved.begun.applied.pushed 0 refl)
+    of_cause (cause.Event e) m = cc (m.is_for.1.written.moved.begun.applied.shown.pushed 0 refl)

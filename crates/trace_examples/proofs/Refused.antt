@@ -21,8 +21,8 @@ use Rattle.legal_trace.specs.Owed.{owed}
 use Rattle.legal_trace.specs.Legal.{Legal}
 use Rattle.trace_examples.specs.Parts.{command, unawaited, two_together, one_atomic, one_skipped, reply}
 use Rattle.trace_examples.specs.Traces.{opening, cut_off_alone, started_one, shut_down, answered_both, answered_alike, pushed, cut_off, told_first, half_filled, refused, left_alone, shut_in_wait}
-use Rattle.trace_examples.proofs.Stood.{answer, still_open, other_letter}
-use Rattle.trace_examples.proofs.Single.{none_is_some, some_is_none, other_fault, single_behind, of_single, of_arrived}
+use Rattle.trace_examples.proofs.Stood.{answer, opens_alone, still_open, other_letter}
+use Rattle.trace_examples.proofs.Single.{none_is_some, some_is_none, other_fault, multiplexed_behind, of_multiplexed, of_arrived}
 
 -- two replies swapped
 pub swapped : (config : Config) (word : ℕ) (events : List Event) (after : List Action)
@@ -141,5 +141,5 @@ pub answered_before_the_close_in_wait : (config : Config) (word : ℕ) (events :
     → Legal config word events (shut_in_wait config word ++ action.Outcome 0 o ∷ after) → ⊥
 unfolding digits
 answered_before_the_close_in_wait config word events after o h =
-    of_single config word (shut_in_wait config word) (λ b. owed b 0 ≡ Some o → ⊥) (single_behind config word events (opening config word) _ 1 (command 71) refl refl h) (none_is_some o) (none_is_some o)
+    of_multiplexed config word (shut_in_wait config word) (λ b. owed b 0 ≡ Some o → ⊥) (multiplexed_behind config word events (opening config word) _ 1 (command 71) refl refl h) (opens_alone config word events _ h) (none_is_some o) (none_is_some o)
     (answer config word events (shut_in_wait config word) after 0 o refl h).owes

@@ -20,6 +20,7 @@ use Rattle.driver_model.specs.declared.action.WaitKind.TheVariants as wait
 use Rattle.driver_model.specs.declared.event.EventKind.TheVariants as event
 use Rattle.driver_model.specs.declared.outcome.Outcome.{Outcome}
 use Rattle.driver_model.specs.declared.outcome.Outcome.TheVariants as outcome
+use Rattle.legal_trace.specs.Managers.{settings_in, is_lazy}
 use Rattle.legal_trace.specs.Events.{is_bad_event}
 use Rattle.legal_trace.specs.Ledger.{Start, renewal_message}
 use Rattle.legal_trace.proofs.Plain.{same_some}
@@ -63,7 +64,7 @@ pub set_up_and_renewed : IsTraceIn sourced
     (once_set_up (event.Creds 1 (of_letter 113) ∷ event.CredsEnd 1 ∷ []))
     renewal_told
     (turn 6 (event.CredsEnd 1) ∷ [])
-unfolding digits is_bad_event items values left_over is_spoiled max_depth url_on_literals utf8_lossy utf8_valid_len
+unfolding digits settings_in is_lazy is_bad_event items values left_over is_spoiled max_depth url_on_literals utf8_lossy utf8_valid_len
 set_up_and_renewed word = legal sourced word _ _ refl refl (at_sourced, (refl, (refl, tt)))
 
 -- those that come while others are unanswered wait until these are taken
@@ -71,7 +72,7 @@ pub one_after_another : IsTraceIn sourced
     (once_set_up (event.Creds 1 (of_letter 113) ∷ event.Creds 1 (of_letter 114) ∷ event.Wrote 0 28 ∷ event.Bytes 0 okay_line ∷ []))
     renewal_taken
     (action.Start 0 2 owner.Auth 1 28 ∷ action.Write 0 (line_of 114) ∷ [])
-unfolding digits is_bad_event items values left_over is_spoiled max_depth url_on_literals utf8_lossy utf8_valid_len
+unfolding digits settings_in is_lazy is_bad_event items values left_over is_spoiled max_depth url_on_literals utf8_lossy utf8_valid_len
 one_after_another word = legal sourced word _ _ refl refl (at_sourced, (refl, (refl, (refl, tt))))
 
 -- an error of their source changes nothing, and where it ends those that came before are told still, and none that come later
@@ -82,7 +83,7 @@ pub none_after_the_end : IsTraceIn sourced
     second_came
     (turn 7 (event.CredsError 1 no_credentials) ∷ turn 8 (event.CredsEnd 1) ∷ turn 9 (event.Creds 1 (of_letter 115)) ∷ turn 10 (event.Wrote 0 28) ∷ turn 11 (event.Bytes 0 okay_line) ∷
     action.Start 0 2 owner.Auth 1 28 ∷ action.Write 0 (line_of 114) ∷ turn 12 (event.Wrote 0 28) ∷ turn 13 (event.Bytes 0 okay_line) ∷ [])
-unfolding digits is_bad_event items values left_over is_spoiled max_depth url_on_literals utf8_lossy utf8_valid_len
+unfolding digits settings_in is_lazy is_bad_event items values left_over is_spoiled max_depth url_on_literals utf8_lossy utf8_valid_len
 none_after_the_end word = legal sourced word _ _ refl refl (at_sourced, (refl, (refl, (refl, tt))))
 
 -- where these are refused they are told no more, and requests go on
@@ -91,7 +92,7 @@ pub none_after_a_refusal : IsTraceIn sourced
     (event.Creds 1 (of_letter 113) ∷ event.Creds 1 (of_letter 114) ∷ event.Wrote 0 28 ∷ event.Bytes 0 wrong_password ∷ event.Submit (command 71) ∷ event.Wrote 0 11 ∷ event.Bytes 0 okay_line ∷ []))
     asked_behind
     (action.Outcome 0 (outcome.One Okay) ∷ [])
-unfolding digits is_bad_event items values left_over is_spoiled max_depth url_on_literals utf8_lossy utf8_valid_len
+unfolding digits settings_in is_lazy is_bad_event items values left_over is_spoiled max_depth url_on_literals utf8_lossy utf8_valid_len
 none_after_a_refusal word = legal sourced word _ _ refl refl (at_sourced, (refl, (refl, (refl, (refl, tt)))))
 
 -- a reply to AUTH answers nobody, and the next is the command's
@@ -99,7 +100,7 @@ pub replied_behind : IsTraceIn sourced
     (once_set_up (event.Creds 1 (of_letter 113) ∷ event.Submit (command 71) ∷ event.Wrote 0 28 ∷ event.Bytes 0 okay_line ∷ event.Wrote 0 11 ∷ event.Bytes 0 okay_line ∷ []))
     one_answered
     (turn 9 (event.Wrote 0 11) ∷ turn 10 (event.Bytes 0 okay_line) ∷ action.Outcome 0 (outcome.One Okay) ∷ [])
-unfolding digits is_bad_event items values left_over is_spoiled max_depth url_on_literals utf8_lossy utf8_valid_len
+unfolding digits settings_in is_lazy is_bad_event items values left_over is_spoiled max_depth url_on_literals utf8_lossy utf8_valid_len
 replied_behind word = legal sourced word _ _ refl refl (at_sourced, (refl, (refl, (refl, (refl, tt)))))
 
 -- a reply that comes when the time for it is over ends them, too
@@ -107,7 +108,7 @@ pub none_after_its_time : IsTraceIn sourced_in_time
     (once_set_up (event.Creds 1 (of_letter 113) ∷ event.Wrote 0 28 ∷ event.Fired 0 ∷ event.Bytes 0 okay_line ∷ event.Creds 1 (of_letter 114) ∷ []))
     answered_late
     []
-unfolding digits is_bad_event items values left_over is_spoiled max_depth url_on_literals utf8_lossy utf8_valid_len
+unfolding digits settings_in is_lazy is_bad_event items values left_over is_spoiled max_depth url_on_literals utf8_lossy utf8_valid_len
 none_after_its_time word = legal sourced_in_time word _ _ refl refl (at_in_time, (refl, (refl, (refl, tt))))
 
 -- and a timer that fires behind the reply changes nothing
@@ -115,7 +116,7 @@ pub fired_behind_the_reply : IsTraceIn sourced_in_time
     (once_set_up (event.Creds 1 (of_letter 113) ∷ event.Wrote 0 28 ∷ event.Bytes 0 okay_line ∷ event.Fired 0 ∷ event.Creds 1 (of_letter 114) ∷ []))
     answered_in_time
     (action.Timer 1 100 (purpose.Renewal 0 1) ∷ action.Start 0 2 owner.Auth 1 28 ∷ action.Write 0 (line_of 114) ∷ [])
-unfolding digits is_bad_event items values left_over is_spoiled max_depth url_on_literals utf8_lossy utf8_valid_len
+unfolding digits settings_in is_lazy is_bad_event items values left_over is_spoiled max_depth url_on_literals utf8_lossy utf8_valid_len
 fired_behind_the_reply word = legal sourced_in_time word _ _ refl refl (at_in_time, (refl, (refl, (refl, (refl, (refl, tt))))))
 
 -- on a link that is held back they wait before all requests, also where its queue is full
@@ -124,7 +125,7 @@ pub before_a_full_queue : IsTraceIn sourced_at_a_time
     let_go
     (action.Start 0 2 owner.Auth 1 28 ∷ action.Write 0 (line_of 113) ∷
     turn 10 (event.Wrote 0 28) ∷ action.Start 0 3 (owner.Try 1 0) 1 11 ∷ action.Write 0 (packed_bytes (command 72)) ∷ action.Wait (owner.Try 2 0) wait.Room ∷ [])
-unfolding digits is_bad_event items values left_over is_spoiled max_depth url_on_literals utf8_lossy utf8_valid_len
+unfolding digits settings_in is_lazy is_bad_event items values left_over is_spoiled max_depth url_on_literals utf8_lossy utf8_valid_len
 before_a_full_queue word = legal sourced_at_a_time word _ _ refl refl (at_a_time, (refl, (refl, (refl, (refl, tt)))))
 
 -- and count in it as one
@@ -132,12 +133,12 @@ pub in_the_queue : IsTraceIn sourced_at_a_time
     (once_set_up (event.Submit (command 71) ∷ event.Creds 1 (of_letter 113) ∷ event.Submit (command 72) ∷ event.Wrote 0 11 ∷ []))
     place_is_taken
     (action.Start 0 2 owner.Auth 1 28 ∷ action.Write 0 (line_of 113) ∷ action.Wait (owner.Try 1 0) wait.Room ∷ [])
-unfolding digits is_bad_event items values left_over is_spoiled max_depth url_on_literals utf8_lossy utf8_valid_len
+unfolding digits settings_in is_lazy is_bad_event items values left_over is_spoiled max_depth url_on_literals utf8_lossy utf8_valid_len
 in_the_queue word = legal sourced_at_a_time word _ _ refl refl (at_a_time, (refl, (refl, (refl, tt))))
 
 -- these fronts stand
 pub renewal_fronts_stand : (word : ℕ) → EachStands (renewal_fronts word)
-unfolding digits is_bad_event items values left_over is_spoiled max_depth url_on_literals utf8_lossy utf8_valid_len
+unfolding digits settings_in is_lazy is_bad_event items values left_over is_spoiled max_depth url_on_literals utf8_lossy utf8_valid_len
 renewal_fronts_stand word =
     let taken = stands (first_taken sourced word) refl (at_sourced, (refl, tt)) in
     let again = stands (needed_again sourced word) refl (at_sourced, (refl, tt)) in
@@ -153,72 +154,74 @@ renewal_fronts_stand word =
 
 -- AUTH where no new credentials came
 pub told_nothing : (k count len : ℕ) → NoneBeginsIn sourced needed_again (action.Start 0 k owner.Auth count len)
-unfolding digits items values left_over max_depth url_on_literals utf8_lossy utf8_valid_len
+unfolding digits settings_in is_lazy items values left_over max_depth url_on_literals utf8_lossy utf8_valid_len
 told_nothing k count len word events after h = cc (may_stand sourced word events (needed_again sourced word) after (action.Start 0 k owner.Auth count len) h).due
 
 -- a second one before the first is answered
 pub told_two_at_once : (k count len : ℕ) → NoneBeginsIn sourced second_came (action.Start 0 k owner.Auth count len)
-unfolding digits items values left_over max_depth url_on_literals utf8_lossy utf8_valid_len
+unfolding digits settings_in is_lazy items values left_over max_depth url_on_literals utf8_lossy utf8_valid_len
 told_two_at_once k count len word events after h = cc (may_stand sourced word events (second_came sourced word) after (action.Start 0 k owner.Auth count len) h).due
 
 -- or after that was refused
 pub told_after_a_refusal : (k count len : ℕ) → NoneBeginsIn sourced renewal_refused (action.Start 0 k owner.Auth count len)
-unfolding digits items values left_over max_depth url_on_literals utf8_lossy utf8_valid_len
+unfolding digits settings_in is_lazy items values left_over max_depth url_on_literals utf8_lossy utf8_valid_len
 told_after_a_refusal k count len word events after h = cc (may_stand sourced word events (renewal_refused sourced word) after (action.Start 0 k owner.Auth count len) h).due
 
 -- or was answered when its time was over
 pub told_after_its_time : (k count len : ℕ) → NoneBeginsIn sourced_in_time answered_late (action.Start 0 k owner.Auth count len)
-unfolding digits items values left_over max_depth url_on_literals utf8_lossy utf8_valid_len
+unfolding digits settings_in is_lazy items values left_over max_depth url_on_literals utf8_lossy utf8_valid_len
 told_after_its_time k count len word events after h = cc (may_stand sourced_in_time word events (answered_late sourced_in_time word) after (action.Start 0 k owner.Auth count len) h).due
 
 -- or before its timer is asked for
 pub told_untimed : (k count len : ℕ) → NoneBeginsIn sourced_in_time renewal_came (action.Start 0 k owner.Auth count len)
-unfolding digits items values left_over max_depth url_on_literals utf8_lossy utf8_valid_len
+unfolding digits settings_in is_lazy items values left_over max_depth url_on_literals utf8_lossy utf8_valid_len
 told_untimed k count len word events after h =
     let m = may_stand sourced_in_time word events (renewal_came sourced_in_time word) after (action.Start 0 k owner.Auth count len) h in
     let i = m.timed 0 (λ e. cc e) in omega (arith, i)
 
 -- a message of other credentials, of more or of fewer bytes
 pub told_otherwise : (k count len : ℕ) → len ≢ 28 → NoneBeginsIn sourced renewal_came (action.Start 0 k owner.Auth count len)
-unfolding digits items values left_over max_depth url_on_literals utf8_lossy utf8_valid_len
+unfolding digits settings_in is_lazy items values left_over max_depth url_on_literals utf8_lossy utf8_valid_len
 told_otherwise k count len other word events after h =
     let m = may_stand sourced word events (renewal_came sourced word) after (action.Start 0 k owner.Auth count len) h in
     other (m.long_as_its_bytes ∙ ap (λ (s : Start). length s.bytes) (ap renewal_message (same_some m.credentials (of_letter 113) (sym m.due))))
 
 -- a timer for them where none is to be
 pub timed_for_nothing : (t ms : ℕ) → NoneBeginsIn sourced renewal_came (action.Timer t ms (purpose.Renewal 0 0))
-unfolding digits items values left_over max_depth url_on_literals utf8_lossy utf8_valid_len
+unfolding digits settings_in is_lazy items values left_over max_depth url_on_literals utf8_lossy utf8_valid_len
 timed_for_nothing t ms word events after h = elim (may_stand sourced word events (renewal_came sourced word) after (action.Timer t ms (purpose.Renewal 0 0)) h) [
-  | inl m ↦ cc m.is_for
+  | inl (inl m) ↦ cc m.is_for
+  | inl (inr m) ↦ cc m.is_for
   | inr (inl m) ↦ cc m.is_for
-  | inr (inr m) ↦ cc m.within
+  | inr (inr (inl m)) ↦ cc m.within
+  | inr (inr (inr m)) ↦ cc m.within
 ]
 
 -- a request that starts before them
 pub started_before_them : (l k round count len : ℕ) → NoneBeginsIn sourced_at_a_time let_go (action.Start l k (owner.Try 1 round) count len)
-unfolding digits items values left_over max_depth url_on_literals utf8_lossy utf8_valid_len
+unfolding digits settings_in is_lazy items values left_over max_depth url_on_literals utf8_lossy utf8_valid_len
 started_before_them l k round count len word events after h =
     let m = may_stand sourced_at_a_time word events (let_go sourced_at_a_time word) after (action.Start l k (owner.Try 1 round) count len) h in
     cc (m.1.begun.renewed 0 (of_letter 113) refl)
 
 -- or waits in their place
 pub waits_in_their_place : NoneBeginsIn sourced_at_a_time came_behind (action.Wait (owner.Try 1 0) wait.Room)
-unfolding digits items values left_over max_depth url_on_literals utf8_lossy utf8_valid_len
+unfolding digits settings_in is_lazy items values left_over max_depth url_on_literals utf8_lossy utf8_valid_len
 waits_in_their_place word events after h = cc (may_stand sourced_at_a_time word events (came_behind sourced_at_a_time word) after (action.Wait (owner.Try 1 0) wait.Room) h).1.holds
 
 -- the reply to AUTH as an outcome
 pub answered_by_it : (o : Outcome) → NoneBeginsIn sourced one_answered (action.Outcome 0 o)
-unfolding digits items values left_over max_depth url_on_literals utf8_lossy utf8_valid_len
+unfolding digits settings_in is_lazy items values left_over max_depth url_on_literals utf8_lossy utf8_valid_len
 answered_by_it o word events after h = cc (answer sourced word events (one_answered sourced word) after 0 o refl h).owes
 
 -- a second source before the creation is shown
 pub needed_too_soon : (c : ℕ) → NoneBeginsIn sourced first_taken (action.NeedCreds c 0)
-unfolding digits items values left_over max_depth url_on_literals utf8_lossy utf8_valid_len
+unfolding digits settings_in is_lazy items values left_over max_depth url_on_literals utf8_lossy utf8_valid_len
 needed_too_soon c word events after h = (may_stand sourced word events (first_taken sourced word) after (action.NeedCreds c 0) h).created 0 refl refl
 
 -- a turn that begins while new credentials are to be told
 pub left_untold : (number : ℕ) (c : Cause) → NoneBeginsIn sourced renewal_came (action.Turn number c)
-unfolding digits items values left_over max_depth url_on_literals utf8_lossy utf8_valid_len
+unfolding digits settings_in is_lazy items values left_over max_depth url_on_literals utf8_lossy utf8_valid_len
 left_untold number c word events after h = of_cause c (may_stand sourced word events (renewal_came sourced word) after (action.Turn number c) h)
   where
     of_cause : (c : Cause) → MayTurn (book_of (renewal_came sourced word)) number c → ⊥

@@ -18,6 +18,7 @@ use Rattle.driver_model.specs.declared.action.WaitKind.TheVariants as wait
 use Rattle.driver_model.specs.declared.event.EventKind.TheVariants as event
 use Rattle.driver_model.specs.declared.outcome.Outcome.TheVariants as outcome
 use Rattle.driver_model.specs.Request.{packed_bytes}
+use Rattle.legal_trace.specs.Managers.{settings_in, is_lazy}
 use Rattle.legal_trace.specs.Events.{is_bad_event}
 use Rattle.trace_examples.specs.Parts.{turn, command, reply, one_reply, okay_line}
 use Rattle.trace_examples.specs.Setups.{told_at, secured, secured_in_time, of_a_user, of_a_library, of_all, by_default, of_a_held_user, said_later, named_in_time, wrong_password, refusal, other_arguments, unknown_command, all_well, set_up, refusal_told, said_again, library_said, all_said, cut_off_during, shut_during, overdue_during, waited_for_both}
@@ -109,7 +110,7 @@ pub starts_once_set_up : IsTraceIn secured
     (event.Connected 0 ∷ event.Submit (command 71) ∷ event.Wrote 0 22 ∷ event.Bytes 0 okay_line ∷ event.Bytes 0 one_reply ∷ [])
     set_up
     (action.Start 0 1 (owner.Try 0 0) 1 11 ∷ action.Write 0 (packed_bytes (command 71)) ∷ turn 5 (event.Bytes 0 one_reply) ∷ action.Outcome 0 (reply 120) ∷ [])
-unfolding digits is_bad_event items values left_over is_spoiled max_depth url_on_literals utf8_lossy utf8_valid_len
+unfolding digits settings_in is_lazy is_bad_event items values left_over is_spoiled max_depth url_on_literals utf8_lossy utf8_valid_len
 starts_once_set_up word = legal secured word _ _ refl refl (at_secured (Some None), (refl, (refl, (refl, tt))))
 
 -- a command that waited for the connect waits for the setup behind it
@@ -117,7 +118,7 @@ pub the_connect_and_then_the_setup : IsTraceIn secured
     (event.Submit (command 71) ∷ event.Connected 0 ∷ [])
     waited_for_both
     (action.Wait (owner.Try 0 0) wait.Setup ∷ [])
-unfolding digits is_bad_event url_on_literals utf8_lossy utf8_valid_len
+unfolding digits settings_in is_lazy is_bad_event url_on_literals utf8_lossy utf8_valid_len
 the_connect_and_then_the_setup word = legal secured word _ _ refl refl (at_secured (Some None), (refl, tt))
 
 -- the password is refused: the link is closed, this is shown, and the command that waits and the next one get the error
@@ -125,7 +126,7 @@ pub password_is_refused : IsTraceIn secured
     (event.Connected 0 ∷ event.Submit (command 71) ∷ event.Bytes 0 wrong_password ∷ event.Submit (command 72) ∷ [])
     refusal_told
     (action.Outcome 0 (outcome.Fault refusal) ∷ turn 4 (event.Submit (command 72)) ∷ action.Outcome 1 (outcome.Fault refusal) ∷ [])
-unfolding digits is_bad_event items values left_over is_spoiled max_depth url_on_literals utf8_lossy utf8_valid_len
+unfolding digits settings_in is_lazy is_bad_event items values left_over is_spoiled max_depth url_on_literals utf8_lossy utf8_valid_len
 password_is_refused word = legal secured word _ _ refl refl (at_secured (Some None), (refl, (refl, (refl, (refl, tt)))))
 
 -- the server counts other arguments: the setup starts once more, without the user name
@@ -133,7 +134,7 @@ pub without_the_user : IsTraceIn of_a_user
     (event.Connected 0 ∷ event.Wrote 0 29 ∷ event.Bytes 0 other_arguments ∷ event.Bytes 0 okay_line ∷ [])
     said_again
     (turn 4 (event.Bytes 0 okay_line) ∷ action.Created None ∷ [])
-unfolding digits is_bad_event items values left_over is_spoiled max_depth url_on_literals utf8_lossy utf8_valid_len
+unfolding digits settings_in is_lazy is_bad_event items values left_over is_spoiled max_depth url_on_literals utf8_lossy utf8_valid_len
 without_the_user word = legal of_a_user word _ _ refl refl (at_users, (refl, (refl, tt)))
 
 -- it starts once nothing holds the link back
@@ -141,7 +142,7 @@ pub without_the_user_later : IsTraceIn of_a_held_user
     (event.Connected 0 ∷ event.Bytes 0 other_arguments ∷ event.Wrote 0 29 ∷ event.Bytes 0 okay_line ∷ [])
     said_later
     (turn 4 (event.Bytes 0 okay_line) ∷ action.Created None ∷ [])
-unfolding digits is_bad_event items values left_over is_spoiled max_depth url_on_literals utf8_lossy utf8_valid_len
+unfolding digits settings_in is_lazy is_bad_event items values left_over is_spoiled max_depth url_on_literals utf8_lossy utf8_valid_len
 without_the_user_later word = legal of_a_held_user word _ _ refl refl (at_held_users, (refl, (refl, tt)))
 
 -- where nothing is said but the address the library is named, and a request has 500 milliseconds once this is well
@@ -149,7 +150,7 @@ pub by_the_address_alone : IsTraceIn by_default
     (event.Connected 0 ∷ event.Bytes 0 okay_line ∷ event.Bytes 0 okay_line ∷ event.Submit (command 71) ∷ event.Bytes 0 one_reply ∷ [])
     named_in_time
     (turn 4 (event.Submit (command 71)) ∷ action.Timer 1 500 (purpose.Response (owner.Try 0 0)) ∷ action.Start 0 1 (owner.Try 0 0) 1 11 ∷ turn 5 (event.Bytes 0 one_reply) ∷ action.Outcome 0 (reply 120) ∷ [])
-unfolding digits is_bad_event items values left_over is_spoiled max_depth url_on_literals utf8_lossy utf8_valid_len
+unfolding digits settings_in is_lazy is_bad_event items values left_over is_spoiled max_depth url_on_literals utf8_lossy utf8_valid_len
 by_the_address_alone word = legal by_default word _ _ refl refl (at_default, ((refl, refl), (refl, (tt, (refl, tt)))))
 
 -- an error about the library's name is none, and the link is ready once both replies came
@@ -157,7 +158,7 @@ pub library_unknown : IsTraceIn of_a_library
     (event.Connected 0 ∷ event.Bytes 0 unknown_command ∷ event.Bytes 0 okay_line ∷ [])
     library_said
     (action.Created None ∷ [])
-unfolding digits is_bad_event items values left_over is_spoiled max_depth url_on_literals utf8_lossy utf8_valid_len
+unfolding digits settings_in is_lazy is_bad_event items values left_over is_spoiled max_depth url_on_literals utf8_lossy utf8_valid_len
 library_unknown word = legal of_a_library word _ _ refl refl (at_open, (refl, tt))
 
 -- all that can be said is said in one message, in this order
@@ -165,7 +166,7 @@ pub all_in_order : IsTraceIn of_all
     (event.Connected 0 ∷ event.Bytes 0 all_well ∷ [])
     all_said
     (action.Created None ∷ [])
-unfolding digits is_bad_event items values left_over is_spoiled max_depth url_on_literals utf8_lossy utf8_valid_len
+unfolding digits settings_in is_lazy is_bad_event items values left_over is_spoiled max_depth url_on_literals utf8_lossy utf8_valid_len
 all_in_order word = legal of_all word _ _ refl refl (at_all, (refl, tt))
 
 -- a link that fails during its setup is closed, and its opening failed by the closed connection
@@ -173,7 +174,7 @@ pub cut_off_in_setup : IsTraceIn secured
     (event.Connected 0 ∷ event.Submit (command 71) ∷ event.ReadFault 0 Reset ∷ [])
     cut_off_during
     (action.Close 0 ∷ action.Created (Some error.Closed) ∷ action.Outcome 0 (outcome.Fault error.Closed) ∷ [])
-unfolding digits is_bad_event url_on_literals utf8_lossy utf8_valid_len
+unfolding digits settings_in is_lazy is_bad_event url_on_literals utf8_lossy utf8_valid_len
 cut_off_in_setup word = legal secured word _ _ refl refl (at_secured (Some None), (refl, (refl, (refl, tt))))
 
 -- the time of a connect holds until the link is set up
@@ -181,7 +182,7 @@ pub timed_out_in_setup : IsTraceIn secured_in_time
     (event.Connected 0 ∷ event.Fired 0 ∷ [])
     overdue_during
     (action.Close 0 ∷ action.Created (Some (error.Io TimedOut)) ∷ [])
-unfolding digits is_bad_event url_on_literals utf8_lossy utf8_valid_len
+unfolding digits settings_in is_lazy is_bad_event url_on_literals utf8_lossy utf8_valid_len
 timed_out_in_setup word = legal secured_in_time word _ _ refl refl (at_secured None, ((refl, refl), (refl, (refl, tt))))
 
 -- the shutdown closes a link that is being set up, and then the connection of a request that waits for it
@@ -189,5 +190,5 @@ pub shut_down_in_setup : IsTraceIn secured
     (event.Connected 0 ∷ event.Submit (command 71) ∷ event.Shutdown ∷ [])
     shut_during
     (action.Close 0 ∷ action.Outcome 0 (outcome.Fault error.Closed) ∷ [])
-unfolding digits is_bad_event url_on_literals utf8_lossy utf8_valid_len
+unfolding digits settings_in is_lazy is_bad_event url_on_literals utf8_lossy utf8_valid_len
 shut_down_in_setup word = legal secured word _ _ refl refl (at_secured (Some None), (refl, (refl, tt)))

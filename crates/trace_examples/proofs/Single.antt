@@ -1,6 +1,6 @@
--- Books of traces with any configuration: where a command came the session is one multiplexed connection, which hears pushes or
+-- Books of traces with any configuration: where a command came the session is a multiplexed connection, which hears pushes or
 -- nothing, and where its link was up at once nothing is said to its server.
-use Rattle.std.proofs.Common.{◌≡◌, ℕ, ◌==◌, zero, suc, ℤ, pos, negsuc, Bool, true, false, ◌&&◌, List, ◌∷◌, ◌++◌, Option, Some, None, drop, unwrap_or, refl, sym, ap, ◌∙◌, subst}
+use Rattle.std.proofs.Common.{◌≡◌, ℕ, ◌==◌, zero, suc, ℤ, pos, negsuc, Bool, true, false, ◌&&◌, List, [], ◌∷◌, ◌++◌, Option, Some, None, drop, refl, sym, ap, ◌∙◌, subst}
 use Rattle.containers.proofs.Choices.{not_both}
 use Rattle.connection_info.specs.declared.address.RedisConnectionInfo.{RedisConnectionInfo}
 use Rattle.connection_info.specs.declared.protocol.ProtocolVersion.{ProtocolVersion}
@@ -18,67 +18,89 @@ use Rattle.driver_model.specs.declared.kind.SessionKind.TheVariants as kind
 use Rattle.driver_model.specs.declared.outcome.Outcome.{Outcome}
 use Rattle.driver_model.specs.declared.outcome.Outcome.TheVariants as outcome
 use Rattle.redis_error.specs.declared.redis_error.RedisError.{RedisError}
-use Rattle.driver_model.specs.Config.{bare_info, told_info, wants_credentials, hearing_in, hearing_of}
+use Rattle.driver_model.specs.Config.{kind_of, wants_pushes, bare_info, told_info, wants_credentials, heard_on, hearing_in, hearing_of}
 use Rattle.driver_model.specs.Hearing.{is_watching}
+use Rattle.driver_model.specs.Kind.{is_multiplexed}
 use Rattle.driver_model.specs.Request.{has_no_form, is_foreign, is_formless}
 use Rattle.driver_model.specs.Setup.{says_nothing}
+use Rattle.manager_config.specs.declared.config.ConnectionManagerConfig.{ConnectionManagerConfig}
 use Rattle.legal_trace.specs.Events.{is_bad_event}
+use Rattle.legal_trace.specs.Managers.{settings_in, is_last}
+use Rattle.legal_trace.specs.Again.{repeats_in}
 use Rattle.legal_trace.specs.Ledger.{blank_ledger, asks, noted_each}
 use Rattle.legal_trace.specs.Book.{Book, if_mine, kind_in, entered_each}
 use Rattle.legal_trace.specs.Legal.{Legal}
 use Rattle.trace_examples.specs.Parts.{turn}
 use Rattle.trace_examples.specs.Traces.{opening, arrived, came_up}
-use Rattle.trace_examples.proofs.Stood.{IsGiven, IsSilent, book_of, may_stand, came_up_given, came_up_silent}
+use Rattle.trace_examples.proofs.Stood.{IsGiven, IsSilent, book_of, may_stand, opens_alone, came_up_given, came_up_silent}
 
--- the book behind the opening, where this is said to the server of its link, credentials come of sources or don't, and this is heard
-abbrev opened : Config → ℕ → RedisConnectionInfo → Bool → Hearing → Book
-opened config word info wanted hears = record (book_of (opening config word)) { link = λ n. noted_each blank_ledger (if_mine (0 == n) (asks info wanted hears)) }
+-- the book behind the opening, where this is said to the server of its link, credentials come of sources or don't, this is heard, and
+-- the session comes back so, if it does
+abbrev opened : Config → ℕ → RedisConnectionInfo → Bool → Hearing → Option ConnectionManagerConfig → Book
+opened config word info wanted hears settings =
+    record (book_of (opening config word)) { link = λ n. noted_each blank_ledger (if_mine (0 == n) (asks info wanted hears (is_last settings 0) (repeats_in settings []))) }
 
 -- the book of a front that goes on behind it
+abbrev book_as : Config → ℕ → List Action → RedisConnectionInfo → Bool → Hearing → Option ConnectionManagerConfig → Book
+book_as config word front info wanted hears settings = entered_each (opened config word info wanted hears settings) (drop 2 front)
+
+-- where it doesn't come back
 abbrev pub book_from : Config → ℕ → List Action → RedisConnectionInfo → Bool → Hearing → Book
-book_from config word front info wanted hears = entered_each (opened config word info wanted hears) (drop 2 front)
+book_from config word front info wanted hears = book_as config word front info wanted hears None
 
 -- as its configuration says all this
 abbrev pub book_said : Config → ℕ → List Action → Book
-book_said config word front = book_from config word front (told_info config) (wants_credentials config) (hearing_of config)
+book_said config word front = book_as config word front (told_info config) (wants_credentials config) (hearing_of config) (settings_in (Some config))
 
--- where a link of publish/subscribe has no such submission, a session that has it is one multiplexed connection
-single_has : (k : SessionKind) (what : Submission) → is_foreign what ≡ true → has_no_form k what ≡ false → k ≡ kind.Single
-single_has kind.Single what foreign formed = refl
-single_has kind.PubSub what foreign formed = absurd (not_both (is_foreign what) formed foreign)
-single_has kind.Monitor what foreign formed = cc formed
+-- what holds of the book of one that doesn't come back holds of the one that its configuration says
+pub of_alone : (config : Config) (word : ℕ) (front : List Action) (P : Book → Type 0) → settings_in (Some config) ≡ None
+    → P (book_from config word front (told_info config) (wants_credentials config) (hearing_of config)) → P (book_said config word front)
+of_alone config word front P alone h = subst (λ s. P (book_as config word front (told_info config) (wants_credentials config) (hearing_of config) s)) (sym alone) h
+
+-- where a link of publish/subscribe has no such submission, a session that has it is a multiplexed connection
+multiplexed_has : (k : SessionKind) (what : Submission) → is_foreign what ≡ true → has_no_form k what ≡ false → is_multiplexed k ≡ true
+multiplexed_has kind.Single what foreign formed = refl
+multiplexed_has (kind.Manager lazy) what foreign formed = refl
+multiplexed_has kind.PubSub what foreign formed = absurd (not_both (is_foreign what) formed foreign)
+multiplexed_has kind.Monitor what foreign formed = cc formed
 
 -- what has no form in either has none in any session
 pub no_session_has : (k : SessionKind) (what : Submission) → is_formless what ≡ true → is_foreign what ≡ true → has_no_form k what ≡ false → ⊥
 no_session_has kind.Single what formless foreign formed = not_both (is_formless what) formed formless
+no_session_has (kind.Manager lazy) what formless foreign formed = not_both (is_formless what) formed formless
 no_session_has kind.PubSub what formless foreign formed = not_both (is_foreign what) formed foreign
 no_session_has kind.Monitor what formless foreign formed = cc formed
 
--- a session to which such a submission was handed in is one multiplexed connection
-pub single_behind : (config : Config) (word : ℕ) (events : List Event) (front after : List Action) (k : ℕ) (what : Submission) → (book_of front).config ≡ Some config → is_foreign what ≡ true
-    → Legal config word events (front ++ turn k (event.Submit what) ∷ after) → config.kind ≡ kind.Single
+-- a session to which such a submission was handed in is a multiplexed connection
+pub multiplexed_behind : (config : Config) (word : ℕ) (events : List Event) (front after : List Action) (k : ℕ) (what : Submission) → (book_of front).config ≡ Some config → is_foreign what ≡ true
+    → Legal config word events (front ++ turn k (event.Submit what) ∷ after) → is_multiplexed (kind_of config) ≡ true
 unfolding is_bad_event
-single_behind config word events front after k what same foreign h =
+multiplexed_behind config word events front after k what same foreign h =
     let m = may_stand config word events front after (turn k (event.Submit what)) h in
-    single_has config.kind what foreign (ap (λ c. has_no_form (kind_in c) what) (sym same) ∙ m.is_for.2)
+    multiplexed_has (kind_of config) what foreign (ap (λ c. has_no_form (kind_in c) what) (sym same) ∙ m.is_for.2)
 
--- what holds where nothing is heard, and where pushes are, holds on one multiplexed connection
-of_hearing : (P : Hearing → Type 0) (pushes : Bool) → P hearing.Nothing → P hearing.Pushes → P (hearing_in kind.Single pushes)
-of_hearing P true none some = some
-of_hearing P false none some = none
+-- what holds where nothing is heard, and where pushes are, holds on a multiplexed connection
+of_heard : (P : Hearing → Type 0) (pushes : Bool) → P hearing.Nothing → P hearing.Pushes → P (heard_on pushes)
+of_heard P true none some = some
+of_heard P false none some = none
+
+of_hearing : (P : Hearing → Type 0) (k : SessionKind) (pushes : Bool) → is_multiplexed k ≡ true → P hearing.Nothing → P hearing.Pushes → P (hearing_in k pushes)
+of_hearing P kind.Single pushes is none some = of_heard P pushes none some
+of_hearing P (kind.Manager lazy) pushes is none some = of_heard P pushes none some
+of_hearing P kind.PubSub pushes is none some = absurd (cc)
+of_hearing P kind.Monitor pushes is none some = absurd (cc)
 
 -- its server isn't put into monitor mode
-pub unwatched : (config : Config) → config.kind ≡ kind.Single → is_watching (hearing_of config) ≡ false
-unwatched config single = ap (λ k. is_watching (hearing_in k (unwrap_or config.push false))) single ∙ of_hearing (λ h. is_watching h ≡ false) (unwrap_or config.push false) refl refl
+pub unwatched : (config : Config) → is_multiplexed (kind_of config) ≡ true → is_watching (hearing_of config) ≡ false
+unwatched config is = of_hearing (λ h. is_watching h ≡ false) (kind_of config) (wants_pushes config) is refl refl
 
 -- what holds of both books holds of the one that its configuration says
-pub of_single : (config : Config) (word : ℕ) (front : List Action) (P : Book → Type 0) → config.kind ≡ kind.Single
+pub of_multiplexed : (config : Config) (word : ℕ) (front : List Action) (P : Book → Type 0) → is_multiplexed (kind_of config) ≡ true → settings_in (Some config) ≡ None
     → P (book_from config word front (told_info config) (wants_credentials config) hearing.Nothing)
     → P (book_from config word front (told_info config) (wants_credentials config) hearing.Pushes)
     → P (book_said config word front)
-of_single config word front P single none some =
-    let Q : Hearing → Type 0 = λ h. P (book_from config word front (told_info config) (wants_credentials config) h) in
-    subst (λ k. Q (hearing_in k (unwrap_or config.push false))) (sym single) (of_hearing Q (unwrap_or config.push false) none some)
+of_multiplexed config word front P is alone none some =
+    of_alone config word front P alone (of_hearing (λ h. P (book_from config word front (told_info config) (wants_credentials config) h)) (kind_of config) (wants_pushes config) is none some)
 
 -- nothing is said to a server, where perhaps a user has a name
 abbrev pub silent_as : Option (List ℕ) → RedisConnectionInfo
@@ -108,18 +130,18 @@ unwanted true e = cc e
 unwanted false e = refl
 
 -- so it is of a link that was up at once
-pub of_silent : (config : Config) (word : ℕ) (front : List Action) (P : Book → Type 0) → config.kind ≡ kind.Single → IsSilent config → IsGiven config
+pub of_silent : (config : Config) (word : ℕ) (front : List Action) (P : Book → Type 0) → is_multiplexed (kind_of config) ≡ true → settings_in (Some config) ≡ None → IsSilent config → IsGiven config
     → ((name : Option (List ℕ)) → P (book_from config word front (silent_as name) false hearing.Nothing))
     → ((name : Option (List ℕ)) → P (book_from config word front (silent_as name) false hearing.Pushes))
     → P (book_said config word front)
-of_silent config word front P single silent given none some =
+of_silent config word front P is alone silent given none some =
     let info = told_info config in
     let said : info ≡ silent_as info.username = silent_info info silent in
     let bare : wants_credentials config ≡ false = unwanted (wants_credentials config) given in
     let Q : Hearing → Type 0 = λ h. P (book_from config word front info (wants_credentials config) h) in
     let of : (h : Hearing) → ((name : Option (List ℕ)) → P (book_from config word front (silent_as name) false h)) → Q h = λ h p.
     subst (λ w. P (book_from config word front info w h)) (sym bare) (subst (λ i. P (book_from config word front i false h)) (sym said) (p info.username)) in
-    of_single config word front P single (of hearing.Nothing none) (of hearing.Pushes some)
+    of_multiplexed config word front P is alone (of hearing.Nothing none) (of hearing.Pushes some)
 
 -- and of one on which such a submission came then
 pub of_arrived : (config : Config) (word : ℕ) (events : List Event) (front after : List Action) (what : Submission) (P : Book → Type 0) → is_foreign what ≡ true
@@ -128,7 +150,7 @@ pub of_arrived : (config : Config) (word : ℕ) (events : List Event) (front aft
     → ((name : Option (List ℕ)) → P (book_from config word front (silent_as name) false hearing.Pushes))
     → P (book_said config word front)
 of_arrived config word events front after what P foreign h none some =
-    of_silent config word front P (single_behind config word events (came_up config word) after 2 what refl foreign h)
+    of_silent config word front P (multiplexed_behind config word events (came_up config word) after 2 what refl foreign h) (opens_alone config word events _ h)
     (came_up_silent config word events (turn 2 (event.Submit what) ∷ after) h) (came_up_given config word events (turn 2 (event.Submit what) ∷ after) h) none some
 
 -- none is not some, nor is some none

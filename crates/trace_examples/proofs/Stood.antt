@@ -1,10 +1,12 @@
 -- What the parts of a legal trace say of one action in it.
-use Rattle.std.proofs.Common.{◌≡◌, ℕ, ◌==◌, Bool, true, false, List, [], ◌∷◌, ◌++◌, ◌&&◌, if◌then◌else◌, Some, None, inl, inr, refl}
-use Rattle.containers.proofs.Choices.{ne_from, not_both}
+use Rattle.std.proofs.Common.{◌≡◌, codes, ℕ, ◌==◌, Bool, true, false, Option, List, [], ◌∷◌, ◌++◌, ◌&&◌, if◌then◌else◌, Some, None, is_some, inl, inr, refl, ap, ◌∙◌}
+use Rattle.containers.proofs.Choices.{by_test, ne_from, not_both}
+use Rattle.manager_config.specs.declared.config.ConnectionManagerConfig.{ConnectionManagerConfig}
 use Rattle.connection_setup.specs.Setup.{setup}
 use Rattle.connection_setup.specs.declared.judgement.SetupResult.TheVariants as result
 use Rattle.driver_model.specs.declared.action.Action.{Action}
 use Rattle.driver_model.specs.declared.action.Action.TheVariants as action
+use Rattle.driver_model.specs.declared.action.Cause.TheVariants as cause
 use Rattle.driver_model.specs.declared.action.Owner.TheVariants as owner
 use Rattle.driver_model.specs.declared.action.WaitKind.TheVariants as wait
 use Rattle.driver_model.specs.declared.config.Config.{Config}
@@ -16,8 +18,9 @@ use Rattle.driver_model.specs.declared.event.Submission.{Submission}
 use Rattle.driver_model.specs.declared.outcome.Outcome.{Outcome}
 use Rattle.legal_trace.specs.Ledger.{is_ready, is_set_up, is_well}
 use Rattle.legal_trace.specs.Story.{is_awaited}
+use Rattle.legal_trace.specs.Managers.{settings_in, is_lazy}
 use Rattle.legal_trace.specs.Book.{Book, blank_book, entered_each}
-use Rattle.legal_trace.specs.Legal.{IsOpen, MayAnswer, MayStand, Legal}
+use Rattle.legal_trace.specs.Legal.{IsOpen, MayAnswer, MayBeCreated, MayShowCreation, MayStand, Legal}
 use Rattle.legal_trace.proofs.Books.{stand_behind}
 use Rattle.legal_trace.proofs.Moves.{tells_mean, ready_is_up, ready_is_set}
 use Rattle.legal_trace.proofs.Setups.{set_is_given, set_is_said}
@@ -52,24 +55,45 @@ other_letter x y apart e = ne_from x y apart (same_letter x y e)
     same_letter : (x y : ℕ) → Some (reply x) ≡ Some (reply y) → x ≡ y
     same_letter x y e = cc e
 
--- where the first link isn't up, none is ready
-pub none_is_ready : (b : Book) (l : ℕ) → IsBounded b → (b.link 0).up ≡ false → is_ready (b.link l) ≡ true → ⊥
-none_is_ready b l bounded down = first_and_idle b (λ m. is_ready (b.link m) ≡ true → ⊥) l bounded
+-- where one link was asked for, and isn't up, none is ready
+pub none_is_ready : (b : Book) (l : ℕ) → IsBounded b → b.links ≡ 1 → (b.link 0).up ≡ false → is_ready (b.link l) ≡ true → ⊥
+none_is_ready b l bounded one down = first_and_idle b (λ m. is_ready (b.link m) ≡ true → ⊥) l bounded one
     (λ r. not_both (b.link 0).up down (ready_is_up (b.link 0) r))
     (λ idle r. not_both (b.link l).up idle.down (ready_is_up (b.link l) r))
 
 -- nor where it isn't set up
-pub none_is_set : (b : Book) (l : ℕ) → IsBounded b → is_set_up (b.link 0) ≡ false → is_ready (b.link l) ≡ true → ⊥
-none_is_set b l bounded unset = first_and_idle b (λ m. is_ready (b.link m) ≡ true → ⊥) l bounded
+pub none_is_set : (b : Book) (l : ℕ) → IsBounded b → b.links ≡ 1 → is_set_up (b.link 0) ≡ false → is_ready (b.link l) ≡ true → ⊥
+none_is_set b l bounded one unset = first_and_idle b (λ m. is_ready (b.link m) ≡ true → ⊥) l bounded one
     (λ r. not_both (is_set_up (b.link 0)) unset (ready_is_set (b.link 0) r))
     (λ idle r. not_both (b.link l).up idle.down (ready_is_up (b.link l) r))
 
--- where the creation is shown, the first link is ready
-created_ready : (config : Config) (word : ℕ) (events : List Event) (front after : List Action) → IsBounded (book_of front) → Legal config word events (front ++ action.Created None ∷ after) → is_ready ((book_of front).link 0) ≡ true
-created_ready config word events front after bounded h =
-    let m = may_stand config word events front after (action.Created None) h in
+-- a session whose opening asks for the first link, and shows nothing before, doesn't wait for its first submission
+pub opens_at_once : (config : Config) (word : ℕ) (events : List Event) (after : List Action) → Legal config word events (opening config word ++ after) → is_lazy (Some config) ≡ false
+opens_at_once config word events after h =
+    let m = may_stand config word events (action.Turn 0 (cause.Opening config word) ∷ []) after (action.Connect 0 (codes "h") 6379) h in
+    by_test (is_lazy (Some config)) (is_lazy (Some config) ≡ false) (λ t. absurd (m.shown.created.lazy t refl)) (λ f. f)
+
+-- and doesn't come back
+pub opens_alone : (config : Config) (word : ℕ) (events : List Event) (after : List Action) → Legal config word events (opening config word ++ after) → settings_in (Some config) ≡ None
+opens_alone config word events after h =
+    none_in (settings_in (Some config)) (may_stand config word events (action.Turn 0 (cause.Opening config word) ∷ []) after (action.Connect 0 (codes "h") 6379) h).due
+  where
+    none_in : (s : Option ConnectionManagerConfig) → (if is_some s then false else true) ≡ true → s ≡ None
+    none_in None e = refl
+    none_in (Some settings) e = cc e
+
+-- one that doesn't wait so is created where a link is ready
+pub created_by_link : (b : Book) → is_lazy b.config ≡ false → MayShowCreation b None → MayBeCreated b
+created_by_link b lazy (inl may) = may
+created_by_link b lazy (inr may) = absurd (not_both (is_lazy b.config) lazy (ap is_lazy may.told ∙ may.lazy))
+
+-- where the creation is shown of one that doesn't wait so, and one link was asked for, this is ready
+created_ready : (config : Config) (word : ℕ) (events : List Event) (front after : List Action) → IsBounded (book_of front) → (book_of front).links ≡ 1 → is_lazy (book_of front).config ≡ false
+    → Legal config word events (front ++ action.Created None ∷ after) → is_ready ((book_of front).link 0) ≡ true
+created_ready config word events front after bounded one lazy h =
     let b = book_of front in
-    first_and_idle b (λ l. is_ready (b.link l) ≡ true → is_ready (b.link 0) ≡ true) m.l bounded (λ r. r)
+    let m = created_by_link b lazy (may_stand config word events front after (action.Created None) h) in
+    first_and_idle b (λ l. is_ready (b.link l) ≡ true → is_ready (b.link 0) ≡ true) m.l bounded one (λ r. r)
     (λ idle r. absurd (not_both (b.link m.l).up idle.down (ready_is_up (b.link m.l) r))) m.ready
 
 -- where no setup started, and a link is set up, nothing is to be said
@@ -93,7 +117,7 @@ unsaid config word = opening config word ++ turn 1 (event.Connected 0) ∷ []
 created_set : (config : Config) (word : ℕ) (events : List Event) (after : List Action) → Legal config word events (came_up config word ++ after) → is_set_up ((book_of (unsaid config word)).link 0) ≡ true
 created_set config word events after h =
     let front = unsaid config word in
-    ready_is_set ((book_of front).link 0) (created_ready config word events front after (bounded_behind blank_book front refl blank_bounded) h)
+    ready_is_set ((book_of front).link 0) (created_ready config word events front after (bounded_behind blank_book front refl blank_bounded) refl (opens_at_once config word events _ h) h)
 
 -- so nothing is to be said
 pub came_up_silent : (config : Config) (word : ℕ) (events : List Event) (after : List Action) → Legal config word events (came_up config word ++ after) → IsSilent config
@@ -112,7 +136,7 @@ both_unsaid config word s = in_wait config word (command 71) ++ turn 2 (event.Su
 both_set : (config : Config) (word : ℕ) (events : List Event) (s : Submission) (after : List Action) → Legal config word events (both_in_wait config word s ++ after) → is_set_up ((book_of (both_unsaid config word s)).link 0) ≡ true
 both_set config word events s after h =
     let front = both_unsaid config word s in
-    ready_is_set ((book_of front).link 0) (created_ready config word events front after (bounded_behind blank_book front refl blank_bounded) h)
+    ready_is_set ((book_of front).link 0) (created_ready config word events front after (bounded_behind blank_book front refl blank_bounded) refl (opens_at_once config word events _ h) h)
 
 -- so nothing is to be said
 pub both_up_silent : (config : Config) (word : ℕ) (events : List Event) (s : Submission) (after : List Action) → Legal config word events (both_in_wait config word s ++ after) → IsSilent config

@@ -8,15 +8,20 @@ use Rattle.driver_model.specs.declared.action.Action.TheVariants as action
 use Rattle.driver_model.specs.declared.action.Owner.TheVariants as owner
 use Rattle.driver_model.specs.declared.action.WaitKind.TheVariants as wait
 use Rattle.driver_model.specs.declared.config.Config.{Config}
+use Rattle.driver_model.specs.declared.config_words.ConnectionWords.{ConnectionWords}
 use Rattle.driver_model.specs.declared.event.EventKind.TheVariants as event
 use Rattle.driver_model.specs.Request.{packed_bytes}
-use Rattle.trace_examples.specs.Parts.{unhurried, turn, command, okay_line, spoiled_behind}
+use Rattle.trace_examples.specs.Parts.{behaving, patient, turn, command, okay_line, spoiled_behind}
 use Rattle.trace_examples.specs.Setups.{unsaid}
 use Rattle.trace_examples.specs.Traces.{opening}
 
--- credentials come of a source, a request may take any time, and the library isn't named
+-- credentials come of a source, and a request may take any time
+abbrev pub of_sources : ConnectionWords
+of_sources = record patient { creds = Some true }
+
+-- and the library isn't named
 abbrev pub sourced : Config
-sourced = record unhurried { creds = Some true }
+sourced = behaving of_sources
 
 -- the user u and the password p, and the same said to a server, in 28 bytes
 abbrev pub user_and_password : Credentials

@@ -8,6 +8,7 @@ pub mod Permits
 pub mod Setups
 pub mod Calls
 pub mod Pushes
+pub mod Managers
 pub mod Creds
 pub mod Renewals
 pub mod Listeners

@@ -4,17 +4,14 @@ use Rattle.redis_error.specs.declared.fault_kind.FaultKind.TheVariants.{Reset}
 use Rattle.resp_value.specs.Data.{bulk}
 use Rattle.resp_value.specs.View.{value_of}
 use Rattle.resp_write.specs.declared.subscription.SubscriptionAction.TheVariants.{Subscribe}
-use Rattle.driver_model.specs.Config.{config_of}
 use Rattle.driver_model.specs.declared.action.Action.{Action}
 use Rattle.driver_model.specs.declared.action.Action.TheVariants as action
-use Rattle.driver_model.specs.declared.action.Cause.TheVariants as cause
 use Rattle.driver_model.specs.declared.action.Owner.TheVariants as owner
 use Rattle.driver_model.specs.declared.config.Config.{Config}
+use Rattle.driver_model.specs.declared.config.Config.TheVariants as variant
 use Rattle.driver_model.specs.declared.event.EventKind.TheVariants as event
 use Rattle.driver_model.specs.declared.event.Submission.{Submission}
 use Rattle.driver_model.specs.declared.event.Submission.TheVariants as submission
-use Rattle.driver_model.specs.declared.kind.SessionKind.{SessionKind}
-use Rattle.driver_model.specs.declared.kind.SessionKind.TheVariants as kind
 use Rattle.driver_model.specs.declared.msg.Msg.{Msg}
 use Rattle.driver_model.specs.declared.outcome.Outcome.TheVariants as outcome
 use Rattle.trace_examples.specs.Parts.{unbounded, turn, okay_line}
@@ -22,23 +19,26 @@ use Rattle.trace_examples.specs.Pushes.{heard, pushed_alone}
 use Rattle.trace_examples.specs.Setups.{password_line, setup_sent}
 use Rattle.trace_examples.specs.Traces.{opening, came_up}
 
--- a session of this kind with the server of this URL, to which the library isn't named
-abbrev pub listens_at : SessionKind → List ℕ → Config
-listens_at kind url = record (config_of kind url) { lib = Some false }
+-- a link of publish/subscribe with the server of this URL, to which the library isn't named, and one in monitor mode
+abbrev pub listens_at : List ℕ → Config
+listens_at url = variant.PubSub (record { url = url; lib = Some false })
 
--- a link of publish/subscribe and one in monitor mode, where nothing is to be said before the first request
+abbrev pub watches_at : List ℕ → Config
+watches_at url = variant.Monitor (record { url = url; lib = Some false })
+
+-- both where nothing is to be said before the first request
 abbrev pub listener : Config
-listener = listens_at kind.PubSub (codes "redis://h:6379")
+listener = listens_at (codes "redis://h:6379")
 
 abbrev pub watcher : Config
-watcher = listens_at kind.Monitor (codes "redis://h:6379")
+watcher = watches_at (codes "redis://h:6379")
 
 -- and where the password pw is
 abbrev pub secured_listener : Config
-secured_listener = listens_at kind.PubSub (codes "redis://:pw@h:6379")
+secured_listener = listens_at (codes "redis://:pw@h:6379")
 
 abbrev pub secured_watcher : Config
-secured_watcher = listens_at kind.Monitor (codes "redis://:pw@h:6379")
+secured_watcher = watches_at (codes "redis://:pw@h:6379")
 
 -- a call that subscribes to the channel ch, in 27 bytes, and its confirmation
 abbrev pub subscription : Submission
@@ -161,14 +161,6 @@ setup_and_watching config word =
     setup_sent config word 1 22 password_line ++
     turn 2 (event.Wrote 0 22) ∷ turn 3 (event.Bytes 0 okay_line) ∷ action.Start 0 1 owner.Monitor 1 17 ∷ action.Write 0 monitor_line ∷ []
 
--- the opening begins, and no link is asked for yet
-abbrev pub begun : Config → ℕ → List Action
-begun config word = action.Turn 0 (cause.Opening config word) ∷ []
-
--- a link of publish/subscribe of which a number of permits is said, which its kind doesn't have
-abbrev pub limited_listener : Config
-limited_listener = record listener { limit = Some 1 }
-
 -- the fronts of the traces that are refused for what comes next
 abbrev pub listening_fronts : ℕ → List (List Action)
 listening_fronts word =
@@ -183,4 +175,4 @@ watching_fronts word =
     item_came watcher word ∷ setup_sent secured_watcher word 1 22 password_line ∷ []
 
 abbrev pub formless_fronts : ℕ → List (List Action)
-formless_fronts word = came_up listener word ∷ came_up unbounded word ∷ watched watcher word ∷ begun limited_listener word ∷ []
+formless_fronts word = came_up listener word ∷ came_up unbounded word ∷ watched watcher word ∷ []

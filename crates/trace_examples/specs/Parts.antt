@@ -1,5 +1,5 @@
 -- What the traces are made of: configurations, turns, submissions, the bytes of replies, and outcomes. The commands have one word, G or H, of 11 bytes when packed.
-use Rattle.std.specs.Prelude.{ℕ, false, List, [], ◌∷◌, Option, Some, None, codes}
+use Rattle.std.specs.Prelude.{ℕ, Bool, false, List, [], ◌∷◌, Option, Some, None, codes}
 use Rattle.resp_value.specs.declared.server_error.ServerError.{ServerError}
 use Rattle.resp_value.specs.Data.{simple}
 use Rattle.resp_value.specs.View.{value_of}
@@ -7,8 +7,9 @@ use Rattle.driver_model.specs.declared.action.Action.{Action}
 use Rattle.driver_model.specs.declared.action.Action.TheVariants as action
 use Rattle.driver_model.specs.declared.action.Cause.TheVariants as cause
 use Rattle.driver_model.specs.declared.config.Config.{Config}
-use Rattle.driver_model.specs.declared.kind.SessionKind.TheVariants as kind
-use Rattle.driver_model.specs.Config.{config_of}
+use Rattle.driver_model.specs.declared.config.Config.TheVariants as variant
+use Rattle.driver_model.specs.declared.config_words.ConnectionWords.{ConnectionWords}
+use Rattle.driver_model.specs.Config.{no_words}
 use Rattle.driver_model.specs.declared.event.Event.{Event}
 use Rattle.driver_model.specs.declared.event.EventKind.{EventKind}
 use Rattle.driver_model.specs.declared.event.Submission.{Submission}
@@ -16,18 +17,22 @@ use Rattle.driver_model.specs.declared.event.Submission.TheVariants as submissio
 use Rattle.driver_model.specs.declared.outcome.Outcome.{Outcome}
 use Rattle.driver_model.specs.declared.outcome.Outcome.TheVariants as outcome
 
--- a multiplexed connection to the server of this URL, of which nothing else is said
-abbrev pub single_to : List ℕ → Config
-single_to url = config_of kind.Single url
+-- a multiplexed connection to the server of this URL: whether the library is named to it, if that is said, and how it behaves
+abbrev pub single_to : List ℕ → Option Bool → ConnectionWords → Config
+single_to url lib words = variant.Single (record { url = url; lib = lib }) words
 
--- one to the server at h:6379, to which nothing is to be said: a connect and a request may take any time
-abbrev pub unhurried : Config
-unhurried = record (single_to (codes "redis://h:6379")) { connect = Some None; response = Some None; lib = Some false }
+-- one to the server at h:6379, to which nothing is to be said, that behaves so
+abbrev pub behaving : ConnectionWords → Config
+behaving words = single_to (codes "redis://h:6379") (Some false) words
+
+-- a connect and a request may take any time
+abbrev pub patient : ConnectionWords
+patient = record no_words { connect = Some None; response = Some None }
 
 -- the server at h:6379, to which nothing is to be said, and what is said of the time of a connect; a request may take any time,
 -- and permits aren't counted
 abbrev pub at_server : Option (Option ℕ) → Config
-at_server connect = record unhurried { connect = connect }
+at_server connect = behaving (record patient { connect = connect })
 
 -- a connect that may take any time, and one that may take what it may where nothing is said: 1,000 milliseconds
 abbrev pub unbounded : Config
@@ -39,21 +44,21 @@ bounded = at_server None
 -- a connect that may take any time, and a link whose queue holds that many messages, and on which none starts while bytes are
 -- unwritten and as many as that bound
 abbrev pub held_at : ℕ → ℕ → Config
-held_at bound size = record unhurried { buffer = Some size; boundary = Some bound }
+held_at bound size = behaving (record patient { buffer = Some size; boundary = Some bound })
 
 -- a connect that may take any time, so many permits, and so many milliseconds within which a request is to be answered, if
 -- within any
 abbrev pub limited_to : ℕ → Option ℕ → Config
-limited_to limit ms = record unhurried { response = Some ms; limit = Some limit }
+limited_to limit ms = behaving (record patient { response = Some ms; limit = Some limit })
 
 -- nothing said but the address, and that the library isn't named: a connect may take 1,000 milliseconds, and a request 500
 abbrev pub plain : Config
-plain = record (single_to (codes "redis://h:6379")) { lib = Some false }
+plain = behaving no_words
 
 -- a link whose queue holds one message, and on which none starts while bytes are unwritten, and so many milliseconds for a
 -- request
 abbrev pub held_for : ℕ → Config
-held_for ms = record unhurried { response = Some (Some ms); buffer = Some 1; boundary = Some 0 }
+held_for ms = behaving (record patient { response = Some (Some ms); buffer = Some 1; boundary = Some 0 })
 
 -- these events, one after another
 abbrev pub history : List EventKind → List Event

@@ -1,5 +1,5 @@
 -- Traces of links on which pushes come.
-use Rattle.std.specs.Prelude.{ℕ, true, List, [], ◌∷◌, ◌++◌, Some, None, codes, pos}
+use Rattle.std.specs.Prelude.{ℕ, true, false, List, [], ◌∷◌, ◌++◌, Some, None, codes, pos}
 use Rattle.redis_error.specs.declared.fault_kind.FaultKind.TheVariants.{Reset}
 use Rattle.resp_value.specs.declared.push_kind.PushKind.TheVariants.{Disconnection, Invalidate, Subscribe}
 use Rattle.resp_value.specs.Data.{Data, bulk, int, push, simple, items_of}
@@ -15,13 +15,13 @@ use Rattle.driver_model.specs.declared.outcome.Outcome.{Outcome}
 use Rattle.driver_model.specs.declared.outcome.Outcome.TheVariants as outcome
 use Rattle.driver_model.specs.declared.push_info.PushInfo.{PushInfo}
 use Rattle.driver_model.specs.Request.{packed_bytes}
-use Rattle.trace_examples.specs.Parts.{turn, reply}
+use Rattle.trace_examples.specs.Parts.{single_to, patient, turn, reply}
 use Rattle.trace_examples.specs.Setups.{setup_sent}
 use Rattle.trace_examples.specs.Calls.{of_third, hello_line, hello_well, confirmation}
 
 -- the third protocol, and somebody hears the pushes that come, or nothing is said of that
 abbrev pub heard : Config
-heard = record of_third { push = Some true }
+heard = single_to (codes "redis://h:6379/?protocol=3") (Some false) (record patient { push = Some true })
 
 abbrev pub unheard : Config
 unheard = of_third

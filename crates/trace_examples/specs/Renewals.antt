@@ -10,17 +10,17 @@ use Rattle.driver_model.specs.declared.config.Config.{Config}
 use Rattle.driver_model.specs.declared.event.EventKind.{EventKind}
 use Rattle.driver_model.specs.declared.event.EventKind.TheVariants as event
 use Rattle.driver_model.specs.Request.{packed_bytes}
-use Rattle.trace_examples.specs.Parts.{turn, command, okay_line}
+use Rattle.trace_examples.specs.Parts.{behaving, turn, command, okay_line}
 use Rattle.trace_examples.specs.Setups.{wrong_password}
-use Rattle.trace_examples.specs.Creds.{sourced, user_and_password, credentials_line, needed}
+use Rattle.trace_examples.specs.Creds.{of_sources, sourced, user_and_password, credentials_line, needed}
 
 -- credentials come of sources, and what the driver says itself, as a request, is to be answered within 100 milliseconds
 abbrev pub sourced_in_time : Config
-sourced_in_time = record sourced { response = Some (Some 100) }
+sourced_in_time = behaving (record of_sources { response = Some (Some 100) })
 
 -- they come on a link that any unwritten byte holds back, and whose queue holds one message
 abbrev pub sourced_at_a_time : Config
-sourced_at_a_time = record sourced { buffer = Some 1; boundary = Some 0 }
+sourced_at_a_time = behaving (record of_sources { buffer = Some 1; boundary = Some 0 })
 
 -- the user u with a password of one letter, q or r, and the same told to a server, in 28 bytes
 abbrev pub of_letter : ℕ → Credentials

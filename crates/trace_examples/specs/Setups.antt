@@ -9,13 +9,14 @@ use Rattle.driver_model.specs.declared.action.Owner.TheVariants as owner
 use Rattle.driver_model.specs.declared.action.Purpose.TheVariants as purpose
 use Rattle.driver_model.specs.declared.action.WaitKind.TheVariants as wait
 use Rattle.driver_model.specs.declared.config.Config.{Config}
+use Rattle.driver_model.specs.Config.{no_words}
 use Rattle.driver_model.specs.declared.event.EventKind.TheVariants as event
-use Rattle.trace_examples.specs.Parts.{single_to, turn, command, okay_line}
+use Rattle.trace_examples.specs.Parts.{single_to, patient, turn, command, okay_line}
 use Rattle.trace_examples.specs.Traces.{opening, in_wait}
 
 -- a server of this URL, how long a connect may take, and whether the library is named to it, if that is said
 abbrev pub told_at : List ℕ → Option (Option ℕ) → Option Bool → Config
-told_at url connect lib = record (single_to url) { connect = connect; response = Some None; lib = lib }
+told_at url connect lib = single_to url lib (record patient { connect = connect })
 
 -- the password pw, and nothing else; and the same where a connect may take 1,000 milliseconds
 abbrev pub secured : Config
@@ -34,11 +35,11 @@ of_a_library = told_at (codes "redis://h:6379") (Some None) None
 
 -- the same, and nothing is said of times either: a connect may take 1,000 milliseconds, and a request 500
 abbrev pub by_default : Config
-by_default = single_to (codes "redis://h:6379")
+by_default = single_to (codes "redis://h:6379") None no_words
 
 -- the user u and the password pw, on a link on which nothing starts while bytes are unwritten
 abbrev pub of_a_held_user : Config
-of_a_held_user = record of_a_user { boundary = Some 0 }
+of_a_held_user = single_to (codes "redis://u:pw@h:6379") (Some false) (record patient { boundary = Some 0 })
 
 -- a password, a database, the third protocol, and the library's name
 abbrev pub of_all : Config

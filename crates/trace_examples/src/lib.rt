@@ -4,6 +4,7 @@
 mod dealing;
 mod listening;
 mod renewing;
+mod returning;
 
 ghost use Rattle.std.specs.Prelude.{◌≡◌, ◌≢◌, ◌<◌, ℕ, List, [], ◌∷◌, ◌++◌, Option, Some, None};
 ghost use Rattle.std.specs.Prelude.{drop, pos, true, false};
@@ -89,6 +90,7 @@ ghost use Rattle.trace_examples.specs.Claims.{NoneBegins, NoneBeginsIn, NoneIs};
 pub use dealing::these_become_of_values;
 pub use listening::{nor_do_these_listen, nor_have_these_a_form, these_listen};
 pub use renewing::{nor_are_these_renewals, these_renew_credentials};
+pub use returning::{nor_do_these_come_back, these_come_back};
 
 /// Does nothing. Its contract: these traces are legal. A transaction is aborted by the error of its
 /// command; a command whose reply nobody awaits is answered at its place, and its item is not given

@@ -35,8 +35,7 @@ ghost use Rattle.trace_examples.specs.Listeners.{strange_came, dropped_alone, me
 ghost use Rattle.trace_examples.specs.Listeners.{watching, watch_answered, watched};
 ghost use Rattle.trace_examples.specs.Listeners.{setup_and_watching, listening_fronts};
 ghost use Rattle.trace_examples.specs.Listeners.{watching_fronts, subscribe_line, both_came};
-ghost use Rattle.trace_examples.specs.Listeners.{message_and_more, item_came, begun};
-ghost use Rattle.trace_examples.specs.Listeners.{limited_listener, formless_fronts};
+ghost use Rattle.trace_examples.specs.Listeners.{message_and_more, item_came, formless_fronts};
 ghost use Rattle.trace_examples.specs.Claims.{IsTraceIn, NoneBeginsIn};
 ghost use Rattle.trace_examples.specs.Fronts.{EachStands};
 
@@ -159,7 +158,7 @@ pub fn nor_do_these_listen()
 
 /// Does nothing. Its contract: nor do these begin a legal trace: a turn that hands in a command or a
 /// call of sharded channels on a link of messages, a ping on a multiplexed connection, or anything in
-/// monitor mode; and a link that is asked for where the configuration says what its kind doesn't have.
+/// monitor mode.
 pub fn nor_have_these_a_form()
     ensures fronts { (word : ℕ) → EachStands (formless_fronts word) }
     ensures command_among_messages { NoneBeginsIn listener came_up (turn 2 (event.Submit (command 71))) }
@@ -168,6 +167,4 @@ pub fn nor_have_these_a_form()
     ensures ping_elsewhere { NoneBeginsIn unbounded came_up (turn 2 (event.Submit bare_ping)) }
     ensures submitted_in_monitor_mode { (what : Submission)
         → NoneBeginsIn watcher watched (turn 3 (event.Submit what)) }
-    ensures limited_and_asked_for { (l port : ℕ) (host : List ℕ)
-        → NoneBeginsIn limited_listener begun (action.Connect l host port) }
 {}

@@ -12,7 +12,7 @@ use Rattle.trace_text.specs.Words.{is_plain, escaped_byte, is_separator, escaped
 use Rattle.trace_text.specs.Plain.{is_kept, are_kept, is_literal}
 use Rattle.resp_value.specs.declared.server_error.ServerError.{ServerError}
 use Rattle.trace_text.specs.Errors.{abort_word, server_text}
-use Rattle.trace_text.specs.Show.{address, owner_word}
+use Rattle.trace_text.specs.Show.{address, fraction_word, owner_word}
 
 abbrev pub all_escaped : List ℕ → List ℕ
 all_escaped bytes = flat_map escaped_byte bytes
@@ -126,6 +126,22 @@ try_added old named first point new s round a b h k l m =
     let all : new ≡ (((old ++ codes " s") ++ decimal s) ++ codes ".") ++ decimal round = m ∙ ap (λ x. x ++ decimal round) (l ∙ ap (λ x. x ++ codes ".") (k ∙ ap (λ x. x ++ decimal s) h)) in
     let flat : (((old ++ codes " s") ++ decimal s) ++ codes ".") ++ decimal round ≡ (old ++ codes " ") ++ owner_word (Try s round) = simp append_assoc in
     word_added old (old ++ codes " ") new (owner_word (Try s round)) (owner_word (Try s round)) refl (all ∙ flat) (escaped_try s round a b)
+
+-- a fraction behind what is written as it is
+escaped_fraction : (front : List ℕ) (above below : ℕ) → is_literal front ≡ true → above < 2 ^ 64 → below < 2 ^ 64 → escaped (front ++ fraction_word (above, below)) ≡ front ++ fraction_word (above, below)
+escaped_fraction front above below e a b =
+    escaped_behind front (fraction_word (above, below)) e
+    ∙ ap (λ x. front ++ x) (kept_run (fraction_word (above, below)) (kept-append (decimal above) (byte "/" ∷ decimal below) (kept_decimal above a) (kept_decimal below b)))
+
+-- such a fraction that comes in five
+pub fraction_added : (old space named first slash new front : List ℕ) (above below : ℕ) → above < 2 ^ 64 → below < 2 ^ 64 → is_literal front ≡ true
+    → space ≡ old ++ codes " " → named ≡ space ++ front → first ≡ named ++ decimal above → slash ≡ first ++ codes "/" → new ≡ slash ++ decimal below
+    → new ≡ old ++ following ((front ++ fraction_word (above, below)) ∷ [])
+fraction_added old space named first slash new front above below a b e h k l m n =
+    let all : new ≡ ((((old ++ codes " ") ++ front) ++ decimal above) ++ codes "/") ++ decimal below =
+    n ∙ ap (λ x. x ++ decimal below) (m ∙ ap (λ x. x ++ codes "/") (l ∙ ap (λ x. x ++ decimal above) (k ∙ ap (λ x. x ++ front) h))) in
+    let flat : ((((old ++ codes " ") ++ front) ++ decimal above) ++ codes "/") ++ decimal below ≡ (old ++ codes " ") ++ (front ++ fraction_word (above, below)) = simp append_assoc in
+    word_added old (old ++ codes " ") new (front ++ fraction_word (above, below)) (front ++ fraction_word (above, below)) refl (all ∙ flat) (escaped_fraction front above below e a b)
 
 -- a host and a port that come in four
 pub address_added : (old space named point new host : List ℕ) (port : ℕ) → port < 2 ^ 64

@@ -7,6 +7,10 @@ use Rattle.redis_error.specs.declared.redis_error.RedisError.{RedisError}
 use Rattle.resp_value.specs.View.{data_of}
 use Rattle.resp_value.specs.declared.value.Value.{Value}
 use Rattle.driver_model.specs.declared.config.Config.{Config}
+use Rattle.driver_model.specs.declared.config.Config.TheVariants as config
+use Rattle.driver_model.specs.declared.config_words.AddressWords.{AddressWords}
+use Rattle.driver_model.specs.declared.config_words.ConnectionWords.{ConnectionWords}
+use Rattle.driver_model.specs.declared.config_words.ManagerWords.{ManagerWords}
 use Rattle.driver_model.specs.declared.kind.SessionKind.{SessionKind}
 use Rattle.driver_model.specs.declared.kind.SessionKind.TheVariants as kind
 use Rattle.driver_model.specs.declared.msg.Msg.{Msg}
@@ -18,7 +22,7 @@ use Rattle.driver_model.specs.declared.event.Submission.TheVariants as submissio
 use Rattle.driver_model.specs.declared.event.EventKind.{EventKind}
 use Rattle.driver_model.specs.declared.event.EventKind.TheVariants as event
 use Rattle.driver_model.specs.declared.action.Owner.{Owner}
-use Rattle.driver_model.specs.declared.action.Owner.TheVariants.{Try, Setup, Auth, Monitor}
+use Rattle.driver_model.specs.declared.action.Owner.TheVariants.{Try, Setup, Auth, Resub, Monitor}
 use Rattle.driver_model.specs.declared.action.WaitKind.{WaitKind}
 use Rattle.driver_model.specs.declared.action.WaitKind.TheVariants as wait
 use Rattle.driver_model.specs.declared.action.Purpose.{Purpose}
@@ -43,17 +47,21 @@ address host port = host ++ byte ":" ∷ decimal port
 abbrev pub submission_word : ℕ → List ℕ
 submission_word s = byte "s" ∷ decimal s
 
--- a try of a submission, its number and its round; what is said to the server before the first request; new credentials; or MONITOR
+-- a try of a submission, its number and its round; what is said to the server before the first request; new credentials; what is
+-- subscribed again; or MONITOR
 abbrev pub owner_word : Owner → List ℕ
 owner_word (Try s round) = submission_word s ++ byte "." ∷ decimal round
 owner_word Setup = codes "setup"
 owner_word Auth = codes "auth"
+owner_word Resub = codes "resub"
 owner_word Monitor = codes "monitor"
 
 abbrev pub wait_word : WaitKind → List ℕ
 wait_word wait.Connect = codes "connect"
 wait_word wait.Creds = codes "creds"
 wait_word wait.Setup = codes "setup"
+wait_word wait.Resubscribe = codes "resubscribe"
+wait_word wait.Backoff = codes "backoff"
 wait_word wait.Permit = codes "permit"
 wait_word wait.Place = codes "place"
 wait_word wait.Room = codes "room"
@@ -63,8 +71,8 @@ abbrev pub draw_words : ℕ → List (List ℕ)
 draw_words w = if w == 0 then [] else (byte "@" ∷ decimal w) ∷ []
 
 -- the server's address, as it was given
-unfoldable pub url : Config → List ℕ
-url c = codes "url=" ++ c.url
+unfoldable pub url : AddressWords → List ℕ
+url address = codes "url=" ++ address.url
 
 -- how many milliseconds the connect may take, where it is given
 abbrev pub connect_words : Option (Option ℕ) → List (List ℕ)
@@ -111,31 +119,81 @@ lib_words None = []
 lib_words (Some true) = codes "lib=on" ∷ []
 lib_words (Some false) = codes "lib=off" ∷ []
 
+-- how many attempts to connect there are after the first, where it is given
+abbrev pub retries_words : Option ℕ → List (List ℕ)
+retries_words None = []
+retries_words (Some count) = (codes "retries=" ++ decimal count) ∷ []
+
+-- below how many milliseconds the first delay lies, where it is given
+abbrev pub min_words : Option ℕ → List (List ℕ)
+min_words None = []
+min_words (Some ms) = (codes "min=" ++ decimal ms) ∷ []
+
+-- how many milliseconds a delay has at most, where it is given
+abbrev pub max_words : Option (Option ℕ) → List (List ℕ)
+max_words None = []
+max_words (Some None) = codes "max=none" ∷ []
+max_words (Some (Some ms)) = (codes "max=" ++ decimal ms) ∷ []
+
+-- a fraction: its numerator, `/` and its denominator
+abbrev pub fraction_word : ℕ × ℕ → List ℕ
+fraction_word base = decimal base.0 ++ byte "/" ∷ decimal base.1
+
+-- by what delays grow, where it is given
+abbrev pub base_words : Option (ℕ × ℕ) → List (List ℕ)
+base_words None = []
+base_words (Some base) = (codes "base=" ++ fraction_word base) ∷ []
+
+-- whether what was subscribed is subscribed again, where it is given
+abbrev pub resub_words : Option Bool → List (List ℕ)
+resub_words None = []
+resub_words (Some true) = codes "resub=on" ∷ []
+resub_words (Some false) = codes "resub=off" ∷ []
+
+-- what is given of the delays
+abbrev pub delay_words : ManagerWords → List (List ℕ)
+delay_words m = min_words m.min ++ max_words m.max ++ base_words m.base
+
+-- how a connection comes back: what is given of the attempts, of the delays between them, and of what is subscribed again
+abbrev pub manager_words : ManagerWords → List (List ℕ)
+manager_words m = retries_words m.retries ++ delay_words m ++ resub_words m.resub
+
 -- what is given of the times
-abbrev pub times_words : Config → List (List ℕ)
+abbrev pub times_words : ConnectionWords → List (List ℕ)
 times_words c = connect_words c.connect ++ response_words c.response
 
 -- what is given of the queue of the link, and of the number of permits
-abbrev pub numbers_words : Config → List (List ℕ)
+abbrev pub numbers_words : ConnectionWords → List (List ℕ)
 numbers_words c = buffer_words c.buffer ++ limit_words c.limit ++ boundary_words c.boundary
 
 -- what is given of what is on or off
-abbrev pub switch_words : Config → List (List ℕ)
-switch_words c = push_words c.push ++ creds_words c.creds ++ lib_words c.lib
+abbrev pub switch_words : ConnectionWords → List (List ℕ)
+switch_words c = push_words c.push ++ creds_words c.creds
 
--- the settings behind the address: what is given of the times, of the numbers, and of what is on or off
-abbrev pub later_words : Config → List (List ℕ)
-later_words c = times_words c ++ numbers_words c ++ switch_words c
+-- how a multiplexed connection behaves: what is given of the times, of the numbers, and of what is on or off
+abbrev pub setting_words : ConnectionWords → List (List ℕ)
+setting_words c = times_words c ++ numbers_words c ++ switch_words c
 
 -- the word of what a session is
 abbrev pub kind_word : SessionKind → List ℕ
 kind_word kind.Single = codes "single"
+kind_word (kind.Manager false) = codes "manager"
+kind_word (kind.Manager true) = codes "lazy"
 kind_word kind.PubSub = codes "pubsub"
 kind_word kind.Monitor = codes "monitor"
 
--- the config line of a session: what it is, and what is given
+-- what a session is, and what is given of it: the address first, behind how its connection behaves whether its server is told
+-- which library speaks, and last how it comes back
+abbrev pub session_words : Config → List (List ℕ)
+session_words (config.Single address connection) = kind_word kind.Single ∷ url address ∷ (setting_words connection ++ lib_words address.lib)
+session_words (config.Manager lazy address connection manager) =
+    kind_word (kind.Manager lazy) ∷ url address ∷ (setting_words connection ++ lib_words address.lib ++ manager_words manager)
+session_words (config.PubSub address) = kind_word kind.PubSub ∷ url address ∷ lib_words address.lib
+session_words (config.Monitor address) = kind_word kind.Monitor ∷ url address ∷ lib_words address.lib
+
+-- the config line of a session
 abbrev pub config_words : Config → List (List ℕ)
-config_words c = codes "config" ∷ kind_word c.kind ∷ url c ∷ later_words c
+config_words c = codes "config" ∷ session_words c
 
 -- a time: so many milliseconds, or any number
 abbrev pub time_word : Option ℕ → List ℕ
@@ -226,6 +284,8 @@ abbrev pub purpose_words : Purpose → List (List ℕ)
 purpose_words (purpose.Connect link) = codes "connect" ∷ decimal link ∷ []
 purpose_words (purpose.Response owner) = codes "response" ∷ owner_word owner ∷ []
 purpose_words (purpose.Renewal link number) = codes "response" ∷ owner_word Auth ∷ []
+purpose_words (purpose.Backoff generation) = codes "backoff" ∷ decimal generation ∷ []
+purpose_words (purpose.Resubscription link) = codes "response" ∷ owner_word Resub ∷ []
 
 -- how an opening went: its error, where it failed
 abbrev pub created_words : Option RedisError → List (List ℕ)
@@ -245,6 +305,11 @@ pattern_word (Some pattern) = canonical (data_of pattern)
 abbrev pub message_words : Msg → List (List ℕ)
 message_words msg = pattern_word msg.pattern ∷ canonical (data_of msg.channel) ∷ canonical (data_of msg.payload) ∷ []
 
+-- a link, or none
+abbrev pub link_word : Option ℕ → List ℕ
+link_word None = codes "none"
+link_word (Some link) = decimal link
+
 -- the words of an action, as they are before any escape
 abbrev pub words_of : Action → List (List ℕ)
 words_of (action.Turn number cause) = codes "turn" ∷ decimal number ∷ cause_words cause
@@ -255,6 +320,8 @@ words_of (action.Push link info) = codes "push" ∷ decimal link ∷ push_word i
 words_of (action.Message msg) = codes "message" ∷ message_words msg
 words_of (action.Monitor value) = codes "monitor" ∷ canonical (data_of value) ∷ []
 words_of (action.NeedCreds source link) = codes "need-creds" ∷ decimal source ∷ decimal link ∷ []
+words_of (action.Generation number) = codes "generation" ∷ decimal number ∷ []
+words_of (action.Round owner link) = codes "round" ∷ owner_word owner ∷ link_word link ∷ []
 words_of (action.Close link) = codes "close" ∷ decimal link ∷ []
 words_of (action.Write link bytes) = codes "write" ∷ decimal link ∷ bytes ∷ []
 words_of (action.Wait owner kind) = codes "wait" ∷ owner_word owner ∷ wait_word kind ∷ []

@@ -1,7 +1,7 @@
 ghost use Rattle.std.specs.Prelude.{◌≡◌, ◌∷◌, [], ◌++◌, OnOk, OnErr, IfOk};
 ghost use Rattle.trace_text.specs.Words.{following};
 ghost use Rattle.trace_text.specs.Show.{show, action_line, created_words, purpose_words, push_word};
-ghost use Rattle.trace_text.specs.Show.{pattern_word};
+ghost use Rattle.trace_text.specs.Show.{link_word, pattern_word};
 ghost use Rattle.trace_text.specs.Writer.{Added, AddedWords};
 
 use crate::writer::Writer;
@@ -64,6 +64,14 @@ impl Writer {
             Purpose::Renewal { link: _, number: _ } => {
                 self.literal(b"response")?;
                 self.owner(Owner::Auth)
+            }
+            Purpose::Backoff { generation } => {
+                self.literal(b"backoff")?;
+                self.number(u64::from(generation))
+            }
+            Purpose::Resubscription { link: _ } => {
+                self.literal(b"response")?;
+                self.owner(Owner::Resub)
             }
         }
     }
@@ -152,6 +160,37 @@ impl Writer {
         self.first(b"need-creds")?;
         self.number(u64::from(source))?;
         self.number(u64::from(link))?;
+        self.end_line()
+    }
+
+    fn generation(&mut self, number: u32) -> Result<(), AllocError>
+        ensures before { self.new.before ≡ self.old.before }
+        ensures ok { OnOk result
+            (Added self.old self.new (action_line (Action.Generation number))) }
+    {
+        self.first(b"generation")?;
+        self.number(u64::from(number))?;
+        self.end_line()
+    }
+
+    /// A link, or none.
+    fn link(&mut self, link: Option<u32>) -> Result<(), AllocError>
+        ensures before { self.new.before ≡ self.old.before }
+        ensures ok { OnOk result (AddedWords self.old self.new (link_word link ∷ [])) }
+    {
+        match link {
+            None => self.literal(b"none"),
+            Some(link) => self.number(u64::from(link)),
+        }
+    }
+
+    fn round(&mut self, owner: Owner, link: Option<u32>) -> Result<(), AllocError>
+        ensures before { self.new.before ≡ self.old.before }
+        ensures ok { OnOk result (Added self.old self.new (action_line (Action.Round owner link))) }
+    {
+        self.first(b"round")?;
+        self.owner(owner)?;
+        self.link(link)?;
         self.end_line()
     }
 
@@ -255,6 +294,8 @@ impl Writer {
             Action::Message { msg } => self.message(msg),
             Action::Monitor { value } => self.monitored(value),
             Action::NeedCreds { source, link } => self.need_creds(*source, *link),
+            Action::Generation { number } => self.generation(*number),
+            Action::Round { owner, link } => self.round(*owner, *link),
             Action::Close { link } => self.close(*link),
             Action::Write { link, bytes } => self.write(*link, bytes),
             Action::Wait { owner, wait } => self.wait(*owner, *wait),

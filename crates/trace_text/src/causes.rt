@@ -3,9 +3,10 @@ ghost use Rattle.driver_model.specs.Request.{listed};
 ghost use Rattle.redis_error.specs.Names.{fault_name};
 ghost use Rattle.trace_text.specs.Words.{following, separated};
 ghost use Rattle.trace_text.specs.Show.{behind_first, config_words, connect_words, first_of, url};
+ghost use Rattle.trace_text.specs.Show.{session_words, setting_words};
 ghost use Rattle.trace_text.specs.Show.{boundary_words, buffer_words, limit_words, response_words};
 ghost use Rattle.trace_text.specs.Show.{push_words, creds_words, lib_words, switch_words};
-ghost use Rattle.trace_text.specs.Show.{later_words, numbers_words, times_words, time_word};
+ghost use Rattle.trace_text.specs.Show.{numbers_words, times_words, time_word};
 ghost use Rattle.trace_text.specs.Show.{cause_more, cause_words, event_more, event_words};
 ghost use Rattle.trace_text.specs.Show.{submission_more, submission_words, call_word};
 ghost use Rattle.trace_text.specs.Writer.{Added, AddedWords, AddedParts};
@@ -13,7 +14,9 @@ ghost use Rattle.trace_text.specs.Writer.{Added, AddedWords, AddedParts};
 use crate::writer::Writer;
 use containers::{Bytes, Names};
 use credentials::BasicAuth;
-use driver_model::{Cause, Config, Event, EventKind, Submission};
+use driver_model::{
+    AddressWords, Cause, Config, ConnectionWords, Event, EventKind, SessionKind, Submission,
+};
 use redis_error::FaultKind;
 use resp_write::SubscriptionAction;
 use std::alloc::AllocError;
@@ -21,11 +24,11 @@ use std::alloc::AllocError;
 impl Writer {
     /// The word of the address.
     #[tactic(auto, unfolding(crate::specs::Show::url))]
-    fn url(&mut self, config: &Config) -> Result<(), AllocError>
+    fn url(&mut self, address: &AddressWords) -> Result<(), AllocError>
         ensures before { self.new.before ≡ self.old.before }
-        ensures ok { OnOk result (AddedWords self.old self.new (url config.now ∷ [])) }
+        ensures ok { OnOk result (AddedWords self.old self.new (url address.now ∷ [])) }
     {
-        self.word_behind(b"url=", config.url.as_slice())
+        self.word_behind(b"url=", address.url.as_slice())
     }
 
     /// How long the connect may take, where it is given.
@@ -122,42 +125,81 @@ impl Writer {
     }
 
     /// What is given of the times.
-    fn time_settings(&mut self, config: &Config) -> Result<(), AllocError>
+    fn time_settings(&mut self, words: &ConnectionWords) -> Result<(), AllocError>
         ensures before { self.new.before ≡ self.old.before }
-        ensures ok { OnOk result (AddedWords self.old self.new (times_words config.now)) }
+        ensures ok { OnOk result (AddedWords self.old self.new (times_words words.now)) }
     {
-        self.connect_limit(config.connect)?;
-        self.response_limit(config.response)
+        self.connect_limit(words.connect)?;
+        self.response_limit(words.response)
     }
 
     /// What is given of the queue of the link, and of the number of permits.
-    fn number_settings(&mut self, config: &Config) -> Result<(), AllocError>
+    fn number_settings(&mut self, words: &ConnectionWords) -> Result<(), AllocError>
         ensures before { self.new.before ≡ self.old.before }
-        ensures ok { OnOk result (AddedWords self.old self.new (numbers_words config.now)) }
+        ensures ok { OnOk result (AddedWords self.old self.new (numbers_words words.now)) }
     {
-        self.buffer(config.buffer)?;
-        self.limit(config.limit)?;
-        self.boundary(config.boundary)
+        self.buffer(words.buffer)?;
+        self.limit(words.limit)?;
+        self.boundary(words.boundary)
     }
 
     /// What is given of what is on or off.
-    fn switch_settings(&mut self, config: &Config) -> Result<(), AllocError>
+    fn switch_settings(&mut self, words: &ConnectionWords) -> Result<(), AllocError>
         ensures before { self.new.before ≡ self.old.before }
-        ensures ok { OnOk result (AddedWords self.old self.new (switch_words config.now)) }
+        ensures ok { OnOk result (AddedWords self.old self.new (switch_words words.now)) }
     {
-        self.pushes(config.push)?;
-        self.credentials(config.creds)?;
-        self.lib(config.lib)
+        self.pushes(words.push)?;
+        self.credentials(words.creds)
     }
 
-    /// The settings behind the address.
-    fn later_settings(&mut self, config: &Config) -> Result<(), AllocError>
+    /// How a multiplexed connection behaves.
+    fn settings(&mut self, words: &ConnectionWords) -> Result<(), AllocError>
         ensures before { self.new.before ≡ self.old.before }
-        ensures ok { OnOk result (AddedWords self.old self.new (later_words config.now)) }
+        ensures ok { OnOk result (AddedWords self.old self.new (setting_words words.now)) }
     {
-        self.time_settings(config)?;
-        self.number_settings(config)?;
-        self.switch_settings(config)
+        self.time_settings(words)?;
+        self.number_settings(words)?;
+        self.switch_settings(words)
+    }
+
+    /// What a session is, and what is given of it.
+    fn session(&mut self, config: &Config) -> Result<(), AllocError>
+        ensures before { self.new.before ≡ self.old.before }
+        ensures ok { OnOk result (AddedWords self.old self.new (session_words config.now)) }
+    {
+        match config {
+            Config::Single {
+                address,
+                connection,
+            } => {
+                self.kind(SessionKind::Single)?;
+                self.url(address)?;
+                self.settings(connection)?;
+                self.lib(address.lib)
+            }
+            Config::Manager {
+                lazy,
+                address,
+                connection,
+                manager,
+            } => {
+                self.kind(SessionKind::Manager { lazy: *lazy })?;
+                self.url(address)?;
+                self.settings(connection)?;
+                self.lib(address.lib)?;
+                self.manager(manager)
+            }
+            Config::PubSub { address } => {
+                self.kind(SessionKind::PubSub)?;
+                self.url(address)?;
+                self.lib(address.lib)
+            }
+            Config::Monitor { address } => {
+                self.kind(SessionKind::Monitor)?;
+                self.url(address)?;
+                self.lib(address.lib)
+            }
+        }
     }
 
     /// The words of a config line.
@@ -166,9 +208,7 @@ impl Writer {
         ensures ok { OnOk result (AddedWords self.old self.new (config_words config.now)) }
     {
         self.literal(b"config")?;
-        self.kind(config.kind)?;
-        self.url(config)?;
-        self.later_settings(config)
+        self.session(config)
     }
 
     /// A time: so many milliseconds, or any number.

@@ -5,6 +5,7 @@ mod actions;
 mod causes;
 mod errors;
 mod lines;
+mod managers;
 mod names;
 mod outcomes;
 mod scripts;

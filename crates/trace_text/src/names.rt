@@ -43,7 +43,8 @@ impl Writer {
         self.digits(u64::from(round))
     }
 
-    /// One more word: a try of a submission, what is said to the server before the first request, new credentials, or MONITOR.
+    /// One more word: a try of a submission, what is said to the server before the first request, new credentials, what is
+    /// subscribed again, or MONITOR.
     pub fn owner(&mut self, owner: Owner) -> Result<(), AllocError>
         ensures before { self.new.before ≡ self.old.before }
         ensures ok { OnOk result (AddedWords self.old self.new (owner_word owner ∷ [])) }
@@ -52,6 +53,7 @@ impl Writer {
             Owner::Try { submission, round } => self.try_word(submission, round),
             Owner::Setup => self.literal(b"setup"),
             Owner::Auth => self.literal(b"auth"),
+            Owner::Resub => self.literal(b"resub"),
             Owner::Monitor => self.literal(b"monitor"),
         }
     }
@@ -63,6 +65,8 @@ impl Writer {
     {
         match kind {
             SessionKind::Single => self.literal(b"single"),
+            SessionKind::Manager { lazy: false } => self.literal(b"manager"),
+            SessionKind::Manager { lazy: true } => self.literal(b"lazy"),
             SessionKind::PubSub => self.literal(b"pubsub"),
             SessionKind::Monitor => self.literal(b"monitor"),
         }
@@ -77,6 +81,8 @@ impl Writer {
             WaitKind::Connect => self.literal(b"connect"),
             WaitKind::Creds => self.literal(b"creds"),
             WaitKind::Setup => self.literal(b"setup"),
+            WaitKind::Resubscribe => self.literal(b"resubscribe"),
+            WaitKind::Backoff => self.literal(b"backoff"),
             WaitKind::Permit => self.literal(b"permit"),
             WaitKind::Place => self.literal(b"place"),
             WaitKind::Room => self.literal(b"room"),

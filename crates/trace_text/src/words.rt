@@ -2,6 +2,7 @@ ghost use Rattle.std.specs.Prelude.{◌≡◌, ◌∷◌, ◌++◌, [], OnOk, co
 ghost use Rattle.std.specs.Str.{byte};
 ghost use Rattle.percent_encoding.specs.Percent as percent;
 ghost use Rattle.trace_text.specs.Plain.{is_literal};
+ghost use Rattle.trace_text.specs.Show.{fraction_word};
 ghost use Rattle.trace_text.specs.Words.{escaped, following, is_plain, is_separator};
 ghost use Rattle.trace_text.specs.Writer.{Added, AddedEscaped, AddedWords};
 
@@ -122,6 +123,25 @@ impl Writer {
         self.push(b" ")?;
         self.push(front)?;
         self.digits(number)
+    }
+
+    /// One more word, a fraction behind what is written as it is.
+    pub fn fraction_behind(
+        &mut self,
+        front: &[u8],
+        numerator: u32,
+        denominator: u32,
+    ) -> Result<(), AllocError>
+        requires { is_literal front.now ≡ true }
+        ensures before { self.new.before ≡ self.old.before }
+        ensures ok { OnOk result (AddedWords self.old self.new
+            ((front.now ++ fraction_word (numerator, denominator)) ∷ [])) }
+    {
+        self.push(b" ")?;
+        self.push(front)?;
+        self.digits(u64::from(numerator))?;
+        self.push(b"/")?;
+        self.digits(u64::from(denominator))
     }
 
     /// One more word, any bytes behind what is written as it is.

@@ -1,4 +1,5 @@
 use Rattle.std.proofs.Common.{◌≡◌, ◌++◌, ◌∷◌, [], refl, sym, ap, ◌∙◌, subst, append_assoc}
+use Rattle.driver_model.specs.Config.{kind_of}
 use Rattle.driver_model.specs.declared.config.Config.{Config}
 use Rattle.session_callers.specs.Rule.{Each}
 use Rattle.caller_threads.specs.Submits.{IsAllowed, HasSubmitted}
@@ -20,7 +21,7 @@ submit_line-requires-clause-of g c = c.loop-line.invariant.4 ∙ c.requires.of
 pub submit_line-requires-clause-allowed : goal.submit_line-requires-clause-allowed
 submit_line-requires-clause-allowed g c =
     let e : c.loop-line.lines ≡ c.in-Some.line ∷ c.pop_front.new.self = c.in-Some.ensures in
-    (subst (Each (IsAllowed c.loop-line.caller.view.config.kind)) e c.loop-line.invariant.3).0
+    (subst (Each (IsAllowed (kind_of c.loop-line.caller.view.config))) e c.loop-line.invariant.3).0
 
 pub loop-line-preserved : goal.loop-line-preserved
 loop-line-preserved g c =
@@ -33,7 +34,7 @@ loop-line-preserved g c =
       i.1 ∙ ap (λ l. i.0 ++ l) e ∙ sym (append_assoc i.0 (line ∷ []) c.pop_front.new.self),
       subst (HasSubmitted c.args.caller.now c.submit_line.new.caller (i.0 ++ line ∷ [])) (sym c.in-Ok-push_back.ensures.ok)
           (submitted_then c.args.caller.now c.loop-line.caller c.submit_line.new.caller i.0 (line ∷ []) c.loop-line.turns (turn ∷ []) i.2 one),
-      subst (λ (config : Config). Each (IsAllowed config.kind) c.pop_front.new.self) (sym one.same.config.0) (subst (Each (IsAllowed c.loop-line.caller.view.config.kind)) e i.3).1,
+      subst (λ (config : Config). Each (IsAllowed (kind_of config)) c.pop_front.new.self) (sym one.same.config.0) (subst (Each (IsAllowed (kind_of c.loop-line.caller.view.config))) e i.3).1,
       one.same.table ∙ i.4,
     )
 

@@ -1,9 +1,11 @@
-use Rattle.std.proofs.Common.{◌∙◌, sym}
+use Rattle.std.proofs.Common.{◌≡◌, Ok, ◌∙◌, subst, sym}
+use Rattle.driver_model.specs.declared.kind.SessionKind.{SessionKind}
+use Rattle.script_text.specs.Lines.{lines_of}
 use Rattle.live_lines.proofs.reading.flight_of.Goals as goal
 
 pub returns-in-Ok-fly-clause-flight : goal.returns-in-Ok-fly-clause-flight
 returns-in-Ok-fly-clause-flight g c = λ bytes told. record {
-  asked = record { plan = c.in-Ok-Some.plan; plans = sym c.in-Ok-Some.ensures ∙ c.in-Ok-Some.field-0-is; lines = c.in-Ok.lines.items; reads = c.in-Ok.ensures.lines.read bytes told };
+  asked = record { plan = c.in-Ok-Some.plan; plans = sym c.in-Ok-Some.ensures ∙ c.in-Ok-Some.field-0-is; lines = c.in-Ok.lines.items; reads = subst (λ (kind : SessionKind). lines_of kind bytes ≡ Ok c.in-Ok.lines.items) c.kind.ensures (c.in-Ok.ensures.lines.read bytes told) };
   ended = c.in-Ok.ensures.lines.ended bytes told;
   flight = c.in-Ok-fly.ensures.flight;
 }
@@ -13,7 +15,7 @@ returns-in-Err-Config-clause-refused g c =
     let plans = sym c.in-Ok-Some.ensures ∙ c.in-Ok-Some.field-0-is in (
       record { plan = c.in-Ok-Some.plan; plans = plans },
       (λ bytes told. record {
-        asked = record { plan = c.in-Ok-Some.plan; plans = plans; lines = c.in-Ok.lines.items; reads = c.in-Ok.ensures.lines.read bytes told };
+        asked = record { plan = c.in-Ok-Some.plan; plans = plans; lines = c.in-Ok.lines.items; reads = subst (λ (kind : SessionKind). lines_of kind bytes ≡ Ok c.in-Ok.lines.items) c.kind.ensures (c.in-Ok.ensures.lines.read bytes told) };
         refused = rw c.in-Err-Config.field-0-is at c.in-Err-Config.ensures.err;
       }),
     )
@@ -23,7 +25,7 @@ returns-in-Err-Spent-clause-refused g c =
     let plans = sym c.in-Ok-Some.ensures ∙ c.in-Ok-Some.field-0-is in (
       record { plan = c.in-Ok-Some.plan; plans = plans },
       (λ bytes told. record {
-        asked = record { plan = c.in-Ok-Some.plan; plans = plans; lines = c.in-Ok.lines.items; reads = c.in-Ok.ensures.lines.read bytes told };
+        asked = record { plan = c.in-Ok-Some.plan; plans = plans; lines = c.in-Ok.lines.items; reads = subst (λ (kind : SessionKind). lines_of kind bytes ≡ Ok c.in-Ok.lines.items) c.kind.ensures (c.in-Ok.ensures.lines.read bytes told) };
         ran_out = rw c.in-Err-Spent.field-0-is at c.in-Err-Spent.ensures.err;
       }),
     )

@@ -1,5 +1,5 @@
 use Rattle.std.proofs.Common.{length, arith, ap, ◌∙◌, sym}
-use Rattle.shared_session.proofs.Replays.{opened_is, outcomes-none, unspent_opening, fewer_opening, sound_opening}
+use Rattle.shared_session.proofs.Replays.{opened_is, outcomes-none, unspent_opening, fewer_opening, counted_opening, sound_opening}
 use Rattle.shared_session.proofs.session.Session.new.Goals as goal
 
 pub invariant_of-result : goal.invariant_of-result
@@ -14,5 +14,6 @@ invariant_of-result c =
       few = omega (arith, ap length c.new-events.ensures);
       unspent = λ _. unspent_opening _ config word is;
       fewer = λ _. fewer_opening _ config word is;
+      counted = λ _. counted_opening _ config word is;
       sound = λ _. sound_opening _ config word is;
     }

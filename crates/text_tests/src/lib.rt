@@ -1,0 +1,5 @@
+//! Tests of the lines of scripts, by public calls alone.
+#![tactic(auto)]
+
+#[cfg(test)]
+mod configs;

@@ -1,0 +1,10 @@
+use Rattle.trace_examples.proofs.Managers.{replaced_once_failed, created_in_vain, longer_each_time, comes_back}
+use Rattle.trace_examples.proofs.returning.these_come_back.Goals as goal
+
+pub returns : goal.returns
+returns c = record {
+  replaced_once_failed = replaced_once_failed;
+  created_in_vain = created_in_vain;
+  longer_each_time = longer_each_time;
+  comes_back = comes_back;
+}
