@@ -1,6 +1,9 @@
-use Rattle.live_run.proofs.Runs.{broke_call}
+use Rattle.live_run.proofs.Runs.{broke_call, broke_nothing}
 use Rattle.live_run.proofs.Turns.{dialled_one, dial_broken}
 use Rattle.live_run.proofs.deeds.dial_link.Goals as goal
+
+pub returns-then-not-claim_up_to-clause-err : goal.returns-then-not-claim_up_to-clause-err
+returns-then-not-claim_up_to-clause-err g c = broke_nothing
 
 pub returns-in-Err-clause-err : goal.returns-in-Err-clause-err
 returns-in-Err-clause-err g c = broke_call _ c.dial-answer.ensures.tells
@@ -8,7 +11,7 @@ returns-in-Err-clause-err g c = broke_call _ c.dial-answer.ensures.tells
 pub returns-in-Ok-settle-clause-did : goal.returns-in-Ok-settle-clause-did
 returns-in-Ok-settle-clause-did g c =
     dialled_one c.args.target c.host_text-name.ensures c.dial-answer.ensures.tells (c.dial_news-news.ensures c.host_text-name.result.now c.args.target.port)
-    (c.in-Ok.ensures c.args.target c.host_text-name.result.now c.args.target.port) c.in-Ok-settle.ensures.ok
+    (c.in-Ok.ensures.noted c.host_text-name.result.now c.args.target.port) c.in-Ok-settle.ensures.ok
 
 pub returns-clause-err : goal.returns-clause-err
 returns-clause-err g c =
