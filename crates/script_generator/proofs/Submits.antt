@@ -20,7 +20,7 @@ use Rattle.mux_conn.specs.declared.request.Request.{Request}
 use Rattle.mux_conn.specs.declared.request.Waiting.{Waiting}
 use Rattle.mux_conn.specs.Connection.{Work, work_with}
 use Rattle.mux_conn.specs.Requests.{if_there, is_waiting, is_admitted, is_placed}
-use Rattle.mux_conn.specs.Passes.{passed, admitted, admitted_at, still_waiting, seated, started}
+use Rattle.mux_conn.specs.Passes.{passed, admitted, admitted_at, still_waiting, seated, started, rounds_begun}
 use Rattle.mux_conn.specs.Turn.{flushed, wait_shown, waits_shown, fresh_shown}
 use Rattle.shared_session.specs.Turn.{turning_with, counted, effect, asked_for, refused_with, moved_on, numbered, with_work, next_turn, pending}
 use Rattle.script_generator.proofs.Lasts.{get_last, come_to, name_last, progress_last, permits_last}
@@ -61,7 +61,7 @@ moved info n k rs packed =
     ap in_queue (progress_last rs n progress.Admitted progress.Placed) in
     let starts : in_queue (rs ++ come_to n progress.Placed ∷ []) ≡ begun (rs ++ come_to n progress.Placed ∷ []) n =
     ap (begun (rs ++ come_to n progress.Placed ∷ [])) (name_last rs n progress.Placed) in
-    ap (λ w. still_waiting w []) (is_let_in ∙ takes ∙ sits ∙ starts)
+    ap (λ w. rounds_begun (still_waiting w [])) (is_let_in ∙ takes ∙ sits ∙ starts)
 
 -- its bytes are offered, and it waits for nothing
 shown : (info : RedisConnectionInfo) (n k : ℕ) (rs : List Request) (packed : List ℕ) (a : LinkAct) → (length packed == 0) ≡ false →

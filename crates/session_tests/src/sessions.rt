@@ -189,8 +189,11 @@ fn a_replay_ends_at_a_bad_event(rt: HostRuntime) -> Result<(), AllocError> {
 /// What a session and a replay refuse of a configuration. Neither shows anything then.
 fn refusals(alloc: Global, url: &[u8], buffer: u32) -> Result<(&'static str, usize), AllocError> {
     let mut actions = Vec::new(alloc);
-    let mut wanted = config(alloc, url)?;
-    wanted.buffer = Some(buffer);
+    let queue = ConnectionWords {
+        buffer: Some(buffer),
+        ..ConnectionWords::new()
+    };
+    let wanted = config_of(alloc, url, queue)?;
     match Session::new(alloc, wanted, 0, &mut actions) {
         Ok(_) => Ok(("nothing", actions.len())),
         Err(MakeError::Config { name }) => Ok((name.name(), actions.len())),

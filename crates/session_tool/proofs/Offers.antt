@@ -17,11 +17,12 @@ use Rattle.driver_model.specs.declared.action.SourceUse.TheVariants as source
 use Rattle.driver_model.specs.declared.event.EventKind.{EventKind}
 use Rattle.driver_model.specs.declared.event.EventKind.TheVariants as event
 use Rattle.connection_info.specs.declared.address.RedisConnectionInfo.{RedisConnectionInfo}
-use Rattle.legal_trace.specs.Ledger.{Ledger, Sourced, Line, tells, parts, sources, times, noted, noted_each, bytes_came, with_news, awaits_credentials, may_renew, is_renewal_open}
+use Rattle.legal_trace.specs.Ledger.{Ledger, Sourced, Line, tells, parts, sources, noted, noted_each, bytes_came, with_news, awaits_credentials, may_renew, is_renewal_open, is_repeating, unrepeated_by}
 use Rattle.driver_model.specs.declared.config.Config.{Config}
 use Rattle.driver_model.specs.declared.event.Event.{Event}
-use Rattle.legal_trace.specs.Book.{Book, book, entered, entered_each, if_mine, is_renewal_of, push_line}
+use Rattle.legal_trace.specs.Book.{Book, book, entered, entered_each, if_mine, push_line}
 use Rattle.legal_trace.proofs.Came.{holds_bytes}
+use Rattle.legal_trace.proofs.Clocks.{timer_tells}
 use Rattle.legal_trace.proofs.Ledgers.{mine_keeps}
 use Rattle.legal_trace.proofs.Books.{book_append}
 use Rattle.shared_session.specs.declared.session.Failure.TheVariants.{Sound}
@@ -42,6 +43,13 @@ came_in o l turn piece h =
 pub came_offer : (o : Offer) (l : Ledger) (turn : ℕ) (news : News) (piece : List ℕ) → news ≡ came piece → IsOfferIn o l → IsOfferIn o (with_news l turn news)
 came_offer o l turn news piece is h = subst (λ (n : News). IsOfferIn o (with_news l turn n)) (sym is) (came_in o l turn piece h)
 
+-- nor does that what was subscribed isn't subscribed again in time
+again_in : (o : Offer) (l : Ledger) (turn : ℕ) → IsOfferIn o l → IsOfferIn o (with_news l turn unrepeated)
+again_in o l turn h = chosen (IsOfferIn o) (is_repeating l) (unrepeated_by l) l (λ t. record { asked = h.asked; up = h.up; over = h.over; count = h.count }) (λ f. h)
+
+pub again_offer : (o : Offer) (l : Ledger) (turn : ℕ) (news : News) → news ≡ unrepeated → IsOfferIn o l → IsOfferIn o (with_news l turn news)
+again_offer o l turn news is h = subst (λ (n : News). IsOfferIn o (with_news l turn n)) (sym is) (again_in o l turn h)
+
 -- nor does what concerns credentials alone
 creds_in : (o : Offer) (l : Ledger) (info : RedisConnectionInfo) (s : Sourced) → IsOfferIn o l → IsOfferIn o (record l { info = info; creds = s })
 creds_in o l info s h = record { asked = h.asked; up = h.up; over = h.over; count = h.count }
@@ -57,7 +65,7 @@ timer_in o l turn (Some (purpose.Response who)) h = h
 timer_in o l turn (Some (purpose.Renewal k n)) h =
     chosen (λ news. IsOfferIn o (with_news l turn news)) (k == 0) (late n) silence (λ t. either_in o l (l.up && is_renewal_open l n) l.info (record l.creds { lost = true }) h) (λ f. h)
 timer_in o l turn (Some (purpose.Backoff g)) h = h
-timer_in o l turn (Some (purpose.Resubscription k)) h = chosen (λ news. IsOfferIn o (with_news l turn news)) (k == 0) unrepeated silence (λ t. h) (λ f. h)
+timer_in o l turn (Some (purpose.Resubscription k)) h = chosen (λ news. IsOfferIn o (with_news l turn news)) (k == 0) unrepeated silence (λ t. again_in o l turn h) (λ f. h)
 
 -- nor what comes of a source
 source_in : (o : Offer) (l : Ledger) (turn : ℕ) (asked : Option SourceUse) (first later : News) → IsOfferIn o l → IsOfferIn o (with_news l turn first) → IsOfferIn o (with_news l turn later)
@@ -108,7 +116,11 @@ pub timed_offer : (o : Offer) (b : Book) (x : Action) (t ms : ℕ) (what : Purpo
 timed_offer o b x t ms what is h =
     let l = b.link 0 in
     subst (λ (a : Action). IsOfferOf o (entered b a)) (sym is)
-    (record { links = h.links; first = line_in o l (is_renewal_of 0 what) times (creds_in o l l.info (record l.creds { timed = l.creds.timed + 1 }) h.first) h.first })
+    (record {
+      links = h.links;
+      first = timer_tells (IsOfferIn o) l 0 what (λ on k same e. creds_in o l l.info (record l.creds { timed = l.creds.timed + 1 }) h.first)
+          (λ on same e. record { asked = h.first.asked; up = h.first.up; over = h.first.over; count = h.first.count }) h.first;
+    })
 
 pub sourced_offer : (o : Offer) (b : Book) (x : Action) (c k : ℕ) → x ≡ action.NeedCreds c k → IsOfferOf o b → IsOfferOf o (entered b x)
 sourced_offer o b x c k is h =

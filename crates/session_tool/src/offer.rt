@@ -109,9 +109,9 @@ impl Offer {
     /// After the connect of this link was asked for, whatever is said to its server then.
     fn asking(self, link: u32) -> Offer
         ensures links { result.links ≡ self.links }
-        ensures first { (l : Ledger) (info : RedisConnectionInfo) (wanted : Bool) (hearing : Hearing) (last : Bool)
+        ensures first { (l : Ledger) (info : RedisConnectionInfo) (wanted : Bool) (hearing : Hearing) (last again : Bool)
             → IsOfferIn self l
-            → IsOfferIn result (noted_each l (if_mine (link == 0) (asks info wanted hearing last))) }
+            → IsOfferIn result (noted_each l (if_mine (link == 0) (asks info wanted hearing last again))) }
     {
         if link == FIRST_LINK {
             Offer {
