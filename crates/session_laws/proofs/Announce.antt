@@ -32,10 +32,10 @@ use Rattle.legal_trace.specs.Story.{Story, fires}
 use Rattle.legal_trace.specs.Book.{Book, book, entered, is_clock_of, hearing_in, rest_after, timeout_after, kind_in, has_generations}
 use Rattle.legal_trace.specs.Events.{is_bad_event}
 use Rattle.legal_trace.specs.Legal.{MayTurn}
-use Rattle.mux_conn.specs.Connection.{is_ready, is_resting}
+use Rattle.mux_conn.specs.Connection.{is_resting}
 use Rattle.session_laws.proofs.Comes.{course_later}
 use Rattle.session_laws.proofs.Server.{owners_of, setup_owners, TiedCreds, TiedSetup, TiedRenewal, hearing_at, on_link}
-use Rattle.session_laws.proofs.Tied.{TiedCreation, AreAimed, AreUses, IsAim, owners_each, Inner, inner, link_in, carried, whole_link, AreAside, TiedLife, TiedTries, TiedLines, AreQueued, TiedWaits, Tied, Sound, has_ended, TiedNotices, HasGreetedAlone, is_reading, IsUse, TiedRounds, AreUnrepeated, HasCourse, AreEarly}
+use Rattle.session_laws.proofs.Tied.{TiedCreation, AreAimed, AreUses, IsAim, owners_each, Inner, inner, link_in, carried, whole_link, AreAside, TiedLife, TiedTries, TiedLines, AreQueued, TiedWaits, Tied, Sound, has_ended, TiedNotices, HasGreetedAlone, is_reading, IsUse, TiedRounds, HasCourse, AreEarly}
 use Rattle.session_laws.proofs.Repeats.{TiedRepeat, serves}
 use Rattle.session_laws.proofs.States.{Between}
 use Rattle.session_laws.proofs.Entered.{book_more, sound_more}

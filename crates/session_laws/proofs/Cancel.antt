@@ -33,12 +33,11 @@ use Rattle.shared_session.specs.Turn.{with_work, heard, is_shutdown, left_by, ef
 use Rattle.legal_trace.specs.Ledger.{Ledger, Sourced, ending, hears, noted, Heard, End}
 use Rattle.legal_trace.specs.Story.{Story, is_open, is_told, left}
 use Rattle.legal_trace.specs.Book.{Book, after_event, book, entered, if_own, shuts, submitted_by, timeout_after, kind_in, has_generations}
-use Rattle.mux_conn.specs.Renewals.{renewal_id}
 use Rattle.mux_conn.specs.declared.renewal.Renewal.{Renewal}
 use Rattle.session_laws.proofs.Rounded.{rounds_closed, early_closed}
 use Rattle.session_laws.proofs.Aside.{aside_silent}
 use Rattle.session_laws.proofs.Renewals.{renewal_alike}
-use Rattle.session_laws.proofs.Numbers.{IsIn, in_left, in_right, in_either, Rising, rising_from, rising_in, rising_right, rising_tail, requests_in, request_in, request_of, request_other, requests_first}
+use Rattle.session_laws.proofs.Numbers.{IsIn, in_left, in_right, in_either, Rising, rising_from, rising_in, rising_right, rising_tail, requests_in, request_in, request_of, request_other, requests_first, is_own}
 use Rattle.session_laws.proofs.Server.{TiedCreds, TiedSetup, TiedRenewal, hearing_at}
 use Rattle.session_laws.proofs.Tied.{carried, inner, no_link, link_in, owner_of, queue_ids, whole_link, IsQueued, IsEntry, AreQueued, TiedLife, TiedStory, TiedNames, TiedNumbers, TiedPermits, TiedLines, IsAside, Tied, has_ended, greeter, TiedRounds, HasCourse, TiedNotices, AreEarly}
 use Rattle.session_laws.proofs.States.{IsFit, IsFitIn, Between, HasApplied, IsStopped}
@@ -50,7 +49,7 @@ use Rattle.legal_trace.specs.Legal.{NoneEnds}
 use Rattle.session_laws.proofs.Closing.{Closes, WasReady, WasSettingUp, WasWanting, closed_other, late_closed, with_closed, story_closed, tries_closed, packs_closed, queued_other, queue_closed, AreOthers, waits_closed, kept_other, IsUntried, told_closed}
 use Rattle.session_laws.proofs.Answer.{entries_answered}
 use Rattle.session_laws.proofs.Settle.{seen}
-use Rattle.session_laws.proofs.Announce.{aims_on, turn_of, turned, uses_on, uses_on, time_still, still_unrepeated}
+use Rattle.session_laws.proofs.Announce.{aims_on, turn_of, turned, uses_on, uses_on, time_still}
 use Rattle.session_laws.proofs.Kept.{tied_by}
 use Rattle.session_laws.proofs.Permits.{permits_closed}
 use Rattle.session_laws.proofs.Heard.{silent_applied, still_none, told_life, silent_no_end, tame_between, hushed_still}
@@ -58,6 +57,7 @@ use Rattle.session_laws.proofs.Said.{carried_tied, setup_on, IsTame, renoticed}
 use Rattle.mux_conn.specs.Connection.{is_ready, is_resting}
 use Rattle.session_laws.proofs.Comes.{course_later}
 use Rattle.shared_session.specs.declared.generations.Generations.{Generations}
+use Rattle.session_laws.proofs.Repeats.{repeat_alike}
 
 -- one who leaves closes its story
 --

@@ -20,10 +20,9 @@ use Rattle.link_core.specs.Link.{LinkState}
 use Rattle.link_laws.specs.Settles.{awaited_ids}
 use Rattle.legal_trace.specs.Ledger.{Ledger, setup_count}
 use Rattle.legal_trace.specs.Story.{Story, is_told, shape}
-use Rattle.mux_conn.specs.Renewals.{renewal_id}
-use Rattle.session_laws.proofs.Numbers.{IsIn, Rising}
+use Rattle.session_laws.proofs.Numbers.{IsIn, Rising, is_own, below_own}
 use Rattle.session_laws.proofs.Server.{setup_owners}
-use Rattle.session_laws.proofs.Tied.{carried, link_in, no_link, owner_of, owners_each, queue_ids, waiting_ids, whole_link, IsRequest, TiedStory, TiedTries, TiedNames, IsOf, IsQueued, IsEntry, IsPacked, AreQueued, AreLate, shown_wait, TiedWaits, TiedPermits}
+use Rattle.session_laws.proofs.Tied.{carried, link_in, no_link, owner_of, owners_each, queue_ids, waiting_ids, whole_link, IsRequest, TiedStory, TiedTries, TiedNames, IsOf, IsQueued, IsEntry, IsPacked, AreQueued, AreLate, shown_wait, TiedWaits, TiedPermits, own_owner}
 use Rattle.session_laws.proofs.Permits.{held_same}
 use Rattle.legal_trace.specs.Steps.{is_let_in, permits_held, permits_on}
 use Rattle.driver_model.specs.declared.action.WaitKind.{WaitKind}

@@ -9,8 +9,7 @@ use Rattle.link_laws.specs.Settles.{wanted, awaited_ids}
 use Rattle.mux_conn.specs.declared.request.Request.{Request}
 use Rattle.mux_conn.specs.declared.request.Waiting.{Waiting}
 use Rattle.mux_conn.specs.Requests.{is_open_at}
-use Rattle.mux_conn.specs.Renewals.{renewal_id}
-use Rattle.session_laws.proofs.Numbers.{IsIn, in_left, in_right, in_either, requests_in, Rising, rising_from, rising_in, rising_right}
+use Rattle.session_laws.proofs.Numbers.{IsIn, in_left, in_right, in_either, requests_in, Rising, rising_from, rising_in, rising_right, is_own}
 use Rattle.session_laws.proofs.Tied.{queue_ids, waiting_ids, IsKept, TiedLines}
 
 -- who the entries of a row are of

@@ -2,7 +2,7 @@
 use Rattle.std.proofs.Common.{◌≡◌, ◌≢◌, ◌⊎◌, inl, inr, ℕ, zero, suc, ◌^◌, ◌<◌, ◌==◌, nat_lt, if◌then◌else◌, Bool, true, false, List, [], ◌∷◌, ◌++◌, length, Option, Some, None, slice_get, slice_set, refl, sym, ap, ◌∙◌, subst, arith, length-set}
 use Rattle.containers.proofs.Places.{get_set_same, get_set_other, get_within}
 use Rattle.std.proofs.lemmas.List.{length_push}
-use Rattle.containers.proofs.Choices.{by_test, chosen, taken_if, left_if, not_both, eq_from, ne_from, ne_test, lt_from, not_lt_from}
+use Rattle.containers.proofs.Choices.{by_test, chosen, taken_if, left_if, not_both, eq_from, ne_from, lt_from, not_lt_from, eq_test}
 use Rattle.driver_model.specs.declared.action.Owner.{Owner}
 use Rattle.driver_model.specs.declared.action.Owner.TheVariants as owner
 use Rattle.legal_trace.specs.Ledger.{is_of_setup}
@@ -18,7 +18,7 @@ use Rattle.mux_conn.specs.declared.life.Life.{Life}
 use Rattle.mux_conn.specs.declared.life.Life.TheVariants.{Resting, Dialing, Wanting, SettingUp, Ready, Ended}
 use Rattle.legal_trace.specs.Ledger.{Ledger}
 use Rattle.session_laws.proofs.Server.{hearing_on}
-use Rattle.session_laws.proofs.Tied.{owner_of, Inner, Tied, TiedLife, TiedNames}
+use Rattle.session_laws.proofs.Tied.{owner_of, Inner, Tied, TiedLife, TiedNames, own_owner}
 use Rattle.driver_model.specs.Hearing.{is_watching}
 use Rattle.driver_model.specs.declared.kind.SessionKind.{SessionKind}
 use Rattle.driver_model.specs.declared.kind.SessionKind.TheVariants as session
@@ -26,6 +26,8 @@ use Rattle.driver_model.specs.Config as Configs
 use Rattle.driver_model.specs.declared.config.Config.{Config}
 use Rattle.driver_model.specs.declared.event.Submission.{Submission}
 use Rattle.driver_model.specs.Request.{has_no_form}
+use Rattle.session_laws.proofs.Numbers.{is_own, below_own, auth_is_own, repeat_is_own, repeat_other}
+use Rattle.mux_conn.specs.Repeats.{repeat_id}
 
 -- what stands at a place within
 pub get_some : {X : Type 0} (xs : List X) (n : ℕ) → n < length xs → (x : X) × (slice_get xs n ≡ Some x)

@@ -2,7 +2,7 @@
 use Rattle.std.proofs.Common.{◌≡◌, ◌≢◌, inl, inr, ℕ, zero, suc, ◌+◌, ◌<◌, ◌==◌, Bool, true, false, ◌&&◌, not, is_some, length-append, List, [], ◌∷◌, ◌++◌, length, Option, Some, None, slice_get, refl, sym, ap, ◌∙◌, subst, arith, drop, if◌then◌else◌}
 use Rattle.std.specs.List.{AllByRecursion}
 use Rattle.std.proofs.lemmas.List.{nil_from_length}
-use Rattle.containers.proofs.Choices.{by_test, left_if, eq_from, ne_from, ne_test, not_both, taken_if, eq_test}
+use Rattle.containers.proofs.Choices.{by_test, left_if, eq_from, ne_from, ne_test, not_both, taken_if, chosen}
 use Rattle.redis_error.specs.declared.redis_error.RedisError.{RedisError}
 use Rattle.redis_error.specs.declared.redis_error.RedisError.TheVariants as error
 use Rattle.driver_model.specs.declared.action.Owner.{Owner}
@@ -27,14 +27,15 @@ use Rattle.legal_trace.specs.Story.{Story, bytes_of, shape, last_of, is_open}
 use Rattle.legal_trace.specs.Book.{Book}
 use Rattle.legal_trace.specs.Owed.{owed, owed_to_message, owed_unstarted, owed_to_try, owed_waiting}
 use Rattle.legal_trace.specs.Legal.{IsOpen, NoneIsOwed, IsCreated, FailuresAreShown, NoticesAreTold, EndsAreTold}
-use Rattle.session_laws.proofs.Numbers.{Rising, IsIn, in_either, rising_in, rising_left, rising_right, rising_apart, requests_in, request_in, request_of}
+use Rattle.session_laws.proofs.Numbers.{Rising, IsIn, in_either, rising_in, rising_left, rising_right, rising_apart, requests_in, request_in, request_of, is_own}
 use Rattle.session_laws.proofs.Said.{ready_shown}
 use Rattle.session_laws.proofs.Server.{setup_owners, owners_of}
-use Rattle.session_laws.proofs.Tied.{IsEntry, Inner, carried, link_in, owner_of, whole_link, owners_each, queue_ids, IsRequest, TiedStory, TiedLife, Tied, FailureIsShown, has_ended, is_of_greeting}
-use Rattle.session_laws.proofs.Names.{get_some, open_within, name_of_some, name_placed, same_name, owner_no_setup, auth_owner, request_owner, request_not, asked_unwatched}
+use Rattle.session_laws.proofs.Tied.{IsEntry, Inner, carried, link_in, owner_of, whole_link, owners_each, queue_ids, IsRequest, TiedStory, TiedLife, Tied, FailureIsShown, has_ended, is_of_greeting, own_owner}
+use Rattle.session_laws.proofs.Names.{get_some, open_within, name_of_some, name_placed, same_name, owner_no_setup, auth_owner, request_owner, request_not, asked_unwatched, owner_of_auth, repeat_owner, owner_of_repeat}
 use Rattle.session_laws.proofs.InLine.{AtPlaces, IsInLine, wanted_rises, places_rise, row_ids, wanted_in, kept_ids, line_of, open_in_line}
 use Rattle.mux_conn.specs.Renewals.{renewal_id}
 use Rattle.driver_model.specs.Hearing.{is_watching, hears_something, hears_pushes}
+use Rattle.mux_conn.specs.Repeats.{repeat_id}
 
 -- each request is a submission
 pub request_story : (b : Book) (t : Inner) (p : ℕ) → Tied b t → p < length t.requests → IsRequest (b.story (name_at t.requests p)) t.requests t.link p

@@ -2,7 +2,7 @@
 use Rattle.std.proofs.Common.{List, None, Option, Some, [], ap, arith, false, inl, inr, length, length-append, refl, subst, sym, true, ℕ, ◌+◌, ◌++◌, ◌≤◌, ◌∙◌, ◌∷◌, ◌≡◌, ◌≢◌}
 use Rattle.std.proofs.lemmas.List.{append-nil}
 use Rattle.std.specs.Prelude.{if◌then◌else◌, slice_get, ◌==◌, ◌&&◌}
-use Rattle.containers.proofs.Choices.{both_right, chosen, eq_test, left_if, not_both, taken_if, by_test}
+use Rattle.containers.proofs.Choices.{both_right, chosen, left_if, not_both, by_test}
 use Rattle.containers.proofs.Places.{get_within}
 use Rattle.credentials.specs.Credentials.{Credentials}
 use Rattle.credentials.specs.Message.{auth_bytes}
@@ -21,7 +21,6 @@ use Rattle.link_laws.specs.Settles.{awaited_ids, wanted}
 use Rattle.link_laws.specs.Starts.{start_from}
 use Rattle.mux_conn.specs.Connection.{Work, are_some, is_due as is_renewal_due, is_ready}
 use Rattle.mux_conn.specs.Renewals.{asked_next, renewal_asked, renewal_id, renewal_moved, renewal_queued, renewal_timed, renewal_told, renewed, renewing, told_next}
-use Rattle.mux_conn.specs.Requests.{name_at}
 use Rattle.mux_conn.specs.declared.act.LinkAct.TheVariants as act
 use Rattle.mux_conn.specs.declared.life.Life.{Life}
 use Rattle.mux_conn.specs.declared.life.Life.TheVariants.{Ready}
@@ -30,7 +29,7 @@ use Rattle.mux_conn.specs.declared.request.Request.{Request}
 use Rattle.shared_session.specs.declared.core_state.Core.{Core}
 use Rattle.shared_session.specs.Turn.{timers_of}
 use Rattle.legal_trace.specs.Book.{Book, book, entered, message_of, renewal_in}
-use Rattle.legal_trace.specs.Ledger.{Ledger, Start, begins, is_of_setup, noted, renewal_count, renewal_due, renewals_asked, setup_count, times}
+use Rattle.legal_trace.specs.Ledger.{Ledger, Start, begins, is_of_setup, noted, renewal_count, renewal_due, renewals_asked, setup_count, times, is_of_again}
 use Rattle.legal_trace.specs.Legal.{MayRenew, MayTimeRenewal, NoneEnds}
 use Rattle.legal_trace.specs.Story.{Story}
 use Rattle.legal_trace.proofs.Setups.{count_more}
@@ -38,8 +37,8 @@ use Rattle.session_laws.proofs.Ahead.{held_by}
 use Rattle.session_laws.proofs.Going.{HasRenewed, applied_up, none_ends_kept, none_ends_mine, renewals_timed, setups_started, monitors_started}
 use Rattle.session_laws.proofs.InLine.{kept_ids}
 use Rattle.session_laws.proofs.Kept.{mine_noted, others_kept, tied_by}
-use Rattle.session_laws.proofs.Names.{get_more}
-use Rattle.session_laws.proofs.Numbers.{IsIn, Rising, in_left, requests_behind, requests_in, requests_in-append}
+use Rattle.session_laws.proofs.Names.{get_more, owner_of_auth}
+use Rattle.session_laws.proofs.Numbers.{IsIn, Rising, in_left, requests_behind, requests_in, requests_in-append, auth_is_own}
 use Rattle.session_laws.proofs.Renewals.{auth_renewed, asked_renewed, down_renewed_due, due_first, due_is, some_wait, timed_renewed}
 use Rattle.session_laws.proofs.SetUp.{set_up_begins, setups_begins}
 use Rattle.session_laws.proofs.Settle.{Holds, book_of_more, renewal_tied, seen, sound_act, trace_of_acts}
@@ -48,10 +47,11 @@ use Rattle.session_laws.proofs.Starts.{begins_ends_none}
 use Rattle.session_laws.proofs.States.{IsFit}
 use Rattle.session_laws.proofs.Server.{AreRenewed, TiedRenewal, setup_owners, timed_of}
 use Rattle.session_laws.proofs.Tied.{AreAimed, Inner, IsAim, IsEntry, Tied, TiedTries, numbers_kept, owner_of, owners_each, queue_ids}
-use Rattle.session_laws.proofs.Unrepeated.{repeats_started, repeats_timed, unrepeated_lined}
+use Rattle.session_laws.proofs.Unrepeated.{repeats_started, repeats_timed}
 use Rattle.session_laws.proofs.Took.{queue_waits}
 use Rattle.mux_conn.specs.declared.life.Greeting.TheVariants as greet
 use Rattle.driver_model.specs.Hearing.{is_watching}
+use Rattle.session_laws.proofs.Repeats.{repeated_alike, begins_repeated}
 
 -- their timer
 --

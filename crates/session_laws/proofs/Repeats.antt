@@ -1,9 +1,8 @@
 -- What is subscribed again on a link, by its ledger and by its connection.
-use Rattle.std.proofs.Common.{◌≡◌, ◌≢◌, ℕ, suc, ◌+◌, ◌<◌, ◌≤◌, nat_le, Bool, true, false, ◌&&◌, ◌||◌, not, is_some, if◌then◌else◌, List, [], ◌∷◌, ◌++◌, length, take, Option, Some, None, slice_get, refl, sym, ap, ◌∙◌, subst, arith}
+use Rattle.std.proofs.Common.{◌≡◌, ◌≢◌, ℕ, suc, ◌+◌, ◌<◌, ◌≤◌, nat_le, Bool, true, false, ◌&&◌, ◌||◌, not, is_some, if◌then◌else◌, List, [], ◌∷◌, ◌++◌, length, Option, Some, None, refl, sym, ap, ◌∙◌, subst, arith}
 use Rattle.std.specs.Option.{is_none}
 use Rattle.std.proofs.lemmas.List.{take-append-le}
-use Rattle.containers.proofs.Choices.{by_test, chosen, taken_if, left_if, not_both}
-use Rattle.containers.proofs.Places.{get_within}
+use Rattle.containers.proofs.Choices.{by_test, taken_if, left_if}
 use Rattle.sub_tracker.specs.Subscribed.{Request as Call}
 use Rattle.driver_model.specs.declared.action.Owner.TheVariants as owner
 use Rattle.driver_model.specs.declared.outcome.Shape.{Shape}
@@ -13,9 +12,9 @@ use Rattle.mux_conn.specs.declared.again.Again.TheVariants as again
 use Rattle.mux_conn.specs.declared.life.Life.{Life}
 use Rattle.mux_conn.specs.declared.life.Life.TheVariants.{Resting, Dialing, Wanting, SettingUp, Ready, Ended}
 use Rattle.mux_conn.specs.Connection.{is_outstanding, is_ready as is_ready_life}
-use Rattle.mux_conn.specs.Repeats.{is_to_start, with_timer}
+use Rattle.mux_conn.specs.Repeats.{is_to_start}
 use Rattle.legal_trace.specs.Again.{again_message}
-use Rattle.legal_trace.specs.Ledger.{Ledger, End, Start, again_among, again_due, again_of, begins, is_answered, is_fault, is_full, is_of_again, is_ready, is_repeating, is_served, is_set_up, noted, reach, repeats_timed, unrepeated_by}
+use Rattle.legal_trace.specs.Ledger.{Ledger, End, Start, again_among, again_due, again_of, begins, is_answered, is_fault, is_full, is_of_again, is_ready, is_served, noted, reach, repeats_timed, unrepeated_by}
 use Rattle.legal_trace.proofs.Again.{again_begun, again_else, unwanted_is_served}
 
 -- how they agree

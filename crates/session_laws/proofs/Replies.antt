@@ -1,7 +1,7 @@
 -- Replies to new credentials: what bytes that come make of them.
 use Rattle.std.proofs.Common.{◌≡◌, ◌≢◌, ◌⊎◌, inl, inr, ℕ, zero, suc, ◌+◌, ◌<◌, ◌≤◌, ◌==◌, nat_le, Bool, true, false, ◌&&◌, ◌||◌, not, if◌then◌else◌, List, [], ◌∷◌, ◌++◌, length, take, drop, Option, Some, None, slice_get, refl, sym, ap, ◌∙◌, subst, arith}
 use Rattle.std.specs.List.{AllByRecursion}
-use Rattle.containers.proofs.Choices.{by_test, chosen, taken_if, left_if, not_both, not_le_from, not_le_test, eq_from, eq_test, ne_from}
+use Rattle.containers.proofs.Choices.{by_test, chosen, taken_if, left_if, not_both, not_le_from, not_le_test, eq_from, ne_from}
 use Rattle.containers.proofs.Places.{get_within}
 use Rattle.resp_value.specs.Data.{Data}
 use Rattle.resp_read.specs.Values.{values}
@@ -26,7 +26,6 @@ use Rattle.link_laws.proofs.Started.{full_or_open, row_open}
 use Rattle.link_laws.proofs.TiedLink.{ReadsAlike, TiedLink, deals, has_heard, read_taken}
 use Rattle.mux_conn.specs.declared.renewal.Renewal.{Renewal}
 use Rattle.mux_conn.specs.declared.request.Request.{Request}
-use Rattle.mux_conn.specs.Requests.{name_at}
 use Rattle.mux_conn.specs.Renewals.{is_done, renewal_id, replied}
 use Rattle.legal_trace.specs.Ledger.{Ledger, Start, bytes_came, cut, is_full, is_of_renewal, is_taken, last_renewal, reach}
 use Rattle.legal_trace.specs.Ledger.{is_done as is_taken_so}
@@ -34,8 +33,8 @@ use Rattle.legal_trace.proofs.Came.{bytes_are, grown, holds_came}
 use Rattle.legal_trace.proofs.Renewals.{last_told, taken_more}
 use Rattle.legal_trace.proofs.Setups.{full_stays}
 use Rattle.session_laws.proofs.InLine.{row_ids, wanted_in}
-use Rattle.session_laws.proofs.Names.{auth_owner}
-use Rattle.session_laws.proofs.Numbers.{IsIn, in_left, in_right, in_either}
+use Rattle.session_laws.proofs.Names.{auth_owner, owner_of_auth}
+use Rattle.session_laws.proofs.Numbers.{IsIn, in_left, in_right, in_either, is_own, auth_is_own}
 use Rattle.session_laws.proofs.Owes.{wanted_entry}
 use Rattle.session_laws.proofs.Settle.{replied_each}
 use Rattle.session_laws.proofs.Server.{AreFullBefore, AreRenewed, IsLost, IsTold}

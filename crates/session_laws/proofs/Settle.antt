@@ -39,6 +39,7 @@ use Rattle.session_laws.proofs.Entered.{book_more, quiet_sources, quiet_timers, 
 use Rattle.session_laws.proofs.Names.{open_within, name_with, length_with, with_then}
 use Rattle.session_laws.proofs.InLine.{line_of, IsInLine, open_in_line, first_is_least}
 use Rattle.session_laws.proofs.Answer.{may_answer, after_closes, none_before, owed_still, answer_tied, skip_tied}
+use Rattle.session_laws.proofs.Repeats.{TiedRepeat}
 
 -- a session in the middle of a turn, by its connection, and by the acts so far, which may ask for timers and for sources of
 -- credentials

@@ -23,7 +23,7 @@ use Rattle.mux_conn.specs.declared.life.Life.TheVariants.{Dialing, Ready, Wantin
 use Rattle.mux_conn.specs.declared.request.Request.{Request}
 use Rattle.mux_conn.specs.declared.request.Waiting.{Waiting}
 use Rattle.legal_trace.specs.Book.{Book, entered, if_own, message_of}
-use Rattle.legal_trace.specs.Ledger.{Ledger, Start, begins, is_of_setup, noted, setup_count, is_of_renewal}
+use Rattle.legal_trace.specs.Ledger.{Ledger, Start, begins, is_of_setup, noted, setup_count, is_of_renewal, is_of_again}
 use Rattle.legal_trace.specs.Story.{Story, is_told, shape, shape_in, tried}
 use Rattle.session_laws.proofs.Rounded.{SameRounds, rounds_same}
 use Rattle.session_laws.proofs.Ahead.{queue_within, admitted_open, early_open}
@@ -31,17 +31,16 @@ use Rattle.session_laws.proofs.Behind.{nil_told, open_untold, some_more}
 use Rattle.session_laws.proofs.InLine.{awaited_in, first_is_apart, kept_ids}
 use Rattle.session_laws.proofs.Kept.{SameOutcomes, SameSubmissions, SameTimes, mine_noted, one_changed, others_kept, packed_same, queued_same, tied_by}
 use Rattle.session_laws.proofs.Names.{get_more, get_some, name_of_some, open_within, same_name, owner_below, request_not, asked_unwatched}
-use Rattle.session_laws.proofs.Numbers.{IsIn, Rising, in_left, in_right, rising_apart, rising_in, rising_right, requests_in, request_in, requests_in-append, requests_first}
+use Rattle.session_laws.proofs.Numbers.{IsIn, Rising, in_left, in_right, rising_apart, rising_in, rising_right, requests_in, request_in, requests_in-append, requests_first, is_own}
 use Rattle.session_laws.proofs.Owes.{get_in, request_story}
 use Rattle.session_laws.proofs.Permits.{IsHolding, holding_same, permits_same}
 use Rattle.legal_trace.proofs.Setups.{count_more}
 use Rattle.session_laws.proofs.SetUp.{set_up_begins, setups_begins}
-use Rattle.mux_conn.specs.Renewals.{renewal_id}
 use Rattle.session_laws.proofs.Renewals.{begins_renewed}
 use Rattle.session_laws.proofs.Server.{owners_of, setup_owners}
 use Rattle.session_laws.proofs.Tied.{AreQueued, Inner, IsEntry, IsQueued, IsRequest, Tied, TiedLines, TiedTries, TiedWaits, owner_of, owners_each, queue_ids, shown_wait, numbers_kept}
-use Rattle.session_laws.proofs.Unrepeated.{unrepeated_lined}
 use Rattle.driver_model.specs.Hearing.{is_watching}
+use Rattle.session_laws.proofs.Repeats.{begins_repeated}
 
 -- the action that its start shows
 abbrev pub start_action : Inner → LinkState → Queued → Action

@@ -31,8 +31,8 @@ use Rattle.legal_trace.specs.Story.{Story, Try, bytes_of, last_of, shape}
 use Rattle.legal_trace.specs.Book.{Book, book, entered, if_mine, push_line, blank_book}
 use Rattle.legal_trace.specs.Owed.{owed, owed_to_message, owed_to_try, owed_waiting}
 use Rattle.legal_trace.specs.Legal.{AllStand, IsBefore, IsOpen, MayNotify, MayPushBy, MayStand}
-use Rattle.session_laws.proofs.Numbers.{IsIn, Rising, in_either, in_left, in_right, requests_in, request_of}
-use Rattle.session_laws.proofs.Tied.{Inner, Tied, has_ended, link_in, owner_of, queue_ids, Sound}
+use Rattle.session_laws.proofs.Numbers.{IsIn, Rising, in_either, in_left, in_right, requests_in, request_of, is_own}
+use Rattle.session_laws.proofs.Tied.{Inner, Tied, has_ended, link_in, owner_of, queue_ids, Sound, own_owner}
 use Rattle.session_laws.proofs.Said.{ready_shown, sources_asked, readied}
 use Rattle.session_laws.proofs.Names.{length_with, name_with, open_within, with_then}
 use Rattle.session_laws.proofs.InLine.{IsInLine, awaited_in, kept_ids, kept_in, line_of, wanted_in}

@@ -15,7 +15,6 @@ use Rattle.legal_trace.specs.Book.{Book, entered, push_line, hearing_in, if_mine
 use Rattle.session_laws.proofs.Kept.{mine_noted, others_kept, tied_by}
 use Rattle.session_laws.proofs.Server.{hearing_at}
 use Rattle.session_laws.proofs.Tied.{Inner, Tied, TiedLife, TiedNotices, carried, whole_link, is_reading}
-use Rattle.session_laws.proofs.Unrepeated.{unrepeated_lined}
 use Rattle.session_laws.proofs.Renewals.{renewal_alike}
 use Rattle.session_laws.proofs.SameSaid.{SameSaid, said_alike, set_alike}
 use Rattle.driver_model.specs.declared.hearing.Notice.{Notice}
@@ -24,6 +23,7 @@ use Rattle.driver_model.specs.declared.action.Action.{Action}
 use Rattle.driver_model.specs.Push.{is_disconnection}
 use Rattle.containers.proofs.Choices.{left_if}
 use Rattle.link_laws.proofs.Notices.{IsNoEnd}
+use Rattle.session_laws.proofs.Repeats.{repeat_alike}
 
 -- a ledger of which so many notices were told, and its end or not
 abbrev pub retells : Ledger → ℕ → Bool → Ledger

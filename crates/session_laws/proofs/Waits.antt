@@ -13,7 +13,6 @@ use Rattle.link_core.specs.Link.{LinkState, first_in, holds_back, is_full_beside
 use Rattle.link_core.specs.declared.message.Queued.{Queued}
 use Rattle.link_laws.specs.Settles.{awaited_ids, wanted}
 use Rattle.mux_conn.specs.Connection.{has_no_permit, is_ready, in_front}
-use Rattle.mux_conn.specs.Renewals.{renewal_id}
 use Rattle.mux_conn.specs.Requests.{if_there, is_admitted, is_admitted_at, is_open_at, is_placed, is_placed_at, is_waiting, is_waiting_at, name_at, is_unbegun_at}
 use Rattle.mux_conn.specs.Turn.{is_from}
 use Rattle.mux_conn.specs.declared.life.Greeting.{Greeting}
@@ -33,7 +32,7 @@ use Rattle.session_laws.proofs.InLine.{awaited_in as in_queue, chosen_in, kept_i
 use Rattle.session_laws.proofs.Kept.{SameOutcomes, SameSubmissions, SameTimes, one_changed, packed_same, queued_same, tries_same}
 use Rattle.session_laws.proofs.Moves.{later_of, open_unstarted}
 use Rattle.session_laws.proofs.Names.{earlier_name, get_some, name_of_some, open_within, same_name, there_within, request_not}
-use Rattle.session_laws.proofs.Numbers.{IsIn, Rising, in_either, in_left, in_right, rising_apart, rising_from, rising_in, rising_right, requests_in, request_in, request_of}
+use Rattle.session_laws.proofs.Numbers.{IsIn, Rising, in_either, in_left, in_right, rising_apart, rising_from, rising_in, rising_right, requests_in, request_in, request_of, is_own}
 use Rattle.session_laws.proofs.Owes.{later_unstarted, none_open, open_request, request_story, row_in_line, open_on}
 use Rattle.session_laws.proofs.Permits.{IsHolding, permits_same}
 use Rattle.session_laws.proofs.States.{IsFit, AreBegun}

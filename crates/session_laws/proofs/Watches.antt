@@ -42,7 +42,7 @@ use Rattle.session_laws.proofs.Start.{with_queue}
 use Rattle.session_laws.proofs.States.{IsFit}
 use Rattle.session_laws.proofs.Server.{IsWatchDue, IsWatching, watch_queued}
 use Rattle.session_laws.proofs.Tied.{Inner, Tied, TiedTries, numbers_kept}
-use Rattle.session_laws.proofs.Unrepeated.{unrepeated_lined}
+use Rattle.session_laws.proofs.Repeats.{begins_held}
 
 -- MONITOR is due
 --

@@ -34,10 +34,10 @@ use Rattle.session_laws.proofs.Took.{queue_waits}
 use Rattle.session_laws.proofs.States.{IsFit, IsStopped}
 use Rattle.session_laws.proofs.Server.{HasSaid}
 use Rattle.session_laws.proofs.Tied.{Inner, Tied, TiedLife, carried, has_ended, numbers_kept, owner_of, whole_link, link_in, greeter, IsHeeded}
-use Rattle.session_laws.proofs.Unrepeated.{unrepeated_lined}
 use Rattle.session_laws.proofs.Comes.{plain_put}
 use Rattle.mux_conn.specs.declared.request.Waiting.{Waiting}
 use Rattle.shared_session.specs.declared.generations.Generations.{Generations}
+use Rattle.session_laws.proofs.Repeats.{repeat_alike}
 
 -- an offer
 --
