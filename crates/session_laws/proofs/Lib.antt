@@ -1,6 +1,7 @@
 pub mod Numbers
 pub mod Server
 pub mod Repeats
+pub mod Serving
 pub mod Tied
 pub mod States
 pub mod Creds

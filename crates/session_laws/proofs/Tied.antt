@@ -525,9 +525,14 @@ pub record TiedRounds (comes : Bool) (story : ℕ → Story) (requests : List Re
   pub begun : (p : ℕ) → rounds ≡ true → is_open_at requests p ≡ true → is_unbegun_at requests p ≡ false → (story (name_at requests p)).rounded ≡ true
   pub new : (p : ℕ) → rounds ≡ true → ready ≡ true → is_unbegun_at requests p ≡ true → IsIn p fresh
 
--- until the link takes requests, the round of no open request has begun
+-- the round of no open request has begun, and no message is in the queue
+pub record NoneHasBegun (requests : List Request) (life : Life) : Type 0 where
+  pub unbegun : (p : ℕ) → is_open_at requests p ≡ true → is_unbegun_at requests p ≡ true
+  pub empty : (link_in life).queue ≡ []
+
+-- so it is until the link takes requests
 abbrev pub AreEarly : List Request → Again → Life → Type 0
-AreEarly requests a life = serves life a ≡ false → has_ended life ≡ false → (p : ℕ) → is_open_at requests p ≡ true → is_unbegun_at requests p ≡ true
+AreEarly requests a life = serves life a ≡ false → has_ended life ≡ false → NoneHasBegun requests life
 
 -- an open submission whose time is over is to be answered
 abbrev pub AreLate : (ℕ → Story) → List Request → List ℕ → Type 0

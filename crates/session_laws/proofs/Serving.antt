@@ -1,0 +1,43 @@
+-- Whether a link takes requests: it is set up, and what is subscribed again on it is answered, if anything is.
+use Rattle.std.proofs.Common.{◌≡◌, Bool, true, false, ◌&&◌, not, refl, ap, ◌∙◌}
+use Rattle.std.proofs.Math.Bool.{and-false}
+use Rattle.std.proofs.lemmas.Bool.{not-true}
+use Rattle.containers.proofs.Choices.{both_left, both_right}
+use Rattle.mux_conn.specs.declared.again.Again.{Again}
+use Rattle.mux_conn.specs.declared.again.Again.TheVariants as again
+use Rattle.mux_conn.specs.declared.life.Life.{Life}
+use Rattle.mux_conn.specs.Connection.{is_outstanding, is_ready}
+use Rattle.mux_conn.specs.Repeats.{is_to_start}
+use Rattle.session_laws.proofs.Repeats.{serves}
+
+-- one that isn't set up doesn't
+pub unready_serves : (life : Life) (a : Again) → is_ready life ≡ false → serves life a ≡ false
+unready_serves life a down = ap (λ up. up && not (is_outstanding a)) down
+
+-- nor does one on which that isn't answered
+pub outstanding_serves : (life : Life) (a : Again) → is_outstanding a ≡ true → serves life a ≡ false
+outstanding_serves life a goes = ap (λ open_is. is_ready life && not open_is) goes ∙ and-false (is_ready life)
+
+-- any other does
+pub answered_serves : (life : Life) (a : Again) → is_ready life ≡ true → is_outstanding a ≡ false → serves life a ≡ true
+answered_serves life a up none = λ i. up i && not (none i)
+
+-- so one that does is set up
+pub serves_ready : (life : Life) (a : Again) → serves life a ≡ true → is_ready life ≡ true
+serves_ready life a e = both_left (is_ready life) (not (is_outstanding a)) e
+
+-- and nothing is to be answered on it
+pub serves_answered : (life : Life) (a : Again) → serves life a ≡ true → is_outstanding a ≡ false
+serves_answered life a e = not-true (is_outstanding a) (both_right (is_ready life) (not (is_outstanding a)) e)
+
+-- nor to start
+pub answered_started : (a : Again) → is_outstanding a ≡ false → is_to_start a ≡ false
+answered_started again.Nothing none = refl
+answered_started (again.Due packed of_shape timed) none = cc
+answered_started again.Sent none = refl
+
+-- what is to start isn't answered
+pub to_start_goes : (a : Again) → is_to_start a ≡ true → is_outstanding a ≡ true
+to_start_goes again.Nothing e = cc
+to_start_goes (again.Due packed of_shape timed) e = refl
+to_start_goes again.Sent e = cc
