@@ -1,8 +1,8 @@
 -- What is subscribed again on a link, by its ledger and by its connection.
-use Rattle.std.proofs.Common.{◌≡◌, ◌≢◌, ℕ, suc, ◌+◌, ◌<◌, ◌≤◌, nat_le, Bool, true, false, ◌&&◌, ◌||◌, not, is_some, if◌then◌else◌, List, [], ◌∷◌, ◌++◌, length, Option, Some, None, refl, sym, ap, ◌∙◌, subst, arith}
+use Rattle.std.proofs.Common.{◌≡◌, ◌≢◌, inl, inr, ℕ, zero, suc, ◌+◌, ◌<◌, ◌≤◌, nat_le, Bool, true, false, ◌&&◌, ◌||◌, not, is_some, if◌then◌else◌, List, [], ◌∷◌, ◌++◌, length, Option, Some, None, slice_get, refl, sym, ap, ◌∙◌, subst, arith}
 use Rattle.std.specs.Option.{is_none}
 use Rattle.std.proofs.lemmas.List.{take-append-le}
-use Rattle.containers.proofs.Choices.{by_test, taken_if, left_if}
+use Rattle.containers.proofs.Choices.{by_test, taken_if, left_if, not_both}
 use Rattle.sub_tracker.specs.Subscribed.{Request as Call}
 use Rattle.driver_model.specs.declared.action.Owner.TheVariants as owner
 use Rattle.driver_model.specs.declared.outcome.Shape.{Shape}
@@ -16,6 +16,7 @@ use Rattle.mux_conn.specs.Repeats.{is_to_start}
 use Rattle.legal_trace.specs.Again.{again_message}
 use Rattle.legal_trace.specs.Ledger.{Ledger, End, Start, again_among, again_due, again_of, begins, is_answered, is_fault, is_full, is_of_again, is_ready, is_served, noted, reach, repeats_timed, unrepeated_by}
 use Rattle.legal_trace.proofs.Again.{again_begun, again_else, unwanted_is_served}
+use Rattle.legal_trace.proofs.Plain.{item_behind, not_none}
 
 -- how they agree
 --
@@ -30,13 +31,14 @@ pub record IsRepeatDue (l : Ledger) (calls : List Call) (within : Option ℕ) (p
   pub some : packed ≢ []
   pub needs : 0 < need_of of_shape
 
--- its message has started and isn't answered, and the time for that is not over
+-- its message has started, no other one does so, and it isn't answered, and the time for that is not over
 pub record IsRepeatSent (l : Ledger) : Type 0 where
   pub wanted : l.again.wanted ≡ true
   pub in_time : l.again.over ≡ false
   pub k : ℕ
   pub sent : again_of l ≡ Some k
   pub open_is : is_full l k ≡ false
+  pub only : (j : ℕ) (s : Start) → slice_get l.starts j ≡ Some s → is_of_again s.owner ≡ true → j ≡ k
 
 -- until its link is set up it is to start, or there is nothing
 abbrev pub IsHeld : Ledger → List Call → Option ℕ → Again → Type 0
@@ -113,7 +115,7 @@ rebuilt_held l m calls within again.Sent h = absurd h
 rebuilt : (l m : Ledger) (calls : List Call) (within : Option ℕ) (a : Again) → IsRepeated l calls within a → IsRepeated (record m { again = l.again; starts = l.starts; dealt = l.dealt }) calls within a
 rebuilt l m calls within again.Nothing h = h
 rebuilt l m calls within (again.Due packed of_shape timed) h = rebuilt_due l m calls within packed of_shape timed h
-rebuilt l m calls within again.Sent h = record { wanted = h.wanted; in_time = h.in_time; k = h.k; sent = h.sent; open_is = h.open_is }
+rebuilt l m calls within again.Sent h = record { wanted = h.wanted; in_time = h.in_time; k = h.k; sent = h.sent; open_is = h.open_is; only = h.only }
 
 -- has it too
 pub repeated_alike : (l m : Ledger) (calls : List Call) (within : Option ℕ) (a : Again) → m.again ≡ l.again → m.starts ≡ l.starts → m.dealt ≡ l.dealt → IsRepeated l calls within a → IsRepeated m calls within a
@@ -152,6 +154,17 @@ among_within (s ∷ ss) n k e = by_test (is_of_again s.owner) (k < n + suc (leng
     (λ t. let same : n ≡ k = (let so = sym (taken_if (is_of_again s.owner) (Some n) (again_among ss (suc n)) t) ∙ e in cc) in omega (arith, same))
     (λ f. let less = among_within ss (suc n) k (sym (left_if (is_of_again s.owner) (Some n) (again_among ss (suc n)) f) ∙ e) in omega (arith, less))
 
+-- where there is none, none of these is one
+pub none_again : (ss : List Start) (n j : ℕ) (s : Start) → again_among ss n ≡ None → slice_get ss j ≡ Some s → is_of_again s.owner ≡ false
+none_again [] n j s none at = cc
+none_again (x ∷ ss) n j s none at = by_test (is_of_again x.owner) (is_of_again s.owner ≡ false)
+    (λ t. absurd (not_none (again_among (x ∷ ss) n) n none (taken_if (is_of_again x.owner) (Some n) (again_among ss (suc n)) t)))
+    (λ f. by_place j at f)
+  where
+    by_place : (k : ℕ) → slice_get (x ∷ ss) k ≡ Some s → is_of_again x.owner ≡ false → is_of_again s.owner ≡ false
+    by_place zero first f = let same : x ≡ s = cc in sym (ap (λ (y : Start). is_of_again y.owner) same) ∙ f
+    by_place (suc k) later f = none_again ss (suc n) k s (sym (left_if (is_of_again x.owner) (Some n) (again_among ss (suc n)) f) ∙ none) later
+
 -- what is full stays so, and what isn't too
 full_begins : (l : Ledger) (s : Start) (k : ℕ) → k < length l.starts → is_full (noted l (begins s)) k ≡ is_full l k
 full_begins l s k less = ap (λ (ts : List Start). nat_le (reach ts l.dealt) (length l.dealt)) (take-append-le (k + 1) l.starts (s ∷ []) (omega arith))
@@ -173,6 +186,10 @@ begins_repeated l s calls within again.Sent other h = record {
   k = h.k;
   sent = again_else l.starts s 0 other ∙ h.sent;
   open_is = answered_begins l s (Some h.k) h.sent ∙ h.open_is;
+  only = λ j x at is. elim (item_behind l.starts s x j at) [
+    | inl old ↦ h.only j x old is
+    | inr new ↦ absurd (not_both (is_of_again s.owner) other (ap (λ (y : Start). is_of_again y.owner) new.1 ∙ is))
+  ];
 }
 
 -- also before the link is set up
@@ -190,6 +207,10 @@ repeat_sent l s calls within packed of_shape timed is open_is h = record {
   k = length l.starts;
   sent = again_begun l.starts s 0 h.unstarted is;
   open_is = open_is;
+  only = λ j x at subscribes. elim (item_behind l.starts s x j at) [
+    | inl old ↦ absurd (not_both (is_of_again x.owner) (none_again l.starts 0 j x h.unstarted old) subscribes)
+    | inr new ↦ new.0
+  ];
 }
 
 -- its timer
