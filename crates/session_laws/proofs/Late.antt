@@ -478,7 +478,7 @@ late_answered before c started word n p h good is o =
     let may = may_answer b t p over holds.tied o owes (λ q less asked_q. others_unowed b t p q holds.tied awake refl up less asked_q) (none_before b t m holds.tied refl) (λ ended. absurd (not_both (is_over (b.link f.single.link)) (ap is_some lived) ended)) in
     let link = link_in (cancelled_in conn.life p) in
     let told = λ (x : has_ended (cancelled_in conn.life p) ≡ false). told_closed b.story conn.requests c.single.link p (λ k. answered (b.story k) over) link link (λ u. absurd (owed_untold b m over asked owes u)) (λ k. refl) (λ q told_q i. i) (λ q i. i) (holds.tied.told x) in
-    let answer = answer_apart b (seen f [] (late_conn c p) [] started) p [] over (λ going unshut. refl) o apart told holds.tied in
+    let answer = answer_apart b (seen f [] (late_conn c p) [] started) p [] over (λ going unshut. refl) (λ going goes. refl) o apart told holds.tied in
     let after = holds_more front f w a (closed (late_conn c p) p) (p ∷ []) [] started holds (inl may) answer in
     let q = late_silent b0 c started n (Some (purpose.Response (owner.Try m 0))) h.sound.tied is (λ k. refl) in
     record {

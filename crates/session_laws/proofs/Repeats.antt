@@ -205,7 +205,7 @@ repeat_sent l s calls within packed of_shape timed is open_is h = record {
   wanted = h.wanted;
   in_time = h.in_time;
   k = length l.starts;
-  sent = again_begun l.starts s 0 h.unstarted is;
+  sent = again_begun l.starts s 0 h.unstarted is ∙ ap Some (let k : 0 + length l.starts ≡ length l.starts = omega arith in k);
   open_is = open_is;
   only = λ j x at subscribes. elim (item_behind l.starts s x j at) [
     | inl old ↦ absurd (not_both (is_of_again x.owner) (none_again l.starts 0 j x h.unstarted old) subscribes)

@@ -19,7 +19,7 @@ use Rattle.mux_conn.specs.declared.life.Life.TheVariants.{Resting, Dialing, Want
 use Rattle.mux_conn.specs.declared.request.Progress.TheVariants as progress
 use Rattle.mux_conn.specs.declared.request.Request.{Request}
 use Rattle.mux_conn.specs.declared.request.Waiting.{Waiting}
-use Rattle.mux_conn.specs.Connection.{Work, is_repeating}
+use Rattle.mux_conn.specs.Connection.{Work, is_repeating, is_outstanding}
 use Rattle.mux_conn.specs.Repeats.{repeat_id, repeating}
 use Rattle.mux_conn.specs.declared.again.Again.TheVariants as again
 use Rattle.mux_conn.specs.Requests.{is_open, is_open_at, name_at, closed, answered}
@@ -165,20 +165,29 @@ holds_more before f w a conn was pending started h may tied = sound_act before f
 pub book_of_more : (before : List Action) (f : Core) (acts : List LinkAct) (a : LinkAct) → book (trace_of_acts before f (acts ++ a ∷ [])) ≡ entered (book (trace_of_acts before f acts)) (shown_now f acts a)
 book_of_more before f acts a = ap book (shown_more before f.single.link (length f.timers) (length f.sources) acts a) ∙ book_more (trace_of_acts before f acts) (shown_now f acts a)
 
--- some requests are to be answered, in line, before all others that are open; and their link's ledger, what is owed, and all
--- names are as they were, and who is open was so
+-- no request is to be answered on a link that hasn't ended, while what is subscribed again isn't answered there
+abbrev pub AnswersNone : MultiplexedConnection → List ℕ → Type 0
+AnswersNone c pending = has_ended c.life ≡ false → is_outstanding c.again ≡ true → pending ≡ []
+
+-- some are not none
+pub some_pending : (p : ℕ) (ps : List ℕ) → p ∷ ps ≡ [] → ⊥
+some_pending p ps e = cc
+
+-- some requests are to be answered, in line, before all others that are open, and none on a link that takes none yet; and their link's
+-- ledger, what is owed, and all names are as they were, and who is open was so
 pub record IsAnswering (before : List Action) (f : Core) (ledger : Ledger) (owes : ℕ → Option Outcome) (name : ℕ → ℕ) (was : ℕ → Bool) (w : Work) (pending started : List ℕ) : Type 0 where
   pub holds : Holds before f w pending started
   pub line : IsInLine w.conn.requests (link_in w.conn.life) w.conn.admitted w.conn.waiting pending
+  pub quiet : AnswersNone w.conn pending
   pub ledger_is : (book (trace_of_acts before f w.acts)).link f.single.link ≡ ledger
   pub owed_is : (n : ℕ) → owed (book (trace_of_acts before f w.acts)) n ≡ owes n
   pub named : (p : ℕ) → name_at w.conn.requests p ≡ name p
   pub opens : (p : ℕ) → is_open_at w.conn.requests p ≡ true → was p ≡ true
 
 -- it begins
-pub answering : (before : List Action) (f : Core) (w : Work) (pending started : List ℕ) → Holds before f w pending started → IsInLine w.conn.requests (link_in w.conn.life) w.conn.admitted w.conn.waiting pending
+pub answering : (before : List Action) (f : Core) (w : Work) (pending started : List ℕ) → Holds before f w pending started → IsInLine w.conn.requests (link_in w.conn.life) w.conn.admitted w.conn.waiting pending → AnswersNone w.conn pending
     → IsAnswering before f ((book (trace_of_acts before f w.acts)).link f.single.link) (owed (book (trace_of_acts before f w.acts))) (name_at w.conn.requests) (is_open_at w.conn.requests) w pending started
-answering before f w pending started h line = record { holds = h; line = line; ledger_is = refl; owed_is = λ n. refl; named = λ p. refl; opens = λ p o. o }
+answering before f w pending started h line quiet = record { holds = h; line = line; quiet = quiet; ledger_is = refl; owed_is = λ n. refl; named = λ p. refl; opens = λ p o. o }
 
 -- a link that is over has ended
 over_life : (l : Ledger) (created : ℕ) (life : Life) → TiedLife l created life → is_over l ≡ true → has_ended life ≡ true
@@ -216,8 +225,9 @@ one_answered before f ledger owes name was w p o pending started due e h =
     record {
       holds = holds_more before f w a (closed w.conn p) (p ∷ pending) pending started h.holds
           (inl (first_may b t p pending o h.holds.tied h.line e owes_now (none_before b (record t { pending = p ∷ pending }) (name_at w.conn.requests p) h.holds.tied refl) refl))
-          (answer_tied b t p pending o e owes_now h.line h.holds.tied);
+          (answer_tied b t p pending o e owes_now h.line (λ up open_is. some_pending p pending (h.quiet up open_is)) h.holds.tied);
       line = subst (λ n. Rising 0 (pending ++ line_of (link_in w.conn.life) w.conn.admitted w.conn.waiting) n) (sym (length_with w.conn.requests p progress.Closed 0)) (rest_in_line w.conn.requests (link_in w.conn.life) w.conn.admitted w.conn.waiting p pending h.line);
+      quiet = λ up open_is. absurd (some_pending p pending (h.quiet up open_is));
       ledger_is = ap (λ (x : Book). x.link f.single.link) (book_of_more before f w.acts a) ∙ h.ledger_is;
       owed_is = λ n. ap (λ (x : Book). owed x n) (book_of_more before f w.acts a) ∙ owed_still b (name_at w.conn.requests p) o n ∙ h.owed_is n;
       named = λ q. name_with w.conn.requests p progress.Closed 0 q ∙ h.named q;
@@ -230,6 +240,7 @@ one_skipped : (before : List Action) (f : Core) (ledger : Ledger) (owes : ℕ �
 one_skipped before f ledger owes name was w p pending started e h = record {
   holds = record { stands = h.holds.stands; tied = skip_tied (book (trace_of_acts before f w.acts)) (seen f w.acts w.conn pending started) p pending e h.holds.tied };
   line = rest_in_line w.conn.requests (link_in w.conn.life) w.conn.admitted w.conn.waiting p pending h.line;
+  quiet = λ up open_is. absurd (some_pending p pending (h.quiet up open_is));
   ledger_is = h.ledger_is;
   owed_is = h.owed_is;
   named = h.named;
@@ -339,29 +350,53 @@ abbrev pub own_each : Work → List Settled → Work
 own_each w [] = w
 own_each w (s ∷ ss) = own_each (own_one w s) ss
 
--- an answer to a request leaves it, whichever comes first
-answered_own : (w : Work) (p : ℕ) (o : Outcome) (s : Settled) → own_one (answered w p o) s ≡ answered (own_one w s) p o
-answered_own w p o s = by_kind (is_open_at w.conn.requests p) (s.id == renewal_id) (s.id == repeat_id) (is_repeating w.conn)
+-- an answer to a request leaves what new credentials come to, whichever comes first
+answered_auth : (w : Work) (p : ℕ) (o : Outcome) (done : Bool) → renewing (answered w p o) (replied (answered w p o).conn.renewal done) ≡ answered (renewing w (replied w.conn.renewal done)) p o
+answered_auth w p o done = by_open (is_open_at w.conn.requests p)
   where
-    done : Work → Work
-    done v = record { conn = closed v.conn p; acts = v.acts ++ act.Outcome (name_at v.conn.requests p) o ∷ [] }
+    closes : Work → Work
+    closes v = record { conn = closed v.conn p; acts = v.acts ++ act.Outcome (name_at v.conn.requests p) o ∷ [] }
+
+    auth : Work → Work
+    auth v = renewing v (replied v.conn.renewal done)
+
+    by_open : (b : Bool) → auth (if b then closes w else w) ≡ (if b then closes (auth w) else auth w)
+    by_open true = refl
+    by_open false = refl
+
+-- and that what is subscribed again is answered
+answered_again : (w : Work) (p : ℕ) (o : Outcome) → served (answered w p o) ≡ answered (served w) p o
+answered_again w p o = by_test (is_repeating w.conn) (served (answered w p o) ≡ answered (served w) p o)
+    (λ t. taken_if (is_repeating (answered w p o).conn) (gone (answered w p o)) (answered w p o) (same ∙ t) ∙ by_open (is_open_at w.conn.requests p) ∙ ap (λ (x : Work). answered x p o) (sym (taken_if (is_repeating w.conn) (gone w) w t)))
+    (λ f. left_if (is_repeating (answered w p o).conn) (gone (answered w p o)) (answered w p o) (same ∙ f) ∙ ap (λ (x : Work). answered x p o) (sym (left_if (is_repeating w.conn) (gone w) w f)))
+  where
+    closes : Work → Work
+    closes v = record { conn = closed v.conn p; acts = v.acts ++ act.Outcome (name_at v.conn.requests p) o ∷ [] }
 
     gone : Work → Work
     gone v = all_fresh (repeating v again.Nothing)
 
-    auth : Work → Work
-    auth v = renewing v (replied v.conn.renewal (is_done s.verdict))
+    by_open : (b : Bool) → gone (if b then closes w else w) ≡ (if b then closes (gone w) else gone w)
+    by_open true = refl
+    by_open false = refl
 
-    by_kind : (b first second going : Bool) → (if first then auth (if b then done w else w) else (if second then (if going then gone (if b then done w else w) else (if b then done w else w)) else (if b then done w else w)))
-        ≡ (if b then done (if first then auth w else (if second then (if going then gone w else w) else w)) else (if first then auth w else (if second then (if going then gone w else w) else w)))
-    by_kind true true second going = refl
-    by_kind true false true true = refl
-    by_kind true false true false = refl
-    by_kind true false false going = refl
-    by_kind false true second going = refl
-    by_kind false false true true = refl
-    by_kind false false true false = refl
-    by_kind false false false going = refl
+    same : is_repeating (answered w p o).conn ≡ is_repeating w.conn
+    same = chosen (λ (x : Work). is_repeating x.conn ≡ is_repeating w.conn) (is_open_at w.conn.requests p) (closes w) w (λ t. refl) (λ f. refl)
+
+-- so it leaves what a message of the driver's own comes to
+answered_own : (w : Work) (p : ℕ) (o : Outcome) (s : Settled) → own_one (answered w p o) s ≡ answered (own_one w s) p o
+answered_own w p o s = by_kind (s.id == renewal_id) (s.id == repeat_id)
+  where
+    v : Work
+    v = answered w p o
+
+    done : Bool
+    done = is_done s.verdict
+
+    by_kind : (first second : Bool) → (if first then renewing v (replied v.conn.renewal done) else (if second then served v else v)) ≡ answered (if first then renewing w (replied w.conn.renewal done) else (if second then served w else w)) p o
+    by_kind true second = answered_auth w p o done
+    by_kind false true = answered_again w p o
+    by_kind false false = refl
 
 -- so it leaves all of them
 pub answered_owns : (w : Work) (p : ℕ) (o : Outcome) (ss : List Settled) → own_each (answered w p o) ss ≡ answered (own_each w ss) p o
