@@ -277,7 +277,7 @@ asked_tied b c started word what h tame form few no_fresh up speaks some =
       creation = h.creation;
       uses = uses_on c.sources c.single.link h.uses;
       renewal = renewal_alike ledger (record ledger { heard = silence }) conn.renewal conn.life refl refl refl h.renewal;
-      repeat = repeat_alike ledger (record ledger { heard = silence }) b.tracked conn.renewal.within conn.again conn.life refl refl refl refl h.repeat;
+      repeat = repeat_alike ledger (record ledger { heard = silence }) b.tracked conn.renewal.within conn.again conn.life refl refl refl (λ e is. refl) h.repeat;
       setup = setup_on ledger ledger.asked ledger.up ledger.end ledger.taken ledger.offer ledger.rest silence conn.info started conn.life h.setup;
       link = λ alive. told_tied (carried conn.life (more_requests c)) ledger (whole_link conn.life) ledger.asked ledger.up silence (link_longer ledger conn.requests (more_requests c) conn.life longer h.lines.entries (h.link alive));
       names = names_asked c.table conn.requests progress.Waiting h.names;

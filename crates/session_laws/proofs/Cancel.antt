@@ -563,7 +563,7 @@ still_tied b c started word kind timeout q same h tame =
       creation = h.creation;
       uses = uses_on c.sources c.single.link h.uses;
       renewal = renewal_alike ledger (record ledger { heard = silence }) conn.renewal conn.life refl refl refl h.renewal;
-      repeat = repeat_alike ledger (record ledger { heard = silence }) b.tracked conn.renewal.within conn.again conn.life refl refl refl refl h.repeat;
+      repeat = repeat_alike ledger (record ledger { heard = silence }) b.tracked conn.renewal.within conn.again conn.life refl refl refl (λ e is. refl) h.repeat;
       setup = setup_on ledger ledger.asked ledger.up ledger.end ledger.taken ledger.offer ledger.rest silence conn.info started conn.life h.setup;
       link = λ alive. told_tied (carried conn.life conn.requests) ledger (whole_link conn.life) ledger.asked ledger.up silence (h.link alive);
       names = h.names;

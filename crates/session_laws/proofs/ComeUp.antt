@@ -39,7 +39,6 @@ use Rattle.legal_trace.proofs.Setups.{ends_where_set, silent_is_set, silent_is_g
 use Rattle.session_laws.proofs.Rounded.{rounds_down, rounds_new, unbegun_waits}
 use Rattle.session_laws.proofs.Server.{AreSetups, HasCredentials, IsSettingUp, IsSetupDue, IsSetUp, AreSought, HasSaid, AreSetupsAlone, IsWatching, greeting_at, owners_of, setup_owners, watch_queued}
 use Rattle.session_laws.proofs.Tied.{shown_creation, Sound, TiedCreation, AreQueued, IsEntry, IsQueued, Inner, Tied, TiedLines, TiedNotices, TiedWaits, has_ended, inner, link_in, no_link, owner_of, queue_ids, shown_wait, waiting_ids, AreUses, is_reading, TiedRounds, is_begun}
-use Rattle.session_laws.proofs.Unrepeated.{unrepeated_lined}
 use Rattle.session_laws.proofs.States.{Between, HasApplied, IsFit, IsFitIn}
 use Rattle.session_laws.proofs.Creds.{has_credentials, IsOfRenewals, down_sourced}
 use Rattle.session_laws.proofs.Said.{PushesOf, ending_setting, readied, setup_recredited, well_readied}

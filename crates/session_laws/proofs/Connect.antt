@@ -32,7 +32,6 @@ use Rattle.session_laws.proofs.Rounded.{rounds_down}
 use Rattle.session_laws.proofs.Aside.{unfailed, not_up_ends}
 use Rattle.session_laws.proofs.Server.{AreSought, HasSaid, on_link, hearing_there}
 use Rattle.session_laws.proofs.Tied.{shown_creation, AreQueued, inner, no_link, link_in, carried, whole_link, owner_of, Tied, TiedLife, TiedLines, has_ended, AreUses, IsOver}
-use Rattle.session_laws.proofs.Unrepeated.{unrepeated_lined}
 use Rattle.session_laws.proofs.Creds.{down_sourced}
 use Rattle.session_laws.proofs.Said.{ending_wanting, ready_heard, setting_heard, setup_hears, dropped_end, PushesOf, pushes_there, renoticed}
 use Rattle.session_laws.proofs.Failing.{IsFailing, failing_applied, unready_shown, unstarted_owed, IsUnready}

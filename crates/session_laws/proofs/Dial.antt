@@ -23,7 +23,6 @@ use Rattle.session_laws.proofs.Numbers.{IsIn, Rising, requests_in, rising_right}
 use Rattle.session_laws.proofs.Rounded.{rounds_down}
 use Rattle.session_laws.proofs.Server.{AreSought, HasSaid, NoneRenewed, TiedRenewal, owners_of, setup_owners}
 use Rattle.session_laws.proofs.Tied.{AreAimed, AreQueued, HasCourse, IsAside, IsUse, Inner, Tied, TiedLife, TiedLines, carried, has_ended, is_begun, link_in, no_link, owner_of, owners_each, waiting_ids, whole_link}
-use Rattle.session_laws.proofs.Unrepeated.{sound_repeats_not}
 
 -- the line that its connect is
 abbrev pub asks_line : Book → Line

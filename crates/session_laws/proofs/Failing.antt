@@ -28,7 +28,6 @@ use Rattle.session_laws.proofs.Rounded.{rounds_down}
 use Rattle.session_laws.proofs.Numbers.{IsIn}
 use Rattle.session_laws.proofs.Server.{AreSetups}
 use Rattle.session_laws.proofs.Tied.{shown_creation, inner, link_in, no_link, TiedLines, Tied, has_ended}
-use Rattle.session_laws.proofs.Unrepeated.{unrepeated_lined}
 use Rattle.session_laws.proofs.States.{Between, HasApplied}
 use Rattle.session_laws.proofs.Entered.{all_stand-append, shown_more}
 use Rattle.session_laws.proofs.Creds.{down_sourced}

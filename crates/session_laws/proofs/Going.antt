@@ -32,7 +32,6 @@ use Rattle.session_laws.proofs.Renewals.{all_timed, down_renewed_due, due_is, no
 use Rattle.session_laws.proofs.Said.{sources_asked}
 use Rattle.session_laws.proofs.SetUp.{down_undue, none_due, sent_undue, set_up_undue, setting_undecided}
 use Rattle.session_laws.proofs.States.{AreBegun, IsFit}
-use Rattle.session_laws.proofs.Unrepeated.{repeats_started, repeats_timed}
 use Rattle.session_laws.proofs.Server.{AreSought, HasSaid, IsSetUp, TiedRenewal, AreRenewed, IsGreeting, watch_queued}
 use Rattle.session_laws.proofs.Tied.{Inner, Sound, Tied, TiedLife, carried, has_ended, link_in, owner_of, queue_ids, waiting_ids, whole_link, IsToldIn, greeter}
 use Rattle.mux_conn.specs.declared.life.Greeting.TheVariants as greet

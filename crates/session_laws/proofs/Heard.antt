@@ -26,7 +26,6 @@ use Rattle.session_laws.proofs.Said.{mild_end, setup_on, setup_unheard, BringsNo
 use Rattle.session_laws.proofs.Creds.{creds_hear, down_unawaited, unawaited_is, down_may_renew, IsOfRenewals}
 use Rattle.session_laws.proofs.Server.{TiedCreds, TiedSetup, TiedRenewal, NoneRenewed}
 use Rattle.session_laws.proofs.Tied.{Inner, inner, link_in, carried, whole_link, TiedLife, TiedLines, AreQueued, TiedWaits, Tied, has_ended, HasCourse, TiedRounds, AreEarly}
-use Rattle.session_laws.proofs.Unrepeated.{down_repeats_not}
 use Rattle.session_laws.proofs.Comes.{course_alike}
 use Rattle.session_laws.proofs.States.{IsFit, IsFitIn, IsHushed, Between, HasApplied, IsStopped}
 use Rattle.session_laws.proofs.Answer.{some_end, ended_over}
@@ -40,6 +39,7 @@ use Rattle.mux_conn.specs.declared.life.Greeting.{Greeting}
 use Rattle.mux_conn.specs.Connection.{is_ready, is_resting}
 use Rattle.mux_conn.specs.declared.request.Waiting.{Waiting}
 use Rattle.driver_model.specs.declared.action.SourceUse.{SourceUse}
+use Rattle.session_laws.proofs.Repeats.{TiedRepeat, again_hear, down_repeats_not, repeat_alike, serves}
 
 -- what a turn of news does to the ledger of the connection's link
 abbrev pub heard_by : Book → Core → News → Ledger

@@ -5,7 +5,6 @@ pub mod Serving
 pub mod Tied
 pub mod States
 pub mod Creds
-pub mod Unrepeated
 pub mod Aside
 pub mod SetUp
 pub mod SameSaid

@@ -2,7 +2,7 @@
 use Rattle.std.proofs.Common.{◌≡◌, ◌≢◌, inl, inr, ℕ, zero, suc, ◌+◌, ◌<◌, ◌≤◌, nat_le, Bool, true, false, ◌&&◌, ◌||◌, not, is_some, if◌then◌else◌, List, [], ◌∷◌, ◌++◌, length, Option, Some, None, slice_get, refl, sym, ap, ◌∙◌, subst, arith}
 use Rattle.std.specs.Option.{is_none}
 use Rattle.std.proofs.lemmas.List.{take-append-le}
-use Rattle.containers.proofs.Choices.{by_test, taken_if, left_if, not_both}
+use Rattle.containers.proofs.Choices.{by_test, taken_if, left_if, not_both, chosen}
 use Rattle.sub_tracker.specs.Subscribed.{Request as Call}
 use Rattle.driver_model.specs.declared.action.Owner.TheVariants as owner
 use Rattle.driver_model.specs.declared.outcome.Shape.{Shape}
@@ -14,9 +14,13 @@ use Rattle.mux_conn.specs.declared.life.Life.TheVariants.{Resting, Dialing, Want
 use Rattle.mux_conn.specs.Connection.{is_outstanding, is_ready as is_ready_life}
 use Rattle.mux_conn.specs.Repeats.{is_to_start}
 use Rattle.legal_trace.specs.Again.{again_message}
-use Rattle.legal_trace.specs.Ledger.{Ledger, End, Start, again_among, again_due, again_of, begins, is_answered, is_fault, is_full, is_of_again, is_ready, is_served, noted, reach, repeats_timed, unrepeated_by}
+use Rattle.legal_trace.specs.Ledger.{Ledger, End, Start, again_among, again_due, again_of, begins, is_answered, is_fault, is_full, is_of_again, is_ready, is_served, noted, reach, repeats_timed, unrepeated_by, is_repeating, is_set_up, hears, authorized_by, awaits_credentials, bytes_came, dials, is_over, is_renewal_open, lost_by, may_renew, refused_in, renewed_by, unrenewed_by}
 use Rattle.legal_trace.proofs.Again.{again_begun, again_else, unwanted_is_served}
 use Rattle.legal_trace.proofs.Plain.{item_behind, not_none}
+use Rattle.legal_trace.proofs.Came.{holds_bytes}
+use Rattle.redis_error.specs.declared.redis_error.RedisError.{RedisError}
+use Rattle.redis_error.specs.declared.redis_error.RedisError.TheVariants as error
+use Rattle.driver_model.specs.News.{News, silence, connected, refused, overdue, took, came, failed, authorized, denied, deserted, renewed, unrenewed, late, unrepeated, dropped, shut}
 
 -- how they agree
 --
@@ -125,14 +129,37 @@ repeated_alike l m calls within a same starts dealt h = subst (λ (x : Ledger). 
 pub held_alike : (l m : Ledger) (calls : List Call) (within : Option ℕ) (a : Again) → m.again ≡ l.again → m.starts ≡ l.starts → m.dealt ≡ l.dealt → IsHeld l calls within a → IsHeld m calls within a
 held_alike l m calls within a same starts dealt h = subst (λ (x : Ledger). IsHeld x calls within a) (λ i. record m { again = sym same i; starts = sym starts i; dealt = sym dealt i }) (rebuilt_held l m calls within a h)
 
--- by how far the link has come
-pub repeat_alike : (l m : Ledger) (calls : List Call) (within : Option ℕ) (a : Again) (life : Life) → m.again ≡ l.again → m.starts ≡ l.starts → m.dealt ≡ l.dealt → m.end ≡ l.end → TiedRepeat l calls within a life → TiedRepeat m calls within a life
+-- by how far the link has come; and where it has ended, it ended so
+pub repeat_alike : (l m : Ledger) (calls : List Call) (within : Option ℕ) (a : Again) (life : Life) → m.again ≡ l.again → m.starts ≡ l.starts → m.dealt ≡ l.dealt → ((e : RedisError) → life ≡ Ended e → m.end ≡ l.end) → TiedRepeat l calls within a life → TiedRepeat m calls within a life
 repeat_alike l m calls within a Resting same starts dealt end h = h
 repeat_alike l m calls within a Dialing same starts dealt end h = held_alike l m calls within a same starts dealt h
 repeat_alike l m calls within a (Wanting link) same starts dealt end h = held_alike l m calls within a same starts dealt h
 repeat_alike l m calls within a (SettingUp link greeting) same starts dealt end h = held_alike l m calls within a same starts dealt h
 repeat_alike l m calls within a (Ready link) same starts dealt end h = repeated_alike l m calls within a same starts dealt h
-repeat_alike l m calls within a (Ended e) same starts dealt end h = λ x is f. h x (sym end ∙ is) f
+repeat_alike l m calls within a (Ended e) same starts dealt end h = λ x is f. h x (sym (end e refl) ∙ is) f
+
+-- a link that isn't up doesn't do so
+pub down_repeats_not : (l : Ledger) → l.up ≡ false → is_repeating l ≡ false
+down_repeats_not l down = ap (λ up. up && is_set_up l && not (is_served l)) down
+
+-- news leave it, but that its time is over, while it isn't answered on a link that is set up
+pub again_hear : (l : Ledger) (turn : ℕ) (n : News) → (n ≡ unrepeated → is_repeating l ≡ false) → (noted l (hears turn n)).again ≡ l.again
+again_hear l turn silence quiet = refl
+again_hear l turn overdue quiet = refl
+again_hear l turn connected quiet = chosen (λ (x : Ledger). x.again ≡ l.again) (is_over l) l (record l { up = true }) (λ t. refl) (λ f. refl)
+again_hear l turn (refused f) quiet = chosen (λ (x : Ledger). x.again ≡ l.again) (dials l) (refused_in l turn (error.Io f)) l (λ t. refl) (λ d. refl)
+again_hear l turn (took count) quiet = chosen (λ (x : Ledger). x.again ≡ l.again) l.up _ l (λ t. refl) (λ f. refl)
+again_hear l turn (came piece) quiet = chosen (λ (x : Ledger). x.again ≡ l.again) l.up (bytes_came l piece) l (λ t. holds_bytes (λ (x : Ledger). x.again ≡ l.again) l piece (λ rest strange told more. refl)) (λ f. refl)
+again_hear l turn (failed f) quiet = refl
+again_hear l turn (authorized c) quiet = chosen (λ (x : Ledger). x.again ≡ l.again) (awaits_credentials l) (authorized_by l c) l (λ t. refl) (λ f. refl)
+again_hear l turn (denied text) quiet = refl
+again_hear l turn deserted quiet = refl
+again_hear l turn (renewed c) quiet = chosen (λ (x : Ledger). x.again ≡ l.again) (may_renew l) (renewed_by l c) l (λ t. refl) (λ f. refl)
+again_hear l turn unrenewed quiet = chosen (λ (x : Ledger). x.again ≡ l.again) l.up (unrenewed_by l) l (λ t. refl) (λ f. refl)
+again_hear l turn (late k) quiet = chosen (λ (x : Ledger). x.again ≡ l.again) (l.up && is_renewal_open l k) (lost_by l) l (λ t. refl) (λ f. refl)
+again_hear l turn unrepeated quiet = ap (λ (x : Ledger). x.again) (left_if (is_repeating l) (unrepeated_by l) l (quiet refl))
+again_hear l turn dropped quiet = refl
+again_hear l turn shut quiet = refl
 
 -- other calls are of account while it is to start alone
 pub calls_kept : (l : Ledger) (calls more : List Call) (within : Option ℕ) (a : Again) (life : Life) → (is_outstanding a ≡ true → more ≡ calls) → TiedRepeat l calls within a life → TiedRepeat l more within a life
@@ -157,13 +184,12 @@ among_within (s ∷ ss) n k e = by_test (is_of_again s.owner) (k < n + suc (leng
 -- where there is none, none of these is one
 pub none_again : (ss : List Start) (n j : ℕ) (s : Start) → again_among ss n ≡ None → slice_get ss j ≡ Some s → is_of_again s.owner ≡ false
 none_again [] n j s none at = cc
-none_again (x ∷ ss) n j s none at = by_test (is_of_again x.owner) (is_of_again s.owner ≡ false)
+none_again (x ∷ ss) n zero s none at = by_test (is_of_again x.owner) (is_of_again s.owner ≡ false)
     (λ t. absurd (not_none (again_among (x ∷ ss) n) n none (taken_if (is_of_again x.owner) (Some n) (again_among ss (suc n)) t)))
-    (λ f. by_place j at f)
-  where
-    by_place : (k : ℕ) → slice_get (x ∷ ss) k ≡ Some s → is_of_again x.owner ≡ false → is_of_again s.owner ≡ false
-    by_place zero first f = let same : x ≡ s = cc in sym (ap (λ (y : Start). is_of_again y.owner) same) ∙ f
-    by_place (suc k) later f = none_again ss (suc n) k s (sym (left_if (is_of_again x.owner) (Some n) (again_among ss (suc n)) f) ∙ none) later
+    (λ f. let same : x ≡ s = cc in sym (ap (λ (y : Start). is_of_again y.owner) same) ∙ f)
+none_again (x ∷ ss) n (suc j) s none at = by_test (is_of_again x.owner) (is_of_again s.owner ≡ false)
+    (λ t. absurd (not_none (again_among (x ∷ ss) n) n none (taken_if (is_of_again x.owner) (Some n) (again_among ss (suc n)) t)))
+    (λ f. none_again ss (suc n) j s (sym (left_if (is_of_again x.owner) (Some n) (again_among ss (suc n)) f) ∙ none) at)
 
 -- what is full stays so, and what isn't too
 full_begins : (l : Ledger) (s : Start) (k : ℕ) → k < length l.starts → is_full (noted l (begins s)) k ≡ is_full l k

@@ -46,7 +46,6 @@ use Rattle.session_laws.proofs.Heard.{going_awake, heard_by, book_news, book_kin
 use Rattle.session_laws.proofs.Owes.{get_behind, is_asked}
 use Rattle.session_laws.proofs.Said.{PushesOf}
 use Rattle.session_laws.proofs.Kept.{mine_noted, others_kept}
-use Rattle.session_laws.proofs.Unrepeated.{unrepeated_lined}
 
 -- the ledger of a link whose opening has failed, where another attempt follows: nothing of it is still to be told
 pub record IsAttempted (l : Ledger) (heard : Hearing) : Type 0 where

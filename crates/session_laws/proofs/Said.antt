@@ -28,6 +28,7 @@ use Rattle.driver_model.specs.declared.hearing.Hearing.{Hearing}
 use Rattle.driver_model.specs.Hearing.{felt, hears_messages}
 use Rattle.driver_model.specs.declared.news.LinkFault.TheVariants as fault
 use Rattle.resp_read.specs.Values.{is_spoiled}
+use Rattle.session_laws.proofs.Repeats.{down_repeats_not}
 
 -- whose messages a link carries
 --
@@ -116,14 +117,22 @@ readied wanted l = recredited l (if wanted then true else l.creds.asked) (if wan
 pub well_readied : (wanted : Bool) (l : Ledger) → is_set_up (readied wanted l) ≡ is_set_up l
 well_readied wanted l = well_recredited l (if wanted then true else l.creds.asked) (if wanted then l.creds.asked else l.creds.renews) l.creds.renewals l.creds.over l.creds.timed l.creds.lost
 
--- news that bring neither bytes nor credentials leave it
+-- and so it is of a link on which what is subscribed again is given up
+pub setup_served : (l : Ledger) (info : RedisConnectionInfo) (started : List ℕ) (life : Life) → TiedSetup l info started life → TiedSetup (record (unrepeated_by l) { heard = unrepeated }) info started life
+setup_served l info started life h = record {
+  info_is = h.info_is;
+  sent = h.sent;
+  said = said_alike l (record (unrepeated_by l) { heard = unrepeated }) started life (record { starts = refl; dealt = refl; info = refl; hearing = refl; wanted = refl; given = refl }) h.said;
+}
+
+-- news that bring neither bytes nor credentials, nor end the time of what is subscribed again, leave it
 abbrev pub BringsNothing : News → Type 0
 BringsNothing (came piece) = ⊥
 BringsNothing (authorized c) = ⊥
 BringsNothing (renewed c) = ⊥
 BringsNothing unrenewed = ⊥
 BringsNothing (late k) = ⊥
-BringsNothing unrepeated = Unit {0}
+BringsNothing unrepeated = ⊥
 BringsNothing silence = Unit {0}
 BringsNothing connected = Unit {0}
 BringsNothing (refused f) = Unit {0}
@@ -134,6 +143,25 @@ BringsNothing (denied text) = Unit {0}
 BringsNothing deserted = Unit {0}
 BringsNothing dropped = Unit {0}
 BringsNothing shut = Unit {0}
+
+-- that they don't
+pub brings_in_time : (n : News) → BringsNothing n → n ≢ unrepeated
+brings_in_time silence k e = cc
+brings_in_time connected k e = cc
+brings_in_time (refused f) k e = cc
+brings_in_time overdue k e = cc
+brings_in_time (took count) k e = cc
+brings_in_time (came piece) k e = cc
+brings_in_time (failed f) k e = cc
+brings_in_time (authorized c) k e = cc
+brings_in_time (denied text) k e = cc
+brings_in_time deserted k e = cc
+brings_in_time (renewed c) k e = cc
+brings_in_time unrenewed k e = cc
+brings_in_time (late m) k e = cc
+brings_in_time unrepeated k e = absurd k
+brings_in_time dropped k e = cc
+brings_in_time shut k e = cc
 
 -- so it does
 pub setup_hears : (l : Ledger) (turn : ℕ) (n : News) (info : RedisConnectionInfo) (started : List ℕ) (life : Life) → BringsNothing n → TiedSetup l info started life → TiedSetup (noted l (hears turn n)) info started life
@@ -158,11 +186,7 @@ setup_hears l turn (authorized c) info started life k h = absurd k
 setup_hears l turn (renewed c) info started life k h = absurd k
 setup_hears l turn unrenewed info started life k h = absurd k
 setup_hears l turn (late m) info started life k h = absurd k
-setup_hears l turn unrepeated info started life k h =
-    let m = record (unrepeated_by l) { heard = unrepeated } in
-    chosen (λ (x : Ledger). TiedSetup (record x { heard = unrepeated }) info started life) (is_repeating l) (unrepeated_by l) l
-    (λ t. record { info_is = h.info_is; sent = h.sent; said = said_alike l m started life (record { starts = refl; dealt = refl; info = refl; hearing = refl; wanted = refl; given = refl }) h.said })
-    (λ f. setup_on l l.asked l.up l.end l.taken l.offer l.rest unrepeated info started life h)
+setup_hears l turn unrepeated info started life k h = absurd k
 setup_hears l turn (denied text) info started life k h = setup_on l l.asked l.up l.end l.taken l.offer l.rest (denied text) info started life h
 setup_hears l turn deserted info started life k h = setup_on l l.asked l.up l.end l.taken l.offer l.rest deserted info started life h
 setup_hears l turn dropped info started life k h = setup_on l l.asked l.up l.end l.taken l.offer l.rest dropped info started life h
@@ -186,7 +210,8 @@ setup_unheard l turn unrenewed info started life down h =
     if_false (λ (x : Ledger). TiedSetup (record x { heard = unrenewed }) info started life) l.up (unrenewed_by l) l down (setup_on l l.asked l.up l.end l.taken l.offer l.rest unrenewed info started life h)
 setup_unheard l turn (late m) info started life down h =
     if_false (λ (x : Ledger). TiedSetup (record x { heard = late m }) info started life) (l.up && is_renewal_open l m) (lost_by l) l (ap (λ u. u && is_renewal_open l m) down) (setup_on l l.asked l.up l.end l.taken l.offer l.rest (late m) info started life h)
-setup_unheard l turn unrepeated info started life down h = setup_hears l turn unrepeated info started life tt h
+setup_unheard l turn unrepeated info started life down h =
+    if_false (λ (x : Ledger). TiedSetup (record x { heard = unrepeated }) info started life) (is_repeating l) (unrepeated_by l) l (down_repeats_not l down) (setup_on l l.asked l.up l.end l.taken l.offer l.rest unrepeated info started life h)
 setup_unheard l turn (denied text) info started life down h = setup_hears l turn (denied text) info started life tt h
 setup_unheard l turn deserted info started life down h = setup_hears l turn deserted info started life tt h
 setup_unheard l turn dropped info started life down h = setup_hears l turn dropped info started life tt h

@@ -85,7 +85,7 @@ line_tied b t line told parted untold parting is pushed h =
       creation = h.creation;
       uses = h.uses;
       renewal = renewal_alike l (retells l told parted) t.renewal t.life refl refl refl h.renewal;
-      repeat = repeat_alike l (retells l told parted) b.tracked t.renewal.within t.again t.life refl refl refl refl h.repeat;
+      repeat = repeat_alike l (retells l told parted) b.tracked t.renewal.within t.again t.life refl refl refl (λ e is. refl) h.repeat;
       setup = record { info_is = h.setup.info_is; sent = h.setup.sent; said = said_alike l (retells l told parted) t.started t.life (same_told l told parted) h.setup.said };
       link = λ up. link_told (carried t.life t.requests) l told parted (whole_link t.life) (h.link up);
       names = h.names;

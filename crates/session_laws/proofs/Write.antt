@@ -56,7 +56,7 @@ write_tied b t link h =
       creation = h.creation;
       uses = h.uses;
       renewal = renewal_alike l (noted l line) t.renewal (Ready link) refl refl refl h.renewal;
-      repeat = repeat_alike l (noted l line) b.tracked t.renewal.within t.again (Ready link) refl refl refl refl h.repeat;
+      repeat = repeat_alike l (noted l line) b.tracked t.renewal.within t.again (Ready link) refl refl refl (λ e is. cc) h.repeat;
       setup = record { info_is = h.setup.info_is; sent = h.setup.sent; said = record { well = h.setup.said.well; none = h.setup.said.none } };
       link = λ e. offered_tied (owner_of t.requests) l link (h.link refl);
       names = h.names;
@@ -87,7 +87,7 @@ write_set_tied b t link greeting h =
       creation = h.creation;
       uses = h.uses;
       renewal = renewal_alike l (noted l line) t.renewal (SettingUp link greeting) refl refl refl h.renewal;
-      repeat = repeat_alike l (noted l line) b.tracked t.renewal.within t.again (SettingUp link greeting) refl refl refl refl h.repeat;
+      repeat = repeat_alike l (noted l line) b.tracked t.renewal.within t.again (SettingUp link greeting) refl refl refl (λ e is. cc) h.repeat;
       setup = setup_link (noted l line) t.info t.started link (offered_of link) greeting refl refl
           (setup_on l l.asked l.up l.end l.taken link.outbox.unwritten l.rest l.heard t.info t.started (SettingUp link greeting) h.setup);
       link = λ e. offered_tied (λ (p : ℕ). greeter greeting) l link (h.link refl);
