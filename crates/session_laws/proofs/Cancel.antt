@@ -57,7 +57,9 @@ use Rattle.session_laws.proofs.Said.{carried_tied, setup_on, IsTame, renoticed}
 use Rattle.mux_conn.specs.Connection.{is_ready, is_resting}
 use Rattle.session_laws.proofs.Comes.{course_later}
 use Rattle.shared_session.specs.declared.generations.Generations.{Generations}
-use Rattle.session_laws.proofs.Repeats.{repeat_alike}
+use Rattle.session_laws.proofs.Repeats.{repeat_alike, TiedRepeat}
+use Rattle.sub_tracker.specs.Subscribed.{Request as Call}
+use Rattle.mux_conn.specs.declared.again.Again.{Again}
 
 -- one who leaves closes its story
 --
@@ -281,6 +283,15 @@ left_renewal l r (Wanting link) p h = h
 left_renewal l r (SettingUp link greeting) p h = h
 left_renewal l r (Ready link) p h = h
 left_renewal l r (Ended e) p h = h
+
+-- nor of what is subscribed again
+pub left_repeat : (l : Ledger) (calls : List Call) (within : Option ℕ) (a : Again) (life : Life) (p : ℕ) → TiedRepeat l calls within a life → TiedRepeat l calls within a (cancelled_in life p)
+left_repeat l calls within a Resting p h = h
+left_repeat l calls within a Dialing p h = h
+left_repeat l calls within a (Wanting link) p h = h
+left_repeat l calls within a (SettingUp link greeting) p h = h
+left_repeat l calls within a (Ready link) p h = h
+left_repeat l calls within a (Ended e) p h = h
 
 -- and its setup is
 pub left_setup : (l : Ledger) (info : RedisConnectionInfo) (started : List ℕ) (life : Life) (p : ℕ) → TiedSetup l info started life → TiedSetup (record l { heard = silence }) info started (cancelled_in life p)
@@ -612,6 +623,7 @@ gone_tied b c started word p n h tame o named =
       creation = h.creation;
       uses = uses_on c.sources c.single.link h.uses;
       renewal = left_renewal (record ledger { heard = silence }) conn.renewal conn.life p (renewal_alike ledger (record ledger { heard = silence }) conn.renewal conn.life refl refl refl h.renewal);
+      repeat = left_repeat (record ledger { heard = silence }) b.tracked conn.renewal.within conn.again conn.life p (repeat_alike ledger (record ledger { heard = silence }) b.tracked conn.renewal.within conn.again conn.life refl refl refl (λ e is. refl) h.repeat);
       setup = left_setup ledger conn.info started conn.life p h.setup;
       link = λ alive. left_link requests ledger conn.life p (λ up. carried_tied conn.life conn.requests requests ledger (sym (owners_with conn.requests p progress.Closed 0)) (h.link up)) alive;
       names = names_with c.table conn.requests p progress.Closed 0 h.names;

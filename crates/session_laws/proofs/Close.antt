@@ -33,7 +33,7 @@ use Rattle.session_laws.proofs.Rounded.{rounds_down}
 use Rattle.session_laws.proofs.Numbers.{IsIn, in_left, in_right, Rising, rising_in, rising_within, rising_right, rising_tail, requests_in, requests_in-append, all_requests}
 use Rattle.session_laws.proofs.Server.{hearing_there, on_link}
 use Rattle.session_laws.proofs.Tied.{TiedCreation, Inner, no_link, link_in, owner_of, queue_ids, waiting_ids, IsKept, TiedLines, TiedWaits, Tied, relined, FailureIsShown, IsOver, TiedLife, has_ended}
-use Rattle.session_laws.proofs.Said.{ready_shown, sources_asked}
+use Rattle.session_laws.proofs.Said.{ready_shown, sources_asked, ready_served}
 use Rattle.session_laws.proofs.States.{HasApplied, IsStopped}
 use Rattle.session_laws.proofs.InLine.{kept_ids, kept_in, line_of, IsInLine, awaited_rises, awaited_in}
 use Rattle.session_laws.proofs.Owes.{in_time, none_owed, in_line, later_unstarted, owed_none_started, settled_owed, notices_told, lives, is_asked, owed_asked}
@@ -52,6 +52,7 @@ use Rattle.session_laws.proofs.Renewals.{renewal_ended}
 use Rattle.mux_conn.specs.Renewals.{renewing}
 use Rattle.driver_model.specs.Hearing.{hears_pushes}
 use Rattle.driver_model.specs.declared.hearing.Notice.TheVariants as notice
+use Rattle.session_laws.proofs.Lost.{end_served}
 
 -- no error is none
 no_failure : (e : RedisError) → ◌≡◌ {A = Option RedisError} None (Some e) → ⊥
@@ -159,6 +160,7 @@ close_tied b t created halted told why e parting pending ids must is shown mild 
       creation = made;
       uses = h.uses;
       renewal = renewal_ended (b.link t.link) (noted (b.link t.link) (ends turn)) t.renewal t.life refl refl h.renewal;
+      repeat = end_served (b.link t.link) turn why t.again must (ready_served b (record t { pending = []; untold = []; parting = false }) h);
       setup = record { info_is = on_link t.life ((b.link t.link).info ≡ t.info) there h.setup.info_is; sent = h.setup.sent; said = tt };
       link = λ n. cc;
       names = h.names;

@@ -52,12 +52,13 @@ use Rattle.session_laws.proofs.Answer.{answer_apart, may_answer, owed_untold, no
 use Rattle.session_laws.proofs.Settle.{book_of_more, holds_more, seen, trace_of_acts}
 use Rattle.session_laws.proofs.Announce.{announced_sound, first_book, holds_first, turn_of, turned, uses_on, time_still}
 use Rattle.session_laws.proofs.Heard.{silent_applied, still_none, tame_between, hushed_still}
-use Rattle.session_laws.proofs.Cancel.{IsSilent, left_creds, left_fit, left_life, left_link, left_others, left_setup, none_more, queued_apart, silenced_wanted, silent_core, silent_ends, silent_numbers, silent_others, still_dials, still_tied, was_ready, was_setting, was_wanting, without_awaited, without_in, without_others, without_rises, apart_behind, rising_behind, left_renewal, ready_cancelled, left_course, left_notices, early_cancelled, left_stopped, resting_cancelled, still_rests}
+use Rattle.session_laws.proofs.Cancel.{IsSilent, left_creds, left_fit, left_life, left_link, left_others, left_setup, none_more, queued_apart, silenced_wanted, silent_core, silent_ends, silent_numbers, silent_others, still_dials, still_tied, was_ready, was_setting, was_wanting, without_awaited, without_in, without_others, without_rises, apart_behind, rising_behind, left_renewal, ready_cancelled, left_course, left_notices, early_cancelled, left_stopped, resting_cancelled, still_rests, left_repeat}
 use Rattle.driver_model.specs.declared.kind.SessionKind.{SessionKind}
 use Rattle.driver_model.specs.declared.kind.SessionKind.TheVariants as session
 use Rattle.driver_model.specs.Kind.{has_timeouts}
 use Rattle.session_laws.proofs.Said.{IsTame, renoticed}
 use Rattle.session_laws.proofs.Submit.{or_none}
+use Rattle.session_laws.proofs.Repeats.{repeat_alike}
 
 -- a story whose timer fires
 --
@@ -315,6 +316,7 @@ late_tied b c started word n p h tame is o =
       creation = h.creation;
       uses = uses_on c.sources c.single.link h.uses;
       renewal = left_renewal (record ledger { heard = silence }) conn.renewal conn.life p (renewal_alike ledger (record ledger { heard = silence }) conn.renewal conn.life refl refl refl h.renewal);
+      repeat = left_repeat (record ledger { heard = silence }) b.tracked conn.renewal.within conn.again conn.life p (repeat_alike ledger (record ledger { heard = silence }) b.tracked conn.renewal.within conn.again conn.life refl refl refl (λ e is. refl) h.repeat);
       setup = left_setup ledger conn.info started conn.life p h.setup;
       link = λ alive. left_link conn.requests ledger conn.life p h.link alive;
       names = h.names;

@@ -13,7 +13,7 @@ use Rattle.mux_conn.specs.declared.life.Greeting.{Greeting}
 use Rattle.mux_conn.specs.declared.life.Life.{Life}
 use Rattle.mux_conn.specs.declared.life.Life.TheVariants.{Resting, Dialing, Wanting, SettingUp, Ready, Ended}
 use Rattle.mux_conn.specs.declared.request.Request.{Request}
-use Rattle.legal_trace.specs.Ledger.{Ledger, End, Ending, by_opening, hears, noted, authorized_by, awaits_credentials, is_over, dials, refused_in, bytes_came, ending, ending_up, ending_asked, ending_unready, ending_by, ending_alive, error_in, is_well, is_set_up, is_ready, lacks_credentials, setup_after, setup_result, is_renewal_open, lost_by, may_renew, renewed_by, unrenewed_by, source_due, is_unreadable, opening_error, by_fault, Heard, is_fault, lasting, is_repeating, unrepeated_by}
+use Rattle.legal_trace.specs.Ledger.{Ledger, End, Ending, by_opening, hears, noted, authorized_by, awaits_credentials, is_over, dials, refused_in, bytes_came, ending, ending_up, ending_asked, ending_unready, ending_by, ending_alive, error_in, is_well, is_set_up, is_ready, lacks_credentials, setup_after, setup_result, is_renewal_open, lost_by, may_renew, renewed_by, unrenewed_by, source_due, is_unreadable, opening_error, by_fault, Heard, is_fault, lasting, is_repeating, unrepeated_by, is_served}
 use Rattle.legal_trace.proofs.Setups.{ends_where_set, ungreeted_is_unset}
 use Rattle.legal_trace.specs.Book.{Book}
 use Rattle.legal_trace.specs.Legal.{ReadyIsShown, SourcesAreAsked}
@@ -28,7 +28,10 @@ use Rattle.driver_model.specs.declared.hearing.Hearing.{Hearing}
 use Rattle.driver_model.specs.Hearing.{felt, hears_messages}
 use Rattle.driver_model.specs.declared.news.LinkFault.TheVariants as fault
 use Rattle.resp_read.specs.Values.{is_spoiled}
-use Rattle.session_laws.proofs.Repeats.{down_repeats_not}
+use Rattle.session_laws.proofs.Repeats.{down_repeats_not, TiedRepeat, served_is}
+use Rattle.sub_tracker.specs.Subscribed.{Request as Call}
+use Rattle.mux_conn.specs.declared.again.Again.{Again}
+use Rattle.mux_conn.specs.Connection.{is_outstanding}
 
 -- whose messages a link carries
 --
@@ -365,11 +368,12 @@ none_failed l none up unready =
     by_none (error_in (setup_result l)) (ending_unready l l.heard)
     (sym (taken_if l.up (ending_alive l) _ up ∙ left_if (is_set_up l) (ending_up l l.heard) (ending_by (error_in (setup_result l)) (ending_unready l l.heard)) unready) ∙ none)
 
--- that nothing is heard, that bytes were taken, or that new credentials weren't answered in time
+-- that nothing is heard, that bytes were taken, or that new credentials, or what is subscribed again, weren't answered in time
 abbrev pub IsMild : News → Type 0
 IsMild silence = Unit {0}
 IsMild (took count) = Unit {0}
 IsMild (late k) = Unit {0}
+IsMild unrepeated = Unit {0}
 IsMild _ = ⊥
 
 -- so a link that is up need not end then
@@ -395,6 +399,7 @@ pub mild_end : (l : Ledger) (taken offer : List ℕ) (n : News) → IsMild n →
 mild_end l taken offer silence k none = by_test l.up _ (mild_up l taken offer silence (refl, refl) none) (mild_down l taken offer silence refl)
 mild_end l taken offer (took count) k none = by_test l.up _ (mild_up l taken offer (took count) (refl, refl) none) (mild_down l taken offer (took count) refl)
 mild_end l taken offer (late m) k none = by_test l.up _ (mild_up l taken offer (late m) (refl, refl) none) (mild_down l taken offer (late m) refl)
+mild_end l taken offer unrepeated k none = by_test l.up _ (mild_up l taken offer unrepeated (refl, refl) none) (mild_down l taken offer unrepeated refl)
 mild_end l taken offer _ k none = absurd k
 
 -- nor does a stream of messages that is dropped, on a link of no messages
@@ -419,6 +424,21 @@ pub ready_shown : (b : Book) (t : Inner) → Tied b t → ReadyIsShown b
 ready_shown b t h m ready = by_test (m == t.link) _
     (λ same. ready_by (b.link t.link) b.created t.info t.started t.life h.life h.creds.sought h.setup (subst (λ k. is_ready (b.link k) ≡ true) (eq_from m t.link same) ready))
     (λ other. absurd (not_both (b.link m).up (h.others m (ne_from m t.link other)).down (both_left (b.link m).up (is_set_up (b.link m)) ready)))
+
+-- and it takes requests where its connection does
+--
+-- by how far it has come
+served_by : (l : Ledger) (calls : List Call) (within : Option ℕ) (created : ℕ) (info : RedisConnectionInfo) (started : List ℕ) (a : Again) (life : Life) → TiedLife l created life → AreSought l.creds life → TiedSetup l info started life → TiedRepeat l calls within a life → is_ready l ≡ true
+    → is_served l ≡ not (is_outstanding a)
+served_by l calls within created info started a Resting h c s k r = absurd (not_both l.up h.1 (both_left l.up (is_set_up l) r))
+served_by l calls within created info started a Dialing h c s k r = absurd (not_both l.up h.1 (both_left l.up (is_set_up l) r))
+served_by l calls within created info started a (Wanting link) h c s k r = absurd (not_both (is_set_up l) (lacking_unset l (wanting_lacks l.creds link c)).unset (both_right l.up (is_set_up l) r))
+served_by l calls within created info started a (SettingUp link greeting) h c s k r = absurd (not_both (is_set_up l) (not_set_up l link greeting s.said.1).unset (both_right l.up (is_set_up l) r))
+served_by l calls within created info started a (Ready link) h c s k r = served_is l calls within a k
+served_by l calls within created info started a (Ended e) h c s k r = absurd (not_both l.up h.0 (both_left l.up (is_set_up l) r))
+
+pub ready_served : (b : Book) (t : Inner) → Tied b t → is_ready (b.link t.link) ≡ true → is_served (b.link t.link) ≡ not (is_outstanding t.again)
+ready_served b t h ready = served_by (b.link t.link) b.tracked t.renewal.within b.created t.info t.started t.again t.life h.life h.creds.sought h.setup h.repeat ready
 
 -- every source was asked for that is to be
 --
