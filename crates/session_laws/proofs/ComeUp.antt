@@ -36,6 +36,7 @@ use Rattle.legal_trace.specs.Book.{Book, blank_book, book, entered, use_for, if_
 use Rattle.legal_trace.specs.Story.{Story}
 use Rattle.legal_trace.specs.Legal.{AllStand, MayBeCreated, MayNeed}
 use Rattle.legal_trace.proofs.Setups.{ends_where_set, silent_is_set, silent_is_greeted}
+use Rattle.session_laws.proofs.Served.{fresh_rises, numbers_is}
 use Rattle.session_laws.proofs.Rounded.{rounds_down, rounds_new, unbegun_waits}
 use Rattle.session_laws.proofs.Server.{AreSetups, HasCredentials, IsSettingUp, IsSetupDue, IsSetUp, AreSought, HasSaid, AreSetupsAlone, IsWatching, greeting_at, owners_of, setup_owners, watch_queued}
 use Rattle.session_laws.proofs.Tied.{shown_creation, Sound, TiedCreation, AreQueued, IsEntry, IsQueued, Inner, Tied, TiedLines, TiedNotices, TiedWaits, has_ended, inner, link_in, no_link, owner_of, queue_ids, shown_wait, waiting_ids, AreUses, is_reading, TiedRounds, is_begun}
@@ -71,11 +72,6 @@ bare_lines story requests link waiting admitted started queue row h = record {
   there = λ p e. elim (h.there p e) [ inl i ↦ absurd i | inr k ↦ inr k ];
 }
 
--- the numbers of those that wait
-pub numbers_is : (ws : List Waiting) → numbers_of ws ≡ waiting_ids ws
-numbers_is [] = refl
-numbers_is (w ∷ ws) = ap (λ ns. w.number ∷ ns) (numbers_is ws)
-
 -- who waits for the connection is one of them
 bare_waits : (b : Book) (t : Inner) (p : ℕ) → Tied b t → t.pending ≡ [] → t.admitted ≡ [] → link_in t.life ≡ no_link → is_waiting_at t.requests p ≡ true → IsIn p (waiting_ids t.waiting)
 bare_waits b t p h none nobody e w =
@@ -88,14 +84,6 @@ bare_waits b t p h none nobody e w =
 anew_rounds : {ready : Bool} (b : Book) (t : Inner) → Tied b t → t.pending ≡ [] → t.admitted ≡ [] → link_in t.life ≡ no_link → TiedRounds (has_generations b) b.story t.requests ready (numbers_of t.waiting) t.rounds
 anew_rounds b t h none nobody bare = rounds_new b.story t.requests t.fresh (numbers_of t.waiting)
     (λ p shows up u. subst (IsIn p) (sym (numbers_is t.waiting)) (bare_waits b t p h none nobody bare (unbegun_waits t.requests p u))) h.rounds
-
--- those that wait, in line
-fresh_rises : (b : Book) (t : Inner) → Tied b t → Rising 0 (numbers_of t.waiting) (length t.requests)
-fresh_rises b t h =
-    let queue = queue_ids (link_in t.life).queue in
-    let last = waiting_ids t.waiting in
-    subst (λ ns. Rising 0 ns (length t.requests)) (sym (numbers_is t.waiting))
-    (rising_right 0 (waiting_ids t.admitted) last (length t.requests) (rising_right 0 queue (kept_ids t.admitted t.waiting) (length t.requests) (rising_right 0 (requests_in t.started) (queue ++ kept_ids t.admitted t.waiting) (length t.requests) h.lines.line)))
 
 -- where no wait is to be shown, who waits for the connection has shown what it waits for
 shown_early : (b : Book) (t : Inner) (p : ℕ) (life : Life) → Tied b t → t.fresh ≡ [] → t.life ≡ life → is_ready life ≡ false → has_ended life ≡ false → is_waiting_at t.requests p ≡ true → shown_wait b.story t.requests p ≡ Some (early_wait life)

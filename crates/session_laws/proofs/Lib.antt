@@ -32,6 +32,7 @@ pub mod Going
 pub mod Starts
 pub mod Place
 pub mod Settle
+pub mod Own
 pub mod LetIn
 pub mod SetsUp
 pub mod Watches
@@ -42,6 +43,7 @@ pub mod New
 pub mod Judged
 pub mod Greeted
 pub mod Replies
+pub mod Resubscribed
 pub mod Announce
 pub mod Heard
 pub mod Failing
@@ -69,6 +71,7 @@ pub mod Passes
 pub mod Moved
 pub mod Write
 pub mod Waits
+pub mod Served
 pub mod Settled
 pub mod Reopen
 pub mod Generate

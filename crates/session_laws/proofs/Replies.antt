@@ -91,7 +91,7 @@ auth_name requests p is = ap is_of_renewal (owner_of_auth requests p is)
 -- what more items leave
 --
 -- a ledger with more items
-abbrev with_items : Ledger → List Data → Ledger
+abbrev pub with_items : Ledger → List Data → Ledger
 with_items l more = record l { dealt = l.dealt ++ more }
 
 -- what a start that is full took
@@ -160,13 +160,13 @@ some_replied r done (s ∷ ss) i all =
     now ∙ some_replied r done ss (elim i [ inl same ↦ absurd (ne_from s.id renewal_id f same) | inr j ↦ j ]) all.1)
 
 -- an entry of a row, by its place
-entry_at : (P : Entry → Type 0) (row : List Entry) (n : ℕ) (e : Entry) → AllByRecursion P row → slice_get row n ≡ Some e → P e
+pub entry_at : (P : Entry → Type 0) (row : List Entry) (n : ℕ) (e : Entry) → AllByRecursion P row → slice_get row n ≡ Some e → P e
 entry_at P [] n e all at = cc
 entry_at P (x ∷ row) zero e all at = let same : x ≡ e = cc in subst P same all.0
 entry_at P (x ∷ row) (suc n) e all at = entry_at P row n e all.1 at
 
 -- that is awaited is wanted
-wanted_at : (row : List Entry) (n : ℕ) (e : Entry) → slice_get row n ≡ Some e → e.awaited ≡ true → IsIn e.id (wanted row)
+pub wanted_at : (row : List Entry) (n : ℕ) (e : Entry) → slice_get row n ≡ Some e → e.awaited ≡ true → IsIn e.id (wanted row)
 wanted_at [] n e at is = cc
 wanted_at (x ∷ row) zero e at is =
     let same : x ≡ e = cc in
@@ -257,7 +257,7 @@ told_in_row requests l link k lives tied entries few last open_is =
     one_start x y e = cc
 
 -- a link with a row and more items
-row_tied : (name : ℕ → Owner) (l : Ledger) (link : LinkState) (more : List Data) (d : Dealing) → IsDealt name l.starts (l.dealt ++ more) d → TiedLink name l link → TiedLink name (with_items l more) (record link { row = d.row })
+pub row_tied : (name : ℕ → Owner) (l : Ledger) (link : LinkState) (more : List Data) (d : Dealing) → IsDealt name l.starts (l.dealt ++ more) d → TiedLink name l link → TiedLink name (with_items l more) (record link { row = d.row })
 row_tied name l link more d dealt_so h = record {
   sent = h.sent;
   offer = h.offer;

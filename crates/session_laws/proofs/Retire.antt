@@ -30,7 +30,7 @@ use Rattle.legal_trace.specs.Owed.{owed_unstarted, owed_by}
 use Rattle.legal_trace.specs.Story.{Story}
 use Rattle.session_laws.proofs.Announce.{turn_of, turned, IsNewsKind, aims_on, heard_book, uses_on, asked_hear, heard_starts, first_book, heard_is, others_heard, still_unrepeated, uses_hear}
 use Rattle.session_laws.proofs.Aside.{aside_ends, not_up_ends, over_not_asked}
-use Rattle.session_laws.proofs.ComeUp.{numbers_is}
+use Rattle.session_laws.proofs.Served.{numbers_is}
 use Rattle.session_laws.proofs.Comes.{tied_live}
 use Rattle.session_laws.proofs.Creds.{down_sourced}
 use Rattle.session_laws.proofs.Failing.{IsUnready, waiters_owed, Fails, failing_applied, setup_fails, setup_stands}

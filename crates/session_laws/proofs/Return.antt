@@ -14,7 +14,7 @@ use Rattle.shared_session.specs.Generations.{begun, begun_with, bound_of, connec
 use Rattle.legal_trace.specs.Book.{Book, blank_book, book, entered, entered_each}
 use Rattle.legal_trace.specs.Legal.{AllStand, IsShown, NoneEnds, generation_due, word_of}
 use Rattle.session_laws.proofs.Ahead.{HasSeats}
-use Rattle.session_laws.proofs.ComeUp.{numbers_is}
+use Rattle.session_laws.proofs.Served.{numbers_is}
 use Rattle.session_laws.proofs.Comes.{NoneComes, live_comes}
 use Rattle.session_laws.proofs.Dial.{dialled_in}
 use Rattle.session_laws.proofs.Entered.{book-append, book_more}
