@@ -1,6 +1,6 @@
 -- Messages of the driver's own that are settled: what all of them come to.
 use Rattle.std.proofs.Common.{◌≡◌, ℕ, ◌==◌, Bool, true, false, ◌&&◌, ◌||◌, if◌then◌else◌, List, [], ◌∷◌, ◌++◌, refl, sym, ap, ◌∙◌, subst, inl, inr}
-use Rattle.containers.proofs.Choices.{by_test, eq_from, eq_test, not_both}
+use Rattle.containers.proofs.Choices.{by_test, eq_from, eq_test, not_both, chosen}
 use Rattle.link_core.specs.declared.message.Settled.{Settled}
 use Rattle.mux_conn.specs.declared.act.LinkAct.{LinkAct}
 use Rattle.mux_conn.specs.declared.again.Again.{Again}
@@ -93,9 +93,13 @@ own_is w (s ∷ ss) = own_first w (replied w.conn.renewal (is_done s.verdict)) s
     apart : (s.id == renewal_id) ≡ true → (s.id == repeat_id) ≡ false
     apart auth = by_test (s.id == repeat_id) ((s.id == repeat_id) ≡ false) (λ t. absurd (not_both (s.id == renewal_id) (repeat_other s.id (eq_from s.id repeat_id t)) auth)) (λ f. f)
 
+-- where nothing is to be subscribed again, nothing is behind them
+pub answered_after : (goes : Bool) (a : Again) (ss : List Settled) → is_outstanding a ≡ false → is_outstanding (again_after goes a ss) ≡ false
+answered_after goes a ss none = chosen (λ x. is_outstanding x ≡ false) (goes && has_repeat ss) again.Nothing a (λ t. refl) (λ f. none)
+
 -- what they leave
 pub own_leaves : (w : Work) (ss : List Settled) → Leaves w (own_each w ss)
-own_leaves w ss = subst (Leaves w) (sym (own_is w ss)) (record { size = refl; boundary = refl; life = refl; waiting = refl; admitted = refl; moved = refl; hears = refl })
+own_leaves w ss = subst (Leaves w) (sym (own_is w ss)) (record { size = refl; boundary = refl; life = refl; waiting = refl; admitted = refl; moved = refl; hears = refl; answered = answered_after (is_repeating w.conn) w.conn.again ss })
 
 -- an act that is shown leaves what they come to
 pub acted_own : (w : Work) (a : LinkAct) (ss : List Settled) → own_each (acted w a) ss ≡ acted (own_each w ss) a

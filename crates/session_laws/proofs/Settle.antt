@@ -404,7 +404,7 @@ answered_owns w p o [] = refl
 answered_owns w p o (s ∷ ss) = ap (λ (x : Work). own_each x ss) (answered_own w p o s) ∙ answered_owns (own_one w s) p o ss
 
 -- a message of the driver's own is settled as it says
-own_settled : (w : Work) (s : Settled) → is_own s.id ≡ true → settled_one w s ≡ own_one w s
+pub own_settled : (w : Work) (s : Settled) → is_own s.id ≡ true → settled_one w s ≡ own_one w s
 own_settled w s own = by_test (s.id == renewal_id) (settled_one w s ≡ own_one w s)
     (λ t. taken_if (s.id == renewal_id) (renewing w (replied w.conn.renewal (is_done s.verdict))) (settled_other w s) t ∙ sym (taken_if (s.id == renewal_id) (renewing w (replied w.conn.renewal (is_done s.verdict))) (if s.id == repeat_id then served w else w) t))
     (λ f.
@@ -413,7 +413,7 @@ own_settled w s own = by_test (s.id == renewal_id) (settled_one w s ≡ own_one 
     ∙ sym (left_if (s.id == renewal_id) (renewing w (replied w.conn.renewal (is_done s.verdict))) (if s.id == repeat_id then served w else w) f ∙ taken_if (s.id == repeat_id) (served w) w second))
 
 -- and a request's is answered
-request_settled : (w : Work) (s : Settled) → is_own s.id ≡ false → (settled_one w s ≡ answered w s.id (outcome_of s.verdict)) × (own_one w s ≡ w)
+pub request_settled : (w : Work) (s : Settled) → is_own s.id ≡ false → (settled_one w s ≡ answered w s.id (outcome_of s.verdict)) × (own_one w s ≡ w)
 request_settled w s other =
     let first : (s.id == renewal_id) ≡ false = by_test (s.id == renewal_id) _ (λ t. absurd (not_both (is_own s.id) other (ap (λ b. b || (s.id == repeat_id)) t))) (λ f. f) in
     let second : (s.id == repeat_id) ≡ false = sym (ap (λ b. b || (s.id == repeat_id)) first) ∙ other in (
@@ -448,7 +448,7 @@ failed_holds before f ledger owes name was w e (q ∷ qs) pending started due h 
     failed_holds before f ledger owes name was (answered w q.number (outcome.Fault e)) e qs pending started due.1
     (answered_holds before f ledger owes name was w q.number (outcome.Fault e) (waiting_ids qs ++ pending) started due.0 h)
 
--- what answers leave as it was
+-- what answers leave as it was: also that nothing is to be subscribed again, where nothing was
 pub record Leaves (w v : Work) : Type 0 where
   pub size : v.conn.size ≡ w.conn.size
   pub boundary : v.conn.boundary ≡ w.conn.boundary
@@ -457,10 +457,11 @@ pub record Leaves (w v : Work) : Type 0 where
   pub admitted : v.conn.admitted ≡ w.conn.admitted
   pub moved : v.conn.moved ≡ w.conn.moved
   pub hears : v.conn.hears ≡ w.conn.hears
+  pub answered : is_outstanding w.conn.again ≡ false → is_outstanding v.conn.again ≡ false
 
 -- nothing is changed
 pub leaves_all : (w : Work) → Leaves w w
-leaves_all w = record { size = refl; boundary = refl; life = refl; waiting = refl; admitted = refl; moved = refl; hears = refl }
+leaves_all w = record { size = refl; boundary = refl; life = refl; waiting = refl; admitted = refl; moved = refl; hears = refl; answered = λ e. e }
 
 -- one after another
 pub leaves_on : (u v w : Work) → Leaves u v → Leaves v w → Leaves u w
@@ -472,20 +473,21 @@ leaves_on u v w h k = record {
   admitted = k.admitted ∙ h.admitted;
   moved = k.moved ∙ h.moved;
   hears = k.hears ∙ h.hears;
+  answered = λ e. k.answered (h.answered e);
 }
 
 -- one answer leaves them
 pub answered_leaves : (w : Work) (p : ℕ) (o : Outcome) → Leaves w (answered w p o)
-answered_leaves w p o = chosen (Leaves w) (is_open_at w.conn.requests p) _ w (λ t. record { size = refl; boundary = refl; life = refl; waiting = refl; admitted = refl; moved = refl; hears = refl }) (λ f. leaves_all w)
+answered_leaves w p o = chosen (Leaves w) (is_open_at w.conn.requests p) _ w (λ t. record { size = refl; boundary = refl; life = refl; waiting = refl; admitted = refl; moved = refl; hears = refl; answered = λ e. e }) (λ f. leaves_all w)
 
 -- so does what one settled message comes to
 pub one_leaves : (w : Work) (s : Settled) → Leaves w (settled_one w s)
 one_leaves w s =
     chosen (Leaves w) (s.id == renewal_id) (renewing w (replied w.conn.renewal (is_done s.verdict))) (settled_other w s)
-    (λ t. record { size = refl; boundary = refl; life = refl; waiting = refl; admitted = refl; moved = refl; hears = refl })
+    (λ t. record { size = refl; boundary = refl; life = refl; waiting = refl; admitted = refl; moved = refl; hears = refl; answered = λ e. e })
     (λ f.
     chosen (Leaves w) (s.id == repeat_id) (served w) (answered w s.id (outcome_of s.verdict))
-    (λ t. chosen (Leaves w) (is_repeating w.conn) (all_fresh (repeating w again.Nothing)) w (λ r. record { size = refl; boundary = refl; life = refl; waiting = refl; admitted = refl; moved = refl; hears = refl }) (λ n. leaves_all w))
+    (λ t. chosen (Leaves w) (is_repeating w.conn) (all_fresh (repeating w again.Nothing)) w (λ r. record { size = refl; boundary = refl; life = refl; waiting = refl; admitted = refl; moved = refl; hears = refl; answered = λ e. refl }) (λ n. leaves_all w))
     (λ n. answered_leaves w s.id (outcome_of s.verdict)))
 
 -- so do the answers to what was settled
