@@ -210,12 +210,12 @@ asked_next b c started what h no_fresh =
 
 -- the waits with it
 asked_waits : (b : Book) (c : Core) (started : List ℕ) (what : Submission) → Tied b (inner c started) → c.single.connection.fresh ≡ []
-    → TiedWaits (stories_with b what) (more_requests c) c.single.connection.life (c.single.connection.fresh ++ length c.single.connection.requests ∷ []) c.single.connection.moved
+    → TiedWaits (stories_with b what) (more_requests c) c.single.connection.again c.single.connection.life (c.single.connection.fresh ++ length c.single.connection.requests ∷ []) c.single.connection.moved
 asked_waits b c started what h no_fresh =
     let conn = c.single.connection in
     let queue = queue_ids (link_in conn.life).queue in
     let kept = kept_ids conn.admitted conn.waiting in
-    waits_longer c.table b.story (stories_with b what) conn.requests (more_requests c) conn.life conn.fresh (conn.fresh ++ length conn.requests ∷ []) conn.moved h.names (others_before b c started what h) (one_longer conn.requests (new_request c))
+    waits_longer c.table b.story (stories_with b what) conn.requests (more_requests c) conn.again conn.life conn.fresh (conn.fresh ++ length conn.requests ∷ []) conn.moved h.names (others_before b c started what h) (one_longer conn.requests (new_request c))
     (λ p i. within_line conn.requests (requests_in started) queue kept p h.lines.line (in_right p (requests_in started) (queue ++ kept) (in_left p queue kept (awaited_in p (link_in conn.life).queue i)))) no_fresh (asked_next b c started what h no_fresh) h.waits
 
 -- a submission without outcomes was told nothing
@@ -304,7 +304,7 @@ asked_tied b c started word what h tame form few no_fresh up speaks some =
       permits = permits_longer c.table b.story after b.submissions conn.requests (more_requests c) c.single.link conn.limit conn.free (conn.fresh ++ n ∷ []) h.names same longer h.numbers.submissions (ap (λ (s : Story). s.permits) (story_is_new b c started what h))
           (asked_next b c started what h no_fresh) h.permits;
       rounds = rounds_longer c.table b.story after conn.requests (more_requests c) conn.fresh (conn.fresh ++ n ∷ []) h.names same longer no_fresh (asked_next b c started what h no_fresh) h.rounds;
-      early = early_longer after conn.requests (more_requests c) (conn.fresh ++ n ∷ []) conn.life longer (asked_next b c started what h no_fresh) h.early;
+      early = early_longer after conn.requests (more_requests c) (conn.fresh ++ n ∷ []) conn.again conn.life longer (asked_next b c started what h no_fresh) h.early;
       late = late_longer c.table b.story after conn.requests (more_requests c) (conn.fresh ++ n ∷ []) h.names same longer (asked_next b c started what h no_fresh) h.late;
     }
 

@@ -36,6 +36,7 @@ use Rattle.session_laws.proofs.Tied.{Tied, TiedCreation, TiedNumbers, inner, own
 use Rattle.session_laws.proofs.Waits.{IsQuiet}
 use Rattle.session_laws.proofs.Whole.{flushed_between}
 use Rattle.session_laws.proofs.Write.{is_written}
+use Rattle.mux_conn.specs.declared.again.Again.TheVariants as again
 
 -- what a configuration says
 --
@@ -152,10 +153,10 @@ idle_tied config word settings info number created told is first lazy shown = re
   tries = opening_tries blank_ledger refl;
   lines = opening_lines;
   told = λ e. record { told = λ n is_told none on. cc; here = λ p i. absurd i };
-  waits = opening_waits Resting refl;
+  waits = opening_waits again.Nothing Resting refl;
   permits = opening_permits (permits config);
   rounds = record { rounds_is = ap is_some (set_so config settings is.managed); unbegun = λ p u. cc; begun = λ p r o u. cc; new = λ p r up u. cc };
-  early = λ unready alive p o. cc;
+  early = λ unserved alive. record { unbegun = λ p o. cc; empty = refl };
   late = λ p o e. cc;
 }
 

@@ -1,6 +1,6 @@
 -- The caller of a submission has gone.
 use Rattle.std.proofs.lemmas.List.{append-nil}
-use Rattle.std.proofs.Common.{◌≡◌, ◌≢◌, inl, inr, ℕ, suc, ◌+◌, ◌<◌, ◌≤◌, ◌==◌, Bool, true, false, ◌&&◌, ◌||◌, is_some, List, [], ◌∷◌, ◌++◌, length, Option, Some, None, slice_get, if◌then◌else◌, refl, sym, ap, ◌∙◌, subst, arith}
+use Rattle.std.proofs.Common.{◌≡◌, ◌≢◌, inl, inr, ℕ, suc, ◌+◌, ◌<◌, ◌≤◌, ◌==◌, Bool, true, false, ◌&&◌, ◌||◌, not, is_some, List, [], ◌∷◌, ◌++◌, length, Option, Some, None, slice_get, if◌then◌else◌, refl, sym, ap, ◌∙◌, subst, arith}
 use Rattle.std.specs.List.{AllByRecursion}
 use Rattle.containers.proofs.Choices.{by_test, both_left, chosen, left_if, taken_if, eq_from, eq_test, ne_from, not_both, or_left}
 use Rattle.driver_model.specs.declared.hearing.Hearing.{Hearing}
@@ -20,6 +20,7 @@ use Rattle.link_core.specs.Waiting.{is_wanted, without}
 use Rattle.link_laws.specs.Settles.{wanted, awaited_ids}
 use Rattle.link_laws.proofs.TiedLink.{TiedLink, told_tied, cancelled_tied}
 use Rattle.mux_conn.specs.declared.connection.MultiplexedConnection.{MultiplexedConnection}
+use Rattle.mux_conn.specs.declared.again.Again.{Again}
 use Rattle.mux_conn.specs.declared.life.Life.{Life}
 use Rattle.mux_conn.specs.declared.life.Life.TheVariants.{Resting, Dialing, Wanting, SettingUp, Ready, Ended}
 use Rattle.mux_conn.specs.declared.request.Pending.{Pending}
@@ -54,12 +55,14 @@ use Rattle.session_laws.proofs.Kept.{tied_by}
 use Rattle.session_laws.proofs.Permits.{permits_closed}
 use Rattle.session_laws.proofs.Heard.{silent_applied, still_none, told_life, silent_no_end, tame_between, hushed_still}
 use Rattle.session_laws.proofs.Said.{carried_tied, setup_on, IsTame, renoticed}
-use Rattle.mux_conn.specs.Connection.{is_ready, is_resting}
+use Rattle.mux_conn.specs.Connection.{is_outstanding, is_ready, is_resting}
 use Rattle.session_laws.proofs.Comes.{course_later}
 use Rattle.shared_session.specs.declared.generations.Generations.{Generations}
 use Rattle.session_laws.proofs.Repeats.{repeat_alike, TiedRepeat}
 use Rattle.sub_tracker.specs.Subscribed.{Request as Call}
 use Rattle.mux_conn.specs.declared.again.Again.{Again}
+use Rattle.session_laws.proofs.Repeats.{repeat_alike, serves}
+use Rattle.session_laws.proofs.Serving.{unready_serves}
 
 -- one who leaves closes its story
 --
@@ -390,14 +393,18 @@ ready_cancelled (SettingUp link greeting) p = refl
 ready_cancelled (Ready link) p = refl
 ready_cancelled (Ended y) p = refl
 
--- so no round begins there
-pub early_cancelled : (requests : List Request) (life : Life) (p : ℕ) → AreEarly requests life → AreEarly requests (cancelled_in life p)
-early_cancelled requests Resting p h = h
-early_cancelled requests Dialing p h = h
-early_cancelled requests (Wanting link) p h = h
-early_cancelled requests (SettingUp link greeting) p h = h
-early_cancelled requests (Ready link) p h = h
-early_cancelled requests (Ended e) p h = h
+-- so it takes requests where it did
+pub serves_cancelled : (life : Life) (a : Again) (p : ℕ) → serves (cancelled_in life p) a ≡ serves life a
+serves_cancelled life a p = ap (λ up. up && not (is_outstanding a)) (ready_cancelled life p)
+
+-- and no round begins there
+pub early_cancelled : (requests : List Request) (a : Again) (life : Life) (p : ℕ) → AreEarly requests a life → AreEarly requests a (cancelled_in life p)
+early_cancelled requests a Resting p h = h
+early_cancelled requests a Dialing p h = h
+early_cancelled requests a (Wanting link) p h = h
+early_cancelled requests a (SettingUp link greeting) p h = h
+early_cancelled requests a (Ready link) p h = λ unserved alive. (let k = h unserved alive in record { unbegun = k.unbegun; empty = ap (λ (qs : List Queued). without qs p) k.empty })
+early_cancelled requests a (Ended e) p h = h
 
 -- so was one that waits for credentials
 pub was_wanting : (life : Life) (p : ℕ) → WasWanting life (cancelled_in life p)
@@ -472,21 +479,21 @@ left_others requests (Ended e) ys p lo r q i = absurd i
 
 -- the link is fit
 pub left_fit : (c : MultiplexedConnection) (free : ℕ) (requests : List Request) (life : Life) (p : ℕ) → c.life ≡ life → IsFitIn c → IsFitIn (record c { free = free; requests = requests; life = cancelled_in life p })
-left_fit c free requests Resting p is h = record { wanting = λ x e. cc; setup = λ x u e. cc; link = λ x e. cc; none = λ n. h.none (λ x e. (let no : Resting ≡ Ready x = sym is ∙ e in cc)) }
-left_fit c free requests Dialing p is h = record { wanting = λ x e. cc; setup = λ x u e. cc; link = λ x e. cc; none = λ n. h.none (λ x e. (let no : Dialing ≡ Ready x = sym is ∙ e in cc)) }
+left_fit c free requests Resting p is h = record { wanting = λ x e. cc; setup = λ x u e. cc; link = λ x e. cc; none = λ n. h.none (unready_serves c.life c.again (ap is_ready is)) }
+left_fit c free requests Dialing p is h = record { wanting = λ x e. cc; setup = λ x u e. cc; link = λ x e. cc; none = λ n. h.none (unready_serves c.life c.again (ap is_ready is)) }
 left_fit c free requests (Wanting link) p is h = record {
   wanting = λ x e. let same : link ≡ x = cc in subst (IsFit c.size c.boundary) same (h.wanting link is);
   setup = λ x u e. cc;
   link = λ x e. cc;
-  none = λ n. h.none (λ x e. (let no : Wanting link ≡ Ready x = sym is ∙ e in cc));
+  none = λ n. h.none (unready_serves c.life c.again (ap is_ready is));
 }
 left_fit c free requests (SettingUp link greeting) p is h = record {
   wanting = λ x e. cc;
   setup = λ x u e. let same : link ≡ x = cc in subst (IsFit c.size c.boundary) same (h.setup link greeting is);
   link = λ x e. cc;
-  none = λ n. h.none (λ x e. (let no : SettingUp link greeting ≡ Ready x = sym is ∙ e in cc));
+  none = λ n. h.none (unready_serves c.life c.again (ap is_ready is));
 }
-left_fit c free requests (Ended y) p is h = record { wanting = λ x e. cc; setup = λ x u e. cc; link = λ x e. cc; none = λ n. h.none (λ x e. (let no : Ended y ≡ Ready x = sym is ∙ e in cc)) }
+left_fit c free requests (Ended y) p is h = record { wanting = λ x e. cc; setup = λ x u e. cc; link = λ x e. cc; none = λ n. h.none (unready_serves c.life c.again (ap is_ready is)) }
 left_fit c free requests (Ready link) p is h = record {
   wanting = λ x e. cc;
   setup = λ x u e. cc;
@@ -495,7 +502,7 @@ left_fit c free requests (Ready link) p is h = record {
       let k = h.link link is in
       let few = without_length link.queue p in
       subst (IsFit c.size c.boundary) same (record { sound = k.sound; size_is = k.size_is; bound_is = k.bound_is; within = omega (arith, k.within, few) });
-  none = λ n. absurd (n (cancelled link p) refl);
+  none = λ down. h.none (ap (λ (x : Life). serves x c.again) is ∙ down);
 }
 
 -- the turn
@@ -631,12 +638,12 @@ gone_tied b c started word p n h tame o named =
       tries = tries_closed (record ledger { heard = silence }) b.story conn.requests c.single.link p closed started k (record { owners = h.tries.owners; greeted = h.tries.greeted; shapes = h.tries.shapes; tried = h.tries.tried; untried = h.tries.untried });
       lines = left_lines_in c.table b.story conn.requests conn.life conn.waiting conn.admitted p started closed h.names l (request_not b (inner c started) p h l) asked k (λ up. row_in_line b (inner c started) h up) h.lines;
       told = left_told b.story conn.requests c.single.link conn.life p asked h.told;
-      waits = waits_closed c.table b.story conn.requests p closed conn.life (cancelled_in conn.life p) conn.fresh conn.moved h.names l (still_rests conn.life p) (still_dials conn.life p) (was_wanting conn.life p) (was_setting conn.life p) (was_ready conn.life p) (left_others conn.requests conn.life (kept_ids conn.admitted conn.waiting) p 0 line) h.waits;
+      waits = waits_closed c.table b.story conn.requests p closed conn.again conn.life (cancelled_in conn.life p) conn.fresh conn.moved h.names l (still_rests conn.life p) (still_dials conn.life p) (was_wanting conn.life p) (was_setting conn.life p) (was_ready conn.life p) (left_others conn.requests conn.life (kept_ids conn.admitted conn.waiting) p 0 line) h.waits;
       permits = subst (λ m. TiedPermits after m requests c.single.link conn.limit free []) (none_more b.submissions)
           (permits_closed b.story after c.table b.submissions conn.requests c.single.link conn.limit conn.free [] p h.names l known (r.on o) r.permits_is (λ m other. closed_other b.story conn.requests p closed m other)
           (ap (λ (s : Story). s.permits) is ∙ leave_frees (b.story own) asked) (ap (λ (s : Story). s.link) is ∙ leave_link (b.story own) ∙ r.on o) h.permits);
-      rounds = subst (λ x. TiedRounds (has_generations b) after requests x conn.fresh conn.rounds) (sym (ready_cancelled conn.life p)) (rounds_closed b.story conn.requests conn.fresh p closed l k h.rounds);
-      early = early_cancelled requests conn.life p (early_closed conn.requests conn.life p l h.early);
+      rounds = subst (λ x. TiedRounds (has_generations b) after requests x conn.fresh conn.rounds) (sym (serves_cancelled conn.life conn.again p)) (rounds_closed b.story conn.requests conn.fresh p closed l k h.rounds);
+      early = early_cancelled requests conn.again conn.life p (early_closed conn.requests conn.again conn.life p l h.early);
       late = late_closed c.table b.story conn.requests p closed [] [] h.names l (λ q other i. i) h.late;
     })
 

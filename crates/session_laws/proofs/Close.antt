@@ -53,6 +53,7 @@ use Rattle.mux_conn.specs.Renewals.{renewing}
 use Rattle.driver_model.specs.Hearing.{hears_pushes}
 use Rattle.driver_model.specs.declared.hearing.Notice.TheVariants as notice
 use Rattle.session_laws.proofs.Lost.{end_served}
+use Rattle.mux_conn.specs.declared.again.Again.{Again}
 
 -- no error is none
 no_failure : (e : RedisError) → ◌≡◌ {A = Option RedisError} None (Some e) → ⊥
@@ -90,14 +91,15 @@ close_lines story requests link waiting admitted pending started ids h =
     }
 
 -- the waits, on a link without messages that is not dialing
-pub ended_waits : (story : ℕ → Story) (requests : List Request) (life : Life) (e : RedisError) (fresh moved : List ℕ) → TiedWaits story requests life fresh moved → TiedWaits story requests (Ended e) fresh moved
-ended_waits story requests life e fresh moved h = record {
+pub ended_waits : (story : ℕ → Story) (requests : List Request) (a : Again) (life : Life) (e : RedisError) (fresh moved : List ℕ) → TiedWaits story requests a life fresh moved → TiedWaits story requests a (Ended e) fresh moved
+ended_waits story requests a life e fresh moved h = record {
   early = h.early;
   backoff = λ p w d. cc;
   connect = λ p w d. cc;
   creds = λ p link w s. cc;
   setup = λ p link greeting w s. cc;
-  permit = λ p link w r. cc;
+  resubscribe = λ p link w r goes. cc;
+  permit = λ p link w r none. cc;
   place = h.place;
   room = λ p i. absurd i;
   newer = h.newer;
@@ -106,7 +108,9 @@ ended_waits story requests life e fresh moved h = record {
   no_connect = λ p i w d. cc;
   no_creds = λ p link i w s. cc;
   no_setup = λ p link greeting i w s. cc;
-  no_permit = λ p link i w r. cc;
+  no_resubscribe = λ p link i w r goes. cc;
+  unpermitted = λ p link w r goes. cc;
+  no_permit = λ p link i w r none. cc;
   no_place = h.no_place;
   seatless = h.seatless;
   no_room = λ p i r. absurd r;
@@ -168,7 +172,7 @@ close_tied b t created halted told why e parting pending ids must is shown mild 
       tries = record { owners = h.tries.owners; greeted = h.tries.greeted; shapes = h.tries.shapes; tried = h.tries.tried; untried = h.tries.untried };
       lines = close_lines b.story t.requests (link_in t.life) t.waiting t.admitted pending t.started ids h.lines;
       told = λ n. cc;
-      waits = ended_waits b.story t.requests t.life e t.fresh t.moved h.waits;
+      waits = ended_waits b.story t.requests t.again t.life e t.fresh t.moved h.waits;
       permits = h.permits;
       rounds = rounds_down b.story t.requests t.fresh t.fresh refl h.rounds;
       early = λ up over. cc;

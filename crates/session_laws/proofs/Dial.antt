@@ -23,6 +23,7 @@ use Rattle.session_laws.proofs.Numbers.{IsIn, Rising, requests_in, rising_right}
 use Rattle.session_laws.proofs.Rounded.{rounds_down}
 use Rattle.session_laws.proofs.Server.{AreSought, HasSaid, NoneRenewed, TiedRenewal, owners_of, setup_owners}
 use Rattle.session_laws.proofs.Tied.{AreAimed, AreQueued, HasCourse, IsAside, IsUse, Inner, Tied, TiedLife, TiedLines, carried, has_ended, is_begun, link_in, no_link, owner_of, owners_each, waiting_ids, whole_link}
+use Rattle.session_laws.proofs.Serving.{unready_serves}
 
 -- the line that its connect is
 abbrev pub asks_line : Book → Line
@@ -96,7 +97,7 @@ dials_tied b t host port last timers timed c aimed bounded =
       life = (refl, life.1, life.2);
       course = (ap (λ m. m + 1) course.0, c.begun, course.2, c.last_is, course.3);
       calm = λ up runs. h.calm (ap has_ended c.rests) runs;
-      early = λ down alive. h.early (ap is_ready c.rests) (ap has_ended c.rests);
+      early = λ down alive. record { unbegun = (h.early (unready_serves t.life t.again (ap is_ready c.rests)) (ap has_ended c.rests)).unbegun; empty = refl };
       rounds = rounds_down b.story t.requests t.fresh (waiting_ids t.waiting) refl h.rounds;
       creation = h.creation;
       creds = record { wanted_is = n.wants; sought = (refl, refl, refl) };
@@ -121,7 +122,8 @@ dials_tied b t host port last timers timed c aimed bounded =
         connect = λ p w e. inl (is_kept p w);
         creds = λ p link w e. cc;
         setup = λ p link u w e. cc;
-        permit = λ p link w e. cc;
+        resubscribe = λ p link w e goes. cc;
+        permit = λ p link w e none. cc;
         place = h.waits.place;
         room = λ p i. absurd i;
         newer = rises;
@@ -133,7 +135,9 @@ dials_tied b t host port last timers timed c aimed bounded =
         ];
         no_creds = λ p link i w e. cc;
         no_setup = λ p link u i w e. cc;
-        no_permit = λ p link i w e. cc;
+        no_resubscribe = λ p link i w e goes. cc;
+        unpermitted = λ p link w e goes. cc;
+        no_permit = λ p link i w e none. cc;
         no_place = h.waits.no_place;
         seatless = h.waits.seatless;
         no_room = λ p i j. absurd j;

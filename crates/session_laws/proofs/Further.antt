@@ -14,6 +14,7 @@ use Rattle.mux_conn.specs.declared.request.Progress.{Progress}
 use Rattle.mux_conn.specs.declared.request.Request.{Request}
 use Rattle.mux_conn.specs.declared.request.Waiting.{Waiting}
 use Rattle.mux_conn.specs.Requests.{is_open as is_open_progress, is_waiting, is_admitted, is_placed, is_open_at, is_waiting_at, is_unbegun_at, is_admitted_at, is_placed_at, if_there, name_or_none, name_at, permits_or_none, permits_at}
+use Rattle.mux_conn.specs.declared.again.Again.{Again}
 use Rattle.mux_conn.specs.declared.life.Life.{Life}
 use Rattle.mux_conn.specs.declared.life.Life.TheVariants.{Resting, Dialing, Ended, Ready, Wanting, SettingUp}
 use Rattle.link_core.specs.Link.{LinkState}
@@ -252,9 +253,9 @@ pub no_wait : (x : Option WaitKind) (kind : WaitKind) → x ≡ None → x ≢ S
 no_wait x kind none e = let no : ◌≡◌ {A = Option WaitKind} None (Some kind) = sym none ∙ e in cc
 
 -- so the waits stay
-pub waits_longer : (table : List (Option Pending)) (story after : ℕ → Story) (requests more : List Request) (life : Life) (fresh later moved : List ℕ) → TiedNames table requests → SameBefore story after (length table) → IsLonger requests more
-    → ((p : ℕ) → IsIn p (awaited_ids (link_in life).queue) → p < length requests) → fresh ≡ [] → IsNext after requests more later → TiedWaits story requests life fresh moved → TiedWaits after more life later moved
-waits_longer table story after requests more life fresh later moved names same longer within no_fresh next h =
+pub waits_longer : (table : List (Option Pending)) (story after : ℕ → Story) (requests more : List Request) (a : Again) (life : Life) (fresh later moved : List ℕ) → TiedNames table requests → SameBefore story after (length table) → IsLonger requests more
+    → ((p : ℕ) → IsIn p (awaited_ids (link_in life).queue) → p < length requests) → fresh ≡ [] → IsNext after requests more later → TiedWaits story requests a life fresh moved → TiedWaits after more a life later moved
+waits_longer table story after requests more a life fresh later moved names same longer within no_fresh next h =
     let still : (p : ℕ) → p < length requests → shown_wait after more p ≡ shown_wait story requests p = λ p l. shown_longer table story after requests more p names same longer l in
     let was : (p : ℕ) → p < length requests → is_waiting_at more p ≡ true → is_waiting_at requests p ≡ true = λ p l w. sym (there_longer is_waiting requests more p longer l) ∙ w in
     let old_one : (p : ℕ) → IsIn p fresh → ⊥ = λ p i. subst (IsIn p) no_fresh i in
@@ -274,8 +275,11 @@ waits_longer table story after requests more life fresh later moved names same l
       setup = λ p link u w r. before_or_new requests more p _
           (λ old. elim (h.setup p link u (was p old w) r) [ inl i ↦ absurd (old_one p i) | inr e ↦ inr (still p old ∙ e) ])
           (λ past. inl (next.shown p w past).1);
-      permit = λ p link w r. before_or_new requests more p _
-          (λ old. elim (h.permit p link (was p old w) r) [ inl i ↦ absurd (old_one p i) | inr e ↦ inr (still p old ∙ e) ])
+      resubscribe = λ p link w r goes. before_or_new requests more p _
+          (λ old. elim (h.resubscribe p link (was p old w) r goes) [ inl i ↦ absurd (old_one p i) | inr e ↦ inr (still p old ∙ e) ])
+          (λ past. inl (next.shown p w past).1);
+      permit = λ p link w r none. before_or_new requests more p _
+          (λ old. elim (h.permit p link (was p old w) r none) [ inl i ↦ absurd (old_one p i) | inr e ↦ inr (still p old ∙ e) ])
           (λ past. inl (next.shown p w past).1);
       place = λ p a. before_or_new requests more p _
           (λ old. elim (h.place p (sym (there_longer is_admitted requests more p longer old) ∙ a)) [ inl i ↦ inl i | inr e ↦ inr (still p old ∙ e) ])
@@ -287,7 +291,11 @@ waits_longer table story after requests more life fresh later moved names same l
       no_connect = λ p i w d. no_wait (shown_wait after more p) wait.Connect (next.shown p w (next.only p i)).0;
       no_creds = λ p link i w r. no_wait (shown_wait after more p) wait.Creds (next.shown p w (next.only p i)).0;
       no_setup = λ p link u i w r. no_wait (shown_wait after more p) wait.Setup (next.shown p w (next.only p i)).0;
-      no_permit = λ p link i w r. no_wait (shown_wait after more p) wait.Permit (next.shown p w (next.only p i)).0;
+      no_resubscribe = λ p link i w r goes. no_wait (shown_wait after more p) wait.Resubscribe (next.shown p w (next.only p i)).0;
+      unpermitted = λ p link w r goes. before_or_new requests more p _
+          (λ old e. h.unpermitted p link (was p old w) r goes (sym (still p old) ∙ e))
+          (λ past. no_wait (shown_wait after more p) wait.Permit (next.shown p w past).0);
+      no_permit = λ p link i w r none. no_wait (shown_wait after more p) wait.Permit (next.shown p w (next.only p i)).0;
       seatless = λ p a. before_or_new requests more p _
           (λ old e. h.seatless p (sym (there_longer is_admitted requests more p longer old) ∙ a) (sym (still p old) ∙ e))
           (λ past. absurd (next.none p (inl a) past));

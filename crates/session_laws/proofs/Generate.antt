@@ -26,9 +26,12 @@ use Rattle.session_laws.proofs.Numbers.{Rising}
 use Rattle.session_laws.proofs.Owes.{ends_told, notices_told}
 use Rattle.session_laws.proofs.Renewals.{down_renewed_due}
 use Rattle.session_laws.proofs.Reopen.{ArePast, HasNoLink, aim_later, at_rest, none_held, use_later}
-use Rattle.session_laws.proofs.Rounded.{unbegun_waits}
+use Rattle.session_laws.proofs.Rounded.{unbegun_waits, early_on}
 use Rattle.session_laws.proofs.Server.{AreSought, HasSaid, NoneRenewed, TiedRenewal}
 use Rattle.session_laws.proofs.Tied.{AreLate, AreQueued, HasCourse, IsAside, IsPacked, Inner, TiedTries, carried, has_ended, whole_link, Tied, TiedLife, TiedLines, TiedManager, TiedPermits, TiedRounds, TiedStory, TiedWaits, no_link, link_in, waiting_ids}
+use Rattle.session_laws.proofs.Repeats.{serves}
+use Rattle.session_laws.proofs.Serving.{unready_serves}
+use Rattle.mux_conn.specs.declared.again.Again.TheVariants as again
 
 -- that one begins of these generations
 manager_begins : (config : Option Config) (generation attempts number : ℕ) (m : Option Generations) → number ≢ 0 → TiedManager config generation attempts m → TiedManager config number 0 (option_map (λ g. begun_with g number) m)
@@ -128,7 +131,8 @@ over_begins b t e number h over untold parting few comes one nobody closed some 
         connect = λ p w x. cc;
         creds = λ p link w x. cc;
         setup = λ p link u w x. cc;
-        permit = λ p link w x. cc;
+        resubscribe = λ p link w x goes. cc;
+        permit = λ p link w x none. cc;
         place = λ p a. absurd (none_admitted p a);
         room = λ p i. absurd i;
         newer = subst (λ ws. Rising 0 (waiting_ids ws) (length t.requests)) (sym nobody) (omega arith);
@@ -137,7 +141,9 @@ over_begins b t e number h over untold parting few comes one nobody closed some 
         no_connect = λ p i w x. cc;
         no_creds = λ p link i w x. cc;
         no_setup = λ p link u i w x. cc;
-        no_permit = λ p link i w x. cc;
+        no_resubscribe = λ p link i w x goes. cc;
+        unpermitted = λ p link w x goes. cc;
+        no_permit = λ p link i w x none. cc;
         no_place = λ p i. absurd i;
         seatless = λ p a. absurd (none_admitted p a);
         no_room = λ p i. absurd i;
@@ -233,11 +239,11 @@ first_begins b t number h rests settled alone still nobody untold parting free f
           (subst (λ (x : Life). TiedLines b.story t.requests (link_in x) t.waiting t.admitted t.pending t.started) rests h.lines)));
       told = λ up. subst (λ (x : Life). AreQueued b.story t.requests t.link (link_in x)) rests (h.told (ap has_ended rests));
       waits =
-          subst (λ ns. TiedWaits b.story t.requests Resting ns []) fresh
-          (subst (λ ns. TiedWaits b.story t.requests Resting t.fresh ns) still
-          (subst (λ (x : Life). TiedWaits b.story t.requests x t.fresh t.moved) rests h.waits));
-      rounds = subst (λ ns. TiedRounds (has_generations b) b.story t.requests false ns t.rounds) fresh (subst (λ (x : Life). TiedRounds (has_generations b) b.story t.requests (is_ready x) t.fresh t.rounds) rests h.rounds);
-      early = λ down alive. h.early (ap is_ready rests) (ap has_ended rests);
+          subst (λ ns. TiedWaits b.story t.requests again.Nothing Resting ns []) fresh
+          (subst (λ ns. TiedWaits b.story t.requests again.Nothing Resting t.fresh ns) still
+          (resting_waits b.story t.requests t.again again.Nothing t.fresh t.moved (subst (λ (x : Life). TiedWaits b.story t.requests t.again x t.fresh t.moved) rests h.waits)));
+      rounds = subst (λ ns. TiedRounds (has_generations b) b.story t.requests false ns t.rounds) fresh (subst (λ (x : Life). TiedRounds (has_generations b) b.story t.requests (serves x t.again) t.fresh t.rounds) rests h.rounds);
+      early = early_on t.requests t.again again.Nothing t.life Resting (unready_serves t.life t.again (ap is_ready rests)) (ap has_ended rests) refl h.early;
       permits = subst (λ k. TiedPermits b.story b.submissions t.requests t.link t.limit k []) free (subst (λ ns. TiedPermits b.story b.submissions t.requests t.link t.limit t.free ns) alone h.permits);
       late = subst (λ ns. AreLate b.story t.requests ns) settled h.late;
     })

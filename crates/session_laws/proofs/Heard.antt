@@ -40,6 +40,8 @@ use Rattle.mux_conn.specs.Connection.{is_ready, is_resting}
 use Rattle.mux_conn.specs.declared.request.Waiting.{Waiting}
 use Rattle.driver_model.specs.declared.action.SourceUse.{SourceUse}
 use Rattle.session_laws.proofs.Repeats.{TiedRepeat, again_hear, down_repeats_not, repeat_alike, serves}
+use Rattle.session_laws.proofs.Serving.{unready_serves}
+use Rattle.mux_conn.specs.declared.again.Again.{Again}
 
 -- what a turn of news does to the ledger of the connection's link
 abbrev pub heard_by : Book → Core → News → Ledger
@@ -72,9 +74,9 @@ pub record Leads (b : Book) (c : Core) (n : News) (life : Life) (pending started
   pub linked : has_ended life ≡ false → TiedLink (carried life c.single.connection.requests) (heard_by b c n) (whole_link life)
   pub lines : TiedLines b.story c.single.connection.requests (link_in life) c.single.connection.waiting c.single.connection.admitted pending started
   pub told : has_ended life ≡ false → AreQueued b.story c.single.connection.requests c.single.link (link_in life)
-  pub waits : TiedWaits b.story c.single.connection.requests life c.single.connection.fresh c.single.connection.moved
-  pub rounds : TiedRounds (has_generations b) b.story c.single.connection.requests (is_ready life) c.single.connection.fresh c.single.connection.rounds
-  pub early : AreEarly c.single.connection.requests life
+  pub waits : TiedWaits b.story c.single.connection.requests c.single.connection.again life c.single.connection.fresh c.single.connection.moved
+  pub rounds : TiedRounds (has_generations b) b.story c.single.connection.requests (serves life c.single.connection.again) c.single.connection.fresh c.single.connection.rounds
+  pub early : AreEarly c.single.connection.requests c.single.connection.again life
   pub notices : PushesAt life (hearing_in b.config) c.single.connection.hears (heard_by b c n)
 
 -- the news by the timers and the sources of the book
@@ -603,18 +605,19 @@ setting_fit c link after was greeting fresh e h k = record {
   wanting = λ x is. cc;
   setup = λ x u is. (let same : after ≡ x = cc in subst (IsFit c.size c.boundary) same k);
   link = λ x is. cc;
-  none = λ n. h.none (λ x r. (let no : SettingUp link was ≡ Ready x = sym e ∙ r in cc));
+  none = λ down. h.none (unready_serves c.life c.again (ap is_ready e));
 }
 
 -- its waits stay as long as it is set up
-pub setting_waits : (story : ℕ → Story) (requests : List Request) (link after : LinkState) (was greeting : Greeting) (fresh moved : List ℕ) → TiedWaits story requests (SettingUp link was) fresh moved → TiedWaits story requests (SettingUp after greeting) fresh moved
-setting_waits story requests link after was greeting fresh moved h = record {
+pub setting_waits : (story : ℕ → Story) (requests : List Request) (a : Again) (link after : LinkState) (was greeting : Greeting) (fresh moved : List ℕ) → TiedWaits story requests a (SettingUp link was) fresh moved → TiedWaits story requests a (SettingUp after greeting) fresh moved
+setting_waits story requests a link after was greeting fresh moved h = record {
   early = h.early;
   backoff = λ p w d. cc;
   connect = λ p w d. cc;
   creds = λ p x w s. cc;
   setup = λ p x u w s. h.setup p link was w refl;
-  permit = λ p x w r. cc;
+  resubscribe = λ p x w r goes. cc;
+  permit = λ p x w r none. cc;
   place = h.place;
   room = λ p i. absurd i;
   newer = h.newer;
@@ -623,7 +626,9 @@ setting_waits story requests link after was greeting fresh moved h = record {
   no_connect = λ p i w d. cc;
   no_creds = λ p x i w s. cc;
   no_setup = λ p x u i w s. h.no_setup p link was i w refl;
-  no_permit = λ p x i w r. cc;
+  no_resubscribe = λ p x i w r goes. cc;
+  unpermitted = λ p x w r goes. cc;
+  no_permit = λ p x i w r none. cc;
   no_place = h.no_place;
   seatless = h.seatless;
   no_room = λ p i r. absurd r;
@@ -637,18 +642,19 @@ wanting_fit c link after e h k = record {
   wanting = λ x is. (let same : after ≡ x = cc in subst (IsFit c.size c.boundary) same k);
   setup = λ x u is. cc;
   link = λ x is. cc;
-  none = λ n. h.none (λ x r. (let no : Wanting link ≡ Ready x = sym e ∙ r in cc));
+  none = λ down. h.none (unready_serves c.life c.again (ap is_ready e));
 }
 
 -- and its waits stay
-pub wanting_waits : (story : ℕ → Story) (requests : List Request) (link after : LinkState) (fresh moved : List ℕ) → TiedWaits story requests (Wanting link) fresh moved → TiedWaits story requests (Wanting after) fresh moved
-wanting_waits story requests link after fresh moved h = record {
+pub wanting_waits : (story : ℕ → Story) (requests : List Request) (a : Again) (link after : LinkState) (fresh moved : List ℕ) → TiedWaits story requests a (Wanting link) fresh moved → TiedWaits story requests a (Wanting after) fresh moved
+wanting_waits story requests a link after fresh moved h = record {
   early = h.early;
   backoff = λ p w d. cc;
   connect = λ p w d. cc;
   creds = λ p x w s. h.creds p link w refl;
   setup = λ p x u w s. cc;
-  permit = λ p x w r. cc;
+  resubscribe = λ p x w r goes. cc;
+  permit = λ p x w r none. cc;
   place = h.place;
   room = λ p i. absurd i;
   newer = h.newer;
@@ -657,7 +663,9 @@ wanting_waits story requests link after fresh moved h = record {
   no_connect = λ p i w d. cc;
   no_creds = λ p x i w s. h.no_creds p link i w refl;
   no_setup = λ p x u i w s. cc;
-  no_permit = λ p x i w r. cc;
+  no_resubscribe = λ p x i w r goes. cc;
+  unpermitted = λ p x w r goes. cc;
+  no_permit = λ p x i w r none. cc;
   no_place = h.no_place;
   seatless = h.seatless;
   no_room = λ p i r. absurd r;

@@ -20,12 +20,13 @@ use Rattle.link_core.specs.Waiting.{is_wanted, without}
 use Rattle.link_laws.specs.Settles.{wanted, awaited_ids}
 use Rattle.mux_conn.specs.declared.act.LinkAct.TheVariants as act
 use Rattle.mux_conn.specs.declared.connection.MultiplexedConnection.{MultiplexedConnection}
+use Rattle.mux_conn.specs.declared.again.Again.{Again}
 use Rattle.mux_conn.specs.declared.life.Life.{Life}
 use Rattle.mux_conn.specs.declared.life.Life.TheVariants.{Resting, Dialing, Wanting, SettingUp, Ready, Ended}
 use Rattle.mux_conn.specs.declared.request.Pending.{Pending}
 use Rattle.mux_conn.specs.declared.request.Request.{Request}
 use Rattle.mux_conn.specs.declared.request.Waiting.{Waiting}
-use Rattle.mux_conn.specs.Connection.{Work, acted, at_life, is_resting}
+use Rattle.mux_conn.specs.Connection.{Work, acted, at_life, is_ready, is_resting}
 use Rattle.mux_conn.specs.Requests.{is_open_at, name_at, permits_at, given_back, with_permits, closed, answered as answered_in}
 use Rattle.mux_conn.specs.declared.request.Progress.TheVariants as progress
 use Rattle.mux_conn.specs.Effects.{cancelled_in, timed_out}
@@ -53,10 +54,12 @@ use Rattle.session_laws.proofs.Settle.{book_of_more, holds_more, seen, trace_of_
 use Rattle.session_laws.proofs.Announce.{announced_sound, first_book, holds_first, turn_of, turned, uses_on, time_still}
 use Rattle.session_laws.proofs.Heard.{silent_applied, still_none, tame_between, hushed_still}
 use Rattle.session_laws.proofs.Cancel.{IsSilent, left_creds, left_fit, left_life, left_link, left_others, left_setup, none_more, queued_apart, silenced_wanted, silent_core, silent_ends, silent_numbers, silent_others, still_dials, still_tied, was_ready, was_setting, was_wanting, without_awaited, without_in, without_others, without_rises, apart_behind, rising_behind, left_renewal, ready_cancelled, left_course, left_notices, early_cancelled, left_stopped, resting_cancelled, still_rests, left_repeat}
+use Rattle.session_laws.proofs.Cancel.{IsSilent, left_creds, left_fit, left_life, left_link, left_others, left_setup, none_more, queued_apart, silenced_wanted, silent_core, silent_ends, silent_numbers, silent_others, still_dials, still_tied, was_ready, was_setting, was_wanting, without_awaited, without_in, without_others, without_rises, apart_behind, rising_behind, left_renewal, serves_cancelled, left_course, left_notices, early_cancelled, left_stopped, resting_cancelled, still_rests}
 use Rattle.driver_model.specs.declared.kind.SessionKind.{SessionKind}
 use Rattle.driver_model.specs.declared.kind.SessionKind.TheVariants as session
 use Rattle.driver_model.specs.Kind.{has_timeouts}
 use Rattle.session_laws.proofs.Said.{IsTame, renoticed}
+use Rattle.session_laws.proofs.Serving.{resting_unready, unready_serves}
 use Rattle.session_laws.proofs.Submit.{or_none}
 use Rattle.session_laws.proofs.Repeats.{repeat_alike}
 
@@ -235,9 +238,9 @@ late_told story requests number life p o h up = by_life life h up
     by_life (Ended e) g f = cc
 
 -- the waits that were shown
-late_waits : (story : ℕ → Story) (requests : List Request) (m : ℕ) (life : Life) (p : ℕ) (ys fresh moved : List ℕ) → Rising 0 (queue_ids (link_in life).queue ++ ys) (length requests) → TiedWaits story requests life fresh moved
-    → TiedWaits (fires_at m story) requests (cancelled_in life p) fresh moved
-late_waits story requests m life p ys fresh moved line h =
+late_waits : (story : ℕ → Story) (requests : List Request) (m : ℕ) (a : Again) (life : Life) (p : ℕ) (ys fresh moved : List ℕ) → Rising 0 (queue_ids (link_in life).queue ++ ys) (length requests) → TiedWaits story requests a life fresh moved
+    → TiedWaits (fires_at m story) requests a (cancelled_in life p) fresh moved
+late_waits story requests m a life p ys fresh moved line h =
     let after = fires_at m story in
     let same : (q : ℕ) → shown_wait after requests q ≡ shown_wait story requests q = λ q. (fired_at m story (name_at requests q)).waiting in
     let dials = still_dials life p in
@@ -252,7 +255,8 @@ late_waits story requests m life p ys fresh moved line h =
       connect = λ q w d. elim (h.connect q w (dials d)) [ inl i ↦ inl i | inr e ↦ inr (same q ∙ e) ];
       creds = λ q link w r. let x = wants link r in elim (h.creds q x.0 w x.1) [ inl i ↦ inl i | inr e ↦ inr (same q ∙ e) ];
       setup = λ q link u w r. let x = sets link u r in elim (h.setup q x.0 u w x.1) [ inl i ↦ inl i | inr e ↦ inr (same q ∙ e) ];
-      permit = λ q link w r. let x = ready link r in elim (h.permit q x.0 w x.1) [ inl i ↦ inl i | inr e ↦ inr (same q ∙ e) ];
+      resubscribe = λ q link w r goes. let x = ready link r in elim (h.resubscribe q x.0 w x.1 goes) [ inl i ↦ inl i | inr e ↦ inr (same q ∙ e) ];
+      permit = λ q link w r none. let x = ready link r in elim (h.permit q x.0 w x.1 none) [ inl i ↦ inl i | inr e ↦ inr (same q ∙ e) ];
       place = λ q a. elim (h.place q a) [ inl i ↦ inl i | inr e ↦ inr (same q ∙ e) ];
       room = λ q r. elim (h.room q (others q r).2) [ inl i ↦ inl i | inr e ↦ inr (same q ∙ e) ];
       newer = h.newer;
@@ -261,7 +265,9 @@ late_waits story requests m life p ys fresh moved line h =
       no_connect = λ q i w d e. h.no_connect q i w (dials d) (sym (same q) ∙ e);
       no_creds = λ q link i w r e. let x = wants link r in h.no_creds q x.0 i w x.1 (sym (same q) ∙ e);
       no_setup = λ q link u i w r e. let x = sets link u r in h.no_setup q x.0 u i w x.1 (sym (same q) ∙ e);
-      no_permit = λ q link i w r e. let x = ready link r in h.no_permit q x.0 i w x.1 (sym (same q) ∙ e);
+      no_resubscribe = λ q link i w r goes e. let x = ready link r in h.no_resubscribe q x.0 i w x.1 goes (sym (same q) ∙ e);
+      unpermitted = λ q link w r goes e. let x = ready link r in h.unpermitted q x.0 w x.1 goes (sym (same q) ∙ e);
+      no_permit = λ q link i w r none e. let x = ready link r in h.no_permit q x.0 i w x.1 none (sym (same q) ∙ e);
       no_place = λ q i a e. h.no_place q i a (sym (same q) ∙ e);
       seatless = λ q a e. h.seatless q a (sym (same q) ∙ e);
       no_room = λ q i r e. h.no_room q i (others q r).2 (sym (same q) ∙ e);
@@ -325,10 +331,10 @@ late_tied b c started word n p h tame is o =
           (record { owners = h.tries.owners; greeted = h.tries.greeted; shapes = h.tries.shapes; tried = h.tries.tried; untried = h.tries.untried });
       lines = late_lines_in m b.story conn.requests conn.life conn.waiting conn.admitted p started (request_not b (inner c started) p h l) h.lines;
       told = late_told b.story conn.requests c.single.link conn.life p asked h.told;
-      waits = late_waits b.story conn.requests m conn.life p kept conn.fresh conn.moved line h.waits;
+      waits = late_waits b.story conn.requests m conn.again conn.life p kept conn.fresh conn.moved line h.waits;
       permits = subst (λ k. TiedPermits after k conn.requests c.single.link conn.limit conn.free []) (none_more b.submissions) (permits_same b.story after b.submissions conn.requests c.single.link conn.limit conn.free [] (λ k. (fired_at m b.story k).holds) h.permits);
-      rounds = subst (λ x. TiedRounds (has_generations b) after conn.requests x conn.fresh conn.rounds) (sym (ready_cancelled conn.life p)) (rounds_same b.story after conn.requests conn.fresh (fires_rounds m b.story) h.rounds);
-      early = early_cancelled conn.requests conn.life p h.early;
+      rounds = subst (λ x. TiedRounds (has_generations b) after conn.requests x conn.fresh conn.rounds) (sym (serves_cancelled conn.life conn.again p)) (rounds_same b.story after conn.requests conn.fresh (fires_rounds m b.story) h.rounds);
+      early = early_cancelled conn.requests conn.again conn.life p h.early;
       late = λ k open_k late_k. by_test (p == k) _
           (λ e. inl (eq_from p k e))
           (λ f.
@@ -400,7 +406,7 @@ open_alive before c started p h o = by_life c.single.connection.life refl
     by_life (Ended x) e =
         let b = book before in
         let t = inner c started in
-        let none : kept_ids conn.admitted conn.waiting ≡ [] = λ i. kept_ids (h.fit.none (λ link r. (let no : Ended x ≡ Ready link = sym e ∙ r in cc)) i) (h.still.none_waits (ap has_ended e) i) in
+        let none : kept_ids conn.admitted conn.waiting ≡ [] = λ i. kept_ids (h.fit.none (unready_serves conn.life conn.again (ap is_ready e)) i) (h.still.none_waits (ap has_ended e) i) in
         absurd (none_open b t (Ended x) (name_at conn.requests p) refl h.sound.tied refl e none ((request_story b t p h.sound.tied (open_within conn.requests p o)).open_is ∙ o))
 
 -- and where the connection has none, it was not shut down
@@ -419,7 +425,7 @@ open_awake before c started p h o rests = by_test c.shut _
     conn = c.single.connection
 
     nobody : conn.admitted ≡ []
-    nobody = h.fit.none (λ link r. not_both (is_resting conn.life) (ap is_resting r) rests)
+    nobody = h.fit.none (unready_serves conn.life conn.again (resting_unready conn.life rests))
 
     stopped : (life : Life) → is_resting life ≡ true → IsStopped life conn.waiting → conn.waiting ≡ []
     stopped Resting z k = k

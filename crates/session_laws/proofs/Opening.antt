@@ -40,6 +40,8 @@ use Rattle.driver_model.specs.Hearing.{is_watching}
 use Rattle.driver_model.specs.declared.hearing.Hearing.{Hearing}
 use Rattle.driver_model.proofs.Sound.{has_address, is_roomy}
 use Rattle.session_laws.proofs.Numbers.{IsIn}
+use Rattle.mux_conn.specs.declared.again.Again.{Again}
+use Rattle.mux_conn.specs.declared.again.Again.TheVariants as again
 use Rattle.mux_conn.specs.declared.life.Life.{Life}
 use Rattle.link_core.specs.Link.{LinkState}
 use Rattle.link_laws.specs.Settles.{awaited_ids}
@@ -158,14 +160,15 @@ pub opening_lines : TiedLines (λ n. blank_story) [] no_link [] [] [] []
 opening_lines = record { line = omega arith; queued = tt; entries = tt; packs = tt; packed_in = tt; there = λ p e. cc }
 
 -- its waits
-pub opening_waits : (life : Life) → link_in life ≡ no_link → TiedWaits (λ n. blank_story) [] life [] []
-opening_waits life bare = record {
+pub opening_waits : (a : Again) (life : Life) → link_in life ≡ no_link → TiedWaits (λ n. blank_story) [] a life [] []
+opening_waits a life bare = record {
   early = λ p w. cc;
   backoff = λ p w e. cc;
   connect = λ p w e. cc;
   creds = λ p link w e. cc;
   setup = λ p link u w e. cc;
-  permit = λ p link w e. cc;
+  resubscribe = λ p link w e goes. cc;
+  permit = λ p link w e none. cc;
   place = λ p a. cc;
   room = λ p i. absurd (subst (λ (x : LinkState). IsIn p (awaited_ids x.queue)) bare i);
   newer = omega arith;
@@ -174,6 +177,8 @@ opening_waits life bare = record {
   no_connect = λ p i. absurd i;
   no_creds = λ p link i. absurd i;
   no_setup = λ p link u i. absurd i;
+  no_resubscribe = λ p link i. absurd i;
+  unpermitted = λ p link w e goes. cc;
   no_permit = λ p link i. absurd i;
   no_place = λ p i. absurd i;
   seatless = λ p a e. cc a;
@@ -229,10 +234,10 @@ opening_tied config word info timeout plain sound some is = record {
   tries = opening_tries ((opened config word info (connect_timers timeout)).link first_link) refl;
   lines = opening_lines;
   told = λ e. record { told = λ n is none on. cc; here = λ p i. absurd i };
-  waits = opening_waits Dialing refl;
+  waits = opening_waits again.Nothing Dialing refl;
   permits = opening_permits (permits config);
   rounds = record { rounds_is = ap is_some (no_settings config plain); unbegun = λ p u. cc; begun = λ p r o u. cc; new = λ p r up u. cc };
-  early = λ unready alive p o. cc;
+  early = λ unserved alive. record { unbegun = λ p o. cc; empty = refl };
   late = λ p o e. cc;
 }
 

@@ -37,7 +37,7 @@ use Rattle.legal_trace.specs.Book.{Book, book, entered, hearing_in, has_generati
 use Rattle.legal_trace.specs.Owed.{owed}
 use Rattle.session_laws.proofs.Numbers.{IsIn, Rising, requests_in, requests_in-append}
 use Rattle.session_laws.proofs.Server.{TiedSetup, AreRenewed, AreSought, IsSetUp, TiedRenewal, on_link, hearing_there}
-use Rattle.session_laws.proofs.Tied.{inner, link_in, owner_of, queue_ids, IsEntry, TiedLines, AreQueued, TiedWaits, has_ended, Tied, Sound, TiedRounds, HasCourse}
+use Rattle.session_laws.proofs.Tied.{inner, link_in, owner_of, queue_ids, IsEntry, TiedLines, AreQueued, TiedWaits, has_ended, Tied, Sound, TiedRounds, HasCourse, AreEarly}
 use Rattle.session_laws.proofs.SetUp.{set_up_hears}
 use Rattle.legal_trace.proofs.Setups.{ends_where_set}
 use Rattle.legal_trace.proofs.Came.{Came, bytes_are}
@@ -67,6 +67,7 @@ use Rattle.driver_model.specs.declared.hearing.Hearing.{Hearing}
 use Rattle.driver_model.specs.declared.hearing.Hearing.TheVariants as hearing
 use Rattle.driver_model.specs.declared.news.LinkFault.{LinkFault}
 use Rattle.driver_model.specs.Hearing.{felt, hears_something}
+use Rattle.session_laws.proofs.Repeats.{serves}
 
 -- values that are taken leave entries as they are, but for what they got
 taken_entries : (requests : List Request) (h : Hearing) (d : Dealing) (vs : List Data) → AllByRecursion (IsEntry requests) d.row → AllByRecursion (IsEntry requests) (taken_each h true d vs).row
@@ -225,9 +226,9 @@ read_begins before c started word kind piece link untold h good k is e it r came
       linked = λ n. r.tied;
       lines = read_lines b.story conn.requests conn.hears link piece conn.waiting conn.admitted started lines;
       told = λ n. subst (λ (x : Life). AreQueued b.story conn.requests c.single.link (link_in x)) e (h0.told (ap has_ended e));
-      waits = queue_waits b.story conn.requests link read conn.fresh conn.moved (λ p i. i) (subst (λ (x : Life). TiedWaits b.story conn.requests x conn.fresh conn.moved) e h0.waits);
-      rounds = subst (λ (x : Life). TiedRounds (has_generations b) b.story c.single.connection.requests (is_ready x) c.single.connection.fresh c.single.connection.rounds) e h.sound.tied.rounds;
-      early = λ up. cc;
+      waits = queue_waits b.story conn.requests conn.again link read conn.fresh conn.moved (λ p i. i) (subst (λ (x : Life). TiedWaits b.story conn.requests conn.again x conn.fresh conn.moved) e h0.waits);
+      rounds = subst (λ (x : Life). TiedRounds (has_generations b) b.story c.single.connection.requests (serves x c.single.connection.again) c.single.connection.fresh c.single.connection.rounds) e h.sound.tied.rounds;
+      early = λ unserved alive. (let k = subst (AreEarly conn.requests conn.again) e h0.early unserved alive in record { unbegun = k.unbegun; empty = k.empty });
       notices = heard_notices l piece it (hearing_in b.config) conn.hears r.heard untold u.up r.notices came_so (notices_there b c started (ap is_resting e) h0);
     }) in
     let book_is : entered b (turn_of c word kind) ≡ heard_book b c.turns word kind = turn_is b c.turns word kind (book_kind b c kind h0.numbers.timers k) in

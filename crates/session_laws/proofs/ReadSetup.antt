@@ -49,7 +49,7 @@ use Rattle.legal_trace.specs.Owed.{owed}
 use Rattle.legal_trace.proofs.Came.{Came, bytes_are}
 use Rattle.legal_trace.proofs.Monitors.{unwatched}
 use Rattle.legal_trace.proofs.Setups.{AreSetups as SetUpsAre, ends_where_set, greeted_more, set_is_greeted}
-use Rattle.session_laws.proofs.Rounded.{rounds_down}
+use Rattle.session_laws.proofs.Rounded.{rounds_down, early_on}
 use Rattle.session_laws.proofs.Announce.{IsNewsKind, turn_of, turned, asked_hear}
 use Rattle.session_laws.proofs.Close.{HasEnded, ended_applied, parted_moved}
 use Rattle.session_laws.proofs.ComeUp.{IsEarly, IsMade, IsReadied, IsShownReady, made_conn, made_is, made_of, makes_ready}
@@ -74,6 +74,7 @@ use Rattle.session_laws.proofs.Server.{IsGreeting, IsSetUp, IsSettingUp, IsSetup
 use Rattle.session_laws.proofs.Tied.{AreQueued, TiedLife, TiedLines, TiedWaits, greeter, has_ended, inner, link_in, owner_of, AreEarly, HasCourse}
 use Rattle.session_laws.proofs.Told.{retells, well_told}
 use Rattle.driver_model.specs.declared.news.LinkFault.{LinkFault}
+use Rattle.session_laws.proofs.Serving.{unready_serves}
 
 -- notices that all stand behind some message
 behind_all : (ps : List NoticeAt) → AllByRecursion IsBehind ps → behind_first ps ≡ ps
@@ -268,9 +269,9 @@ setup_read_as before c started word kind piece link greeting g h good k is e = b
           linked = λ z. subst (λ (y : Ledger). TiedLink (λ p. greeter now) y next) (sym same) tied_next;
           lines = subst (λ (x : Life). TiedLines b.story conn.requests (link_in x) conn.waiting conn.admitted [] started) e h.sound.tied.lines;
           told = λ z. subst (λ (x : Life). AreQueued b.story conn.requests c.single.link (link_in x)) e (h.sound.tied.told (ap has_ended e));
-          waits = setting_waits b.story conn.requests link next greeting now conn.fresh conn.moved (subst (λ (x : Life). TiedWaits b.story conn.requests x conn.fresh conn.moved) e h.sound.tied.waits);
+          waits = setting_waits b.story conn.requests conn.again link next greeting now conn.fresh conn.moved (subst (λ (x : Life). TiedWaits b.story conn.requests conn.again x conn.fresh conn.moved) e h.sound.tied.waits);
           rounds = rounds_down b.story c.single.connection.requests c.single.connection.fresh c.single.connection.fresh refl h.sound.tied.rounds;
-          early = subst (AreEarly c.single.connection.requests) e h.sound.tied.early;
+          early = early_on conn.requests conn.again conn.again conn.life (SettingUp next now) (unready_serves conn.life conn.again (ap is_ready e)) (ap has_ended e) refl h.sound.tied.early;
           notices = subst (λ (y : Ledger). PushesOf (hearing_in b.config) conn.hears y) (sym same) (quiet r);
         })
         (ap ending same ∙ ending_setting after next now s.up said ∙ left_if (is_unreadable after) _ None (unreadable r false f))

@@ -24,7 +24,7 @@ use Rattle.shared_session.specs.Turn.{with_work, is_bad}
 use Rattle.legal_trace.specs.Ledger.{Ledger, by_opening, bytes_came, ending, is_set_up, is_unreadable}
 use Rattle.legal_trace.specs.Book.{Book, book, hearing_in}
 use Rattle.legal_trace.proofs.Came.{Came, bytes_are}
-use Rattle.session_laws.proofs.Rounded.{rounds_down}
+use Rattle.session_laws.proofs.Rounded.{rounds_down, early_on}
 use Rattle.session_laws.proofs.Server.{TiedCreds, TiedSetup, on_link}
 use Rattle.session_laws.proofs.Tied.{AreQueued, TiedLife, TiedLines, TiedWaits, has_ended, inner, link_in, AreEarly, HasCourse, Inner, Tied}
 use Rattle.session_laws.proofs.Creds.{asked_sourced}
@@ -40,6 +40,7 @@ use Rattle.session_laws.proofs.HeardBytes.{quiet_notices, unset_unreadable}
 use Rattle.session_laws.proofs.More.{after_came, after_is}
 use Rattle.session_laws.proofs.Renewals.{early_renewal}
 use Rattle.session_laws.proofs.SetUp.{lacking_unset}
+use Rattle.session_laws.proofs.Serving.{unready_serves}
 
 -- the course of its link
 on_way : (b : Book) (t : Inner) (link : LinkState) → t.life ≡ Wanting link → Tied b t → HasCourse (b.link t.link).last (b.link t.link).end t.links t.link t.shut t.manager t.last t.opened t.info t.address (Wanting link)
@@ -138,9 +139,9 @@ wanting_reads before c started word kind piece link h good k is e it =
           linked = λ z. subst (λ (y : Ledger). TiedLink name y read) (sym same) quiet.of.tied;
           lines = subst (λ (x : Life). TiedLines b.story c.single.connection.requests (link_in x) c.single.connection.waiting c.single.connection.admitted [] started) e h.sound.tied.lines;
           told = λ z. subst (λ (x : Life). AreQueued b.story c.single.connection.requests c.single.link (link_in x)) e (h.sound.tied.told (ap has_ended e));
-          waits = wanting_waits b.story c.single.connection.requests link read c.single.connection.fresh c.single.connection.moved (subst (λ (x : Life). TiedWaits b.story c.single.connection.requests x c.single.connection.fresh c.single.connection.moved) e h.sound.tied.waits);
+          waits = wanting_waits b.story c.single.connection.requests c.single.connection.again link read c.single.connection.fresh c.single.connection.moved (subst (λ (x : Life). TiedWaits b.story c.single.connection.requests c.single.connection.again x c.single.connection.fresh c.single.connection.moved) e h.sound.tied.waits);
           rounds = rounds_down b.story c.single.connection.requests c.single.connection.fresh c.single.connection.fresh refl h.sound.tied.rounds;
-          early = subst (AreEarly c.single.connection.requests) e h.sound.tied.early;
+          early = (let conn = c.single.connection in early_on conn.requests conn.again conn.again conn.life (Wanting read) (unready_serves conn.life conn.again (ap is_ready e)) (ap has_ended e) refl h.sound.tied.early);
           notices = subst (λ (y : Ledger). PushesOf (hearing_in b.config) c.single.connection.hears y) (sym same) notices;
         })
         (ap ending same ∙ must ∙ left_if (is_unreadable after) (Some (by_opening error.Closed)) None (spoiled false f))

@@ -290,7 +290,7 @@ auth_tied b t link c cs due pending waits h =
         ];
       };
       told = λ e. h.told refl;
-      waits = queue_waits b.story t.requests link (begun link q) t.fresh t.moved (λ p i. i) h.waits;
+      waits = queue_waits b.story t.requests t.again link (begun link q) t.fresh t.moved (λ p i. i) h.waits;
       permits = h.permits;
       rounds = h.rounds;
       early = h.early;

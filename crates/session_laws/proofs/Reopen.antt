@@ -52,7 +52,7 @@ pub record HasNoLink (b : Book) (t : Inner) : Type 0 where
   pub untried : (p : ℕ) (r : Request) → slice_get t.requests p ≡ Some r → (b.story r.name).link ≡ t.link → (b.story r.name).tries ≡ []
   pub untold : (n : ℕ) → is_told (b.story n) ≡ true → (b.story n).tries ≡ [] → (b.story n).link ≡ t.link → ⊥
   pub lines : TiedLines b.story t.requests no_link t.waiting [] [] []
-  pub waits : TiedWaits b.story t.requests Resting t.fresh []
+  pub waits : TiedWaits b.story t.requests t.again Resting t.fresh []
   pub rounds : TiedRounds (has_generations b) b.story t.requests false t.fresh t.rounds
   pub early : (p : ℕ) → is_open_at t.requests p ≡ true → is_unbegun_at t.requests p ≡ true
   pub permits : TiedPermits b.story b.submissions t.requests t.link t.limit t.free []
@@ -117,7 +117,7 @@ rest_tied b t h =
       told = λ up. record { told = λ m is none on. absurd (h.untold m is none on); here = λ p i. absurd i };
       waits = h.waits;
       rounds = h.rounds;
-      early = λ down alive p o. h.early p o;
+      early = λ down alive. record { unbegun = h.early; empty = refl };
       permits = h.permits;
       late = h.late;
     }
@@ -262,7 +262,8 @@ rests_tied b t timer ms number h past =
         connect = λ p w e. cc;
         creds = λ p link w e. cc;
         setup = λ p link u w e. cc;
-        permit = λ p link w e. cc;
+        resubscribe = λ p link w e goes. cc;
+        permit = λ p link w e none. cc;
         place = λ p a. absurd (none_admitted p a);
         room = λ p i. absurd i;
         newer = subst (λ ns. Rising 0 ns (length t.requests)) (sym h.fresh) h.lines.line;
@@ -271,7 +272,9 @@ rests_tied b t timer ms number h past =
         no_connect = λ p i w e. cc;
         no_creds = λ p link i w e. cc;
         no_setup = λ p link u i w e. cc;
-        no_permit = λ p link i w e. cc;
+        no_resubscribe = λ p link i w e goes. cc;
+        unpermitted = λ p link w e goes. cc;
+        no_permit = λ p link i w e none. cc;
         no_place = λ p i. absurd i;
         seatless = λ p a. absurd (none_admitted p a);
         no_room = λ p i. absurd i;

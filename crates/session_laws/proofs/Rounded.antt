@@ -109,6 +109,10 @@ early_longer after requests more later a life longer next h unserved alive = rec
   empty = (h unserved alive).empty;
 }
 
+-- where it takes them
+pub early_never : (requests : List Request) (a : Again) (life : Life) → serves life a ≡ true → AreEarly requests a life
+early_never requests a life up down alive = absurd (not_both (serves life a) down up)
+
 -- the link is another one without messages, which doesn't take requests either
 pub early_on : (requests : List Request) (a b : Again) (life after : Life) → serves life a ≡ false → has_ended life ≡ false → (link_in after).queue ≡ [] → AreEarly requests a life → AreEarly requests b after
 early_on requests a b life after unserved alive empty h below goes = record { unbegun = (h unserved alive).unbegun; empty = empty }

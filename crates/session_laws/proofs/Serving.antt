@@ -6,7 +6,8 @@ use Rattle.containers.proofs.Choices.{both_left, both_right}
 use Rattle.mux_conn.specs.declared.again.Again.{Again}
 use Rattle.mux_conn.specs.declared.again.Again.TheVariants as again
 use Rattle.mux_conn.specs.declared.life.Life.{Life}
-use Rattle.mux_conn.specs.Connection.{is_outstanding, is_ready}
+use Rattle.mux_conn.specs.declared.life.Life.TheVariants.{Resting, Dialing, Wanting, SettingUp, Ready, Ended}
+use Rattle.mux_conn.specs.Connection.{is_outstanding, is_ready, is_resting}
 use Rattle.mux_conn.specs.Repeats.{is_to_start}
 use Rattle.session_laws.proofs.Repeats.{serves}
 
@@ -41,3 +42,12 @@ pub to_start_goes : (a : Again) → is_to_start a ≡ true → is_outstanding a 
 to_start_goes again.Nothing e = cc
 to_start_goes (again.Due packed of_shape timed) e = refl
 to_start_goes again.Sent e = cc
+
+-- where there is no link, none is set up
+pub resting_unready : (life : Life) → is_resting life ≡ true → is_ready life ≡ false
+resting_unready Resting e = refl
+resting_unready Dialing e = cc
+resting_unready (Wanting link) e = cc
+resting_unready (SettingUp link greeting) e = cc
+resting_unready (Ready link) e = cc
+resting_unready (Ended x) e = cc

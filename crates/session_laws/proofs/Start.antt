@@ -41,6 +41,8 @@ use Rattle.session_laws.proofs.Server.{owners_of, setup_owners}
 use Rattle.session_laws.proofs.Tied.{AreQueued, Inner, IsEntry, IsQueued, IsRequest, Tied, TiedLines, TiedTries, TiedWaits, owner_of, owners_each, queue_ids, shown_wait, numbers_kept}
 use Rattle.driver_model.specs.Hearing.{is_watching}
 use Rattle.session_laws.proofs.Repeats.{begins_repeated}
+use Rattle.mux_conn.specs.declared.again.Again.{Again}
+use Rattle.session_laws.proofs.Closing.{one_of}
 
 -- the action that its start shows
 abbrev pub start_action : Inner → LinkState → Queued → Action
@@ -235,18 +237,19 @@ abbrev pub LosesWaits : (ℕ → Story) → (ℕ → Story) → Type 0
 LosesWaits f g = (n : ℕ) → ((g n).waiting ≡ None) ⊎ ((g n).waiting ≡ (f n).waiting)
 
 -- what is shown of waits is true still, where it is the same of those that wait for a place and of those in the queue
-pub waits_up : (f g : ℕ → Story) (requests : List Request) (link link' : LinkState) (fresh moved : List ℕ) → LosesWaits f g
+pub waits_up : (f g : ℕ → Story) (requests : List Request) (a : Again) (link link' : LinkState) (fresh moved : List ℕ) → LosesWaits f g
     → ((p : ℕ) → is_waiting_at requests p ≡ true → shown_wait g requests p ≡ shown_wait f requests p)
     → ((p : ℕ) → is_admitted_at requests p ≡ true → shown_wait g requests p ≡ shown_wait f requests p)
     → ((p : ℕ) → IsIn p (awaited_ids link'.queue) → IsIn p (awaited_ids link.queue) × (shown_wait g requests p ≡ shown_wait f requests p))
-    → TiedWaits f requests (Ready link) fresh moved → TiedWaits g requests (Ready link') fresh moved
-waits_up f g requests link link' fresh moved lost waiting admitted queued h = record {
-  early = λ p w. elim (h.early p w) [ inl k ↦ inl (waiting p w ∙ k) | inr k ↦ inr (elim k [ inl x ↦ inl (waiting p w ∙ x) | inr x ↦ inr (elim x [ inl y ↦ inl (waiting p w ∙ y) | inr y ↦ inr (elim y [ inl z ↦ inl (waiting p w ∙ z) | inr z ↦ inr (elim z [ inl v ↦ inl (waiting p w ∙ v) | inr v ↦ inr (waiting p w ∙ v) ]) ]) ]) ]) ];
+    → TiedWaits f requests a (Ready link) fresh moved → TiedWaits g requests a (Ready link') fresh moved
+waits_up f g requests a link link' fresh moved lost waiting admitted queued h = record {
+  early = λ p w. one_of (shown_wait g requests p) (shown_wait f requests p) (waiting p w) (h.early p w);
   backoff = λ p w e. absurd (not_resting link' e);
   connect = λ p w e. absurd (not_dialing link' e);
   creds = λ p l w e. absurd (not_wanting link' l e);
   setup = λ p l u w e. absurd (not_setting link' l u e);
-  permit = λ p l w e. elim (h.permit p link w refl) [ inl i ↦ inl i | inr k ↦ inr (waiting p w ∙ k) ];
+  resubscribe = λ p l w e goes. elim (h.resubscribe p link w refl goes) [ inl i ↦ inl i | inr k ↦ inr (waiting p w ∙ k) ];
+  permit = λ p l w e none. elim (h.permit p link w refl none) [ inl i ↦ inl i | inr k ↦ inr (waiting p w ∙ k) ];
   place = λ p a. elim (h.place p a) [ inl i ↦ inl i | inr k ↦ inr (admitted p a ∙ k) ];
   room = λ p i. let q = queued p i in elim (h.room p q.0) [ inl j ↦ inl j | inr k ↦ inr (q.1 ∙ k) ];
   newer = h.newer;
@@ -255,7 +258,9 @@ waits_up f g requests link link' fresh moved lost waiting admitted queued h = re
   no_connect = λ p i w e. absurd (not_dialing link' e);
   no_creds = λ p l i w e. absurd (not_wanting link' l e);
   no_setup = λ p l u i w e. absurd (not_setting link' l u e);
-  no_permit = λ p l i w e k. h.no_permit p link i w refl (sym (waiting p w) ∙ k);
+  no_resubscribe = λ p l i w e goes k. h.no_resubscribe p link i w refl goes (sym (waiting p w) ∙ k);
+  unpermitted = λ p l w e goes k. h.unpermitted p link w refl goes (sym (waiting p w) ∙ k);
+  no_permit = λ p l i w e none k. h.no_permit p link i w refl none (sym (waiting p w) ∙ k);
   no_place = λ p i a e. h.no_place p i a (sym (admitted p a) ∙ e);
   seatless = λ p a e. h.seatless p a (sym (admitted p a) ∙ e);
   no_room = λ p i j e. let q = queued p j in h.no_room p i q.0 (sym q.1 ∙ e);
@@ -279,14 +284,14 @@ queued_apart b t q h within is a =
 
 -- what is shown of waits is true when the first of the queue has started
 waits_started : (b : Book) (t : Inner) (link : LinkState) (q : Queued) (qs : List Queued) (k l : ℕ) → Tied b (on_link t (with_queue link (q ∷ qs)))
-    → TiedWaits (tried_at (name_at t.requests q.id) k l b.story) t.requests (Ready (with_queue (begun link q) qs)) t.fresh t.moved
+    → TiedWaits (tried_at (name_at t.requests q.id) k l b.story) t.requests t.again (Ready (with_queue (begun link q) qs)) t.fresh t.moved
 waits_started b t link q qs k l h =
     let was = on_link t (with_queue link (q ∷ qs)) in
     let n = name_at t.requests q.id in
     let within = first_within b.story t.requests link t.waiting t.admitted t.started q qs h.lines in
     let other : (p : ℕ) → p < length t.requests → (q.id ≡ p → ⊥) → shown_wait (tried_at n k l b.story) t.requests p ≡ shown_wait b.story t.requests p = λ p inside apart.
     tried_others n k l b.story (name_at t.requests p) (λ e. apart (same_name t.table t.requests q.id p h.names within inside e)) in
-    waits_up b.story (tried_at n k l b.story) t.requests (with_queue link (q ∷ qs)) (with_queue (begun link q) qs) t.fresh t.moved (tried_loses n k l b.story)
+    waits_up b.story (tried_at n k l b.story) t.requests t.again (with_queue link (q ∷ qs)) (with_queue (begun link q) qs) t.fresh t.moved (tried_loses n k l b.story)
     (λ p w. other p (open_within t.requests p (early_open t.requests p w).0) (λ same. queued_apart b was q h within h.lines.queued.0 (early_open t.requests q.id (subst (λ m. is_waiting_at t.requests m ≡ true) (sym same) w))))
     (λ p a. other p (open_within t.requests p (admitted_open t.requests p a).0) (λ same. queued_apart b was q h within h.lines.queued.0 (admitted_open t.requests q.id (subst (λ m. is_admitted_at t.requests m ≡ true) (sym same) a))))
     (λ p i.
@@ -363,6 +368,6 @@ start_tied b t link q qs h =
       waits = waits_started b t link q qs t.link link.started h;
       permits = permits_same b.story (tried_at n t.link link.started b.story) b.submissions t.requests t.link t.limit t.free t.letting (tried_holds n t.link link.started b.story) h.permits;
       rounds = rounds_same b.story (tried_at n t.link link.started b.story) t.requests t.fresh (tried_rounds n t.link link.started b.story) h.rounds;
-      early = h.early;
+      early = λ unserved alive. absurd (let no : q ∷ qs ≡ [] = (h.early unserved alive).empty in cc);
       late = λ p o e. h.late p o (sym (tried_late n t.link link.started b.story (name_at t.requests p)) ∙ e);
     })

@@ -243,7 +243,7 @@ refused_tied b c started word what e h tame form few no_fresh why =
       told = λ up. told_longer c.table b.story after conn.requests conn.requests c.single.link (link_in conn.life) h.names same longer
           (λ u. not_both (is_told (answered (new_story b what) (outcome.Fault e))) (fault_untold (is_awaited (new_story b what)) e) (ap is_told (sym is) ∙ u.0))
           (λ p i. at p (in_right p (requests_in started) (queue ++ last) (in_left p queue last i))) (h.told up);
-      waits = waits_longer c.table b.story after conn.requests conn.requests conn.life conn.fresh conn.fresh conn.moved h.names same longer
+      waits = waits_longer c.table b.story after conn.requests conn.requests conn.again conn.life conn.fresh conn.fresh conn.moved h.names same longer
           (λ p i. at p (in_right p (requests_in started) (queue ++ last) (in_left p queue last (awaited_in p (link_in conn.life).queue i)))) no_fresh
           next h.waits;
       permits = permits_longer c.table b.story after b.submissions conn.requests conn.requests c.single.link conn.limit conn.free conn.fresh h.names same longer h.numbers.submissions (ap (λ (s : Story). s.permits) is) next h.permits;

@@ -64,7 +64,7 @@ write_tied b t link h =
       tries = record { owners = h.tries.owners; greeted = h.tries.greeted; shapes = h.tries.shapes; tried = h.tries.tried; untried = h.tries.untried };
       lines = record { line = h.lines.line; queued = h.lines.queued; entries = h.lines.entries; packs = h.lines.packs; packed_in = h.lines.packed_in; there = h.lines.there };
       told = λ e. h.told refl;
-      waits = queue_waits b.story t.requests link (offered_of link) t.fresh t.moved (λ p i. i) h.waits;
+      waits = queue_waits b.story t.requests t.again link (offered_of link) t.fresh t.moved (λ p i. i) h.waits;
       permits = h.permits;
       rounds = h.rounds;
       early = h.early;
@@ -96,7 +96,7 @@ write_set_tied b t link greeting h =
       tries = record { owners = h.tries.owners; greeted = h.tries.greeted; shapes = h.tries.shapes; tried = h.tries.tried; untried = h.tries.untried };
       lines = record { line = h.lines.line; queued = h.lines.queued; entries = h.lines.entries; packs = h.lines.packs; packed_in = h.lines.packed_in; there = h.lines.there };
       told = λ e. h.told refl;
-      waits = setting_waits b.story t.requests link (offered_of link) greeting greeting t.fresh t.moved h.waits;
+      waits = setting_waits b.story t.requests t.again link (offered_of link) greeting greeting t.fresh t.moved h.waits;
       permits = h.permits;
       rounds = h.rounds;
       early = h.early;
