@@ -36,7 +36,7 @@ use Rattle.session_laws.proofs.Entered.{all_stand-append, book_more, sound_more}
 use Rattle.session_laws.proofs.Names.{there_within, names_asked, submits_unwatched}
 use Rattle.session_laws.proofs.Owes.{started_within}
 use Rattle.session_laws.proofs.Settle.{seen}
-use Rattle.session_laws.proofs.Announce.{aims_longer, aims_on, turn_of, turned, may_turn, uses_on, uses_on, time_still}
+use Rattle.session_laws.proofs.Announce.{aims_longer, aims_on, turn_of, turned, may_turn, uses_on, time_still}
 use Rattle.session_laws.proofs.Heard.{told_life, silent_no_end, silent_applied, still_none, tame_between, hushed_still}
 use Rattle.session_laws.proofs.Said.{setup_on, IsTame, renoticed}
 use Rattle.session_laws.proofs.Further.{one_longer, there_longer, before_or_new, further_story, tries_longer, queue_longer, packs_longer, entries_longer, link_longer, told_longer, IsNext, waits_longer, permits_longer, late_longer}

@@ -11,8 +11,7 @@ use Rattle.driver_model.specs.declared.action.Cause.TheVariants as cause
 use Rattle.driver_model.specs.declared.action.Purpose.{Purpose}
 use Rattle.driver_model.specs.declared.config.Config.{Config}
 use Rattle.driver_model.specs.declared.config.Config.TheVariants as variant
-use Rattle.driver_model.specs.Config.{address, buffer_size, connect_timeout, manager_of, manager_settings, permits}
-use Rattle.driver_model.specs.Config.{is_lazy as waits_for_use}
+use Rattle.driver_model.specs.Config.{address, buffer_size, connect_timeout, manager_of, manager_settings, permits, is_lazy as waits_for_use}
 use Rattle.driver_model.proofs.Sound.{has_address, is_roomy}
 use Rattle.link_laws.proofs.TiedLink.{fresh_tied}
 use Rattle.mux_conn.specs.Effects.{afresh}

@@ -50,7 +50,7 @@ use Rattle.legal_trace.specs.Legal.{NoneEnds}
 use Rattle.session_laws.proofs.Closing.{Closes, WasReady, WasSettingUp, WasWanting, closed_other, late_closed, with_closed, story_closed, tries_closed, packs_closed, queued_other, queue_closed, AreOthers, waits_closed, kept_other, IsUntried, told_closed}
 use Rattle.session_laws.proofs.Answer.{entries_answered}
 use Rattle.session_laws.proofs.Settle.{seen}
-use Rattle.session_laws.proofs.Announce.{aims_on, turn_of, turned, uses_on, uses_on, time_still}
+use Rattle.session_laws.proofs.Announce.{aims_on, turn_of, turned, uses_on, time_still}
 use Rattle.session_laws.proofs.Kept.{tied_by}
 use Rattle.session_laws.proofs.Permits.{permits_closed}
 use Rattle.session_laws.proofs.Heard.{silent_applied, still_none, told_life, silent_no_end, tame_between, hushed_still}
@@ -58,10 +58,8 @@ use Rattle.session_laws.proofs.Said.{carried_tied, setup_on, IsTame, renoticed}
 use Rattle.mux_conn.specs.Connection.{is_outstanding, is_ready, is_resting}
 use Rattle.session_laws.proofs.Comes.{course_later}
 use Rattle.shared_session.specs.declared.generations.Generations.{Generations}
-use Rattle.session_laws.proofs.Repeats.{repeat_alike, TiedRepeat}
+use Rattle.session_laws.proofs.Repeats.{repeat_alike, TiedRepeat, serves}
 use Rattle.sub_tracker.specs.Subscribed.{Request as Call}
-use Rattle.mux_conn.specs.declared.again.Again.{Again}
-use Rattle.session_laws.proofs.Repeats.{repeat_alike, serves}
 use Rattle.session_laws.proofs.Serving.{unready_serves}
 
 -- one who leaves closes its story

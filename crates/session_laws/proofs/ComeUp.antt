@@ -37,7 +37,7 @@ use Rattle.legal_trace.specs.Story.{Story}
 use Rattle.legal_trace.specs.Legal.{AllStand, MayBeCreated, MayNeed}
 use Rattle.legal_trace.proofs.Setups.{ends_where_set, silent_is_set, silent_is_greeted}
 use Rattle.session_laws.proofs.Served.{fresh_rises, numbers_is}
-use Rattle.session_laws.proofs.Rounded.{rounds_down, rounds_new, unbegun_waits}
+use Rattle.session_laws.proofs.Rounded.{rounds_down, rounds_new, unbegun_waits, early_on}
 use Rattle.session_laws.proofs.Server.{AreSetups, HasCredentials, IsSettingUp, IsSetupDue, IsSetUp, AreSought, HasSaid, AreSetupsAlone, IsWatching, greeting_at, owners_of, setup_owners, watch_queued}
 use Rattle.session_laws.proofs.Tied.{shown_creation, Sound, TiedCreation, AreQueued, IsEntry, IsQueued, Inner, Tied, TiedLines, TiedNotices, TiedWaits, has_ended, inner, link_in, no_link, owner_of, queue_ids, shown_wait, waiting_ids, AreUses, is_reading, TiedRounds, is_begun}
 use Rattle.session_laws.proofs.States.{Between, HasApplied, IsFit, IsFitIn}
@@ -58,6 +58,8 @@ use Rattle.mux_conn.specs.declared.life.Greeting.TheVariants as greet
 use Rattle.mux_conn.specs.declared.life.Greeting.{Greeting}
 use Rattle.driver_model.specs.Hearing.{is_watching}
 use Rattle.session_laws.proofs.Comes.{tied_live, tied_unopened}
+use Rattle.session_laws.proofs.Serving.{unready_serves}
+use Rattle.mux_conn.specs.declared.again.Again.{Again}
 
 -- the waits
 --
@@ -98,16 +100,26 @@ shown_early b t p (Ended x) h none e f g w = cc
 same_kind : (a b : WaitKind) → ◌≡◌ {A = Option WaitKind} (Some a) (Some b) → a ≡ b
 same_kind a b e = cc
 
+-- by a life alone nobody waits for what is subscribed again
+not_resubscribing : (life : Life) → early_wait life ≢ wait.Resubscribe
+not_resubscribing Resting same = cc
+not_resubscribing Dialing same = cc
+not_resubscribing (Wanting link) same = cc
+not_resubscribing (SettingUp link greeting) same = cc
+not_resubscribing (Ready link) same = cc
+not_resubscribing (Ended e) same = cc
+
 -- the waits in a life in which something else is waited for, where all that waited are to show theirs anew
 pub fresh_waits : (b : Book) (t : Inner) (life after : Life) → Tied b t → t.pending ≡ [] → t.admitted ≡ [] → t.fresh ≡ [] → t.life ≡ life → link_in life ≡ no_link → is_ready life ≡ false → has_ended life ≡ false → early_wait life ≢ early_wait after → is_resting after ≡ false
-    → (link_in after).queue ≡ [] → TiedWaits b.story t.requests after (numbers_of t.waiting) t.moved
+    → (link_in after).queue ≡ [] → TiedWaits b.story t.requests t.again after (numbers_of t.waiting) t.moved
 fresh_waits b t life after h none nobody no_fresh e bare f g other goes queue = record {
   early = h.waits.early;
   backoff = λ p w d. inl (here p w);
   connect = λ p w d. inl (here p w);
   creds = λ p x w d. inl (here p w);
   setup = λ p x u w d. inl (here p w);
-  permit = λ p x w d. inl (here p w);
+  resubscribe = λ p x w d goes. inl (here p w);
+  permit = λ p x w d none. inl (here p w);
   place = h.waits.place;
   room = λ p i. absurd (subst (λ (qs : List Queued). IsIn p (awaited_ids qs)) queue i);
   newer = fresh_rises b t h;
@@ -116,7 +128,9 @@ fresh_waits b t life after h none nobody no_fresh e bare f g other goes queue = 
   no_connect = λ p i w d. anew p w wait.Connect (ap early_wait d);
   no_creds = λ p x i w d. anew p w wait.Creds (ap early_wait d);
   no_setup = λ p x u i w d. anew p w wait.Setup (ap early_wait d);
-  no_permit = λ p x i w d. anew p w wait.Permit (ap early_wait d);
+  no_resubscribe = λ p x i w d goes shown. not_resubscribing life (same_kind (early_wait life) wait.Resubscribe (sym (shown_early b t p life h no_fresh e f g w) ∙ shown));
+  unpermitted = λ p x w d goes. anew p w wait.Permit (ap early_wait d);
+  no_permit = λ p x i w d none. anew p w wait.Permit (ap early_wait d);
   no_place = h.waits.no_place;
   seatless = h.waits.seatless;
   no_room = λ p i r. absurd (subst (λ (qs : List Queued). IsIn p (awaited_ids qs)) queue r);
@@ -190,7 +204,7 @@ readied_comes b c started n info link untold more created some_created h0 fit no
     let made = facts.made in
     let asked = if more then true else l.creds.asked in
     let renews = if more then l.creds.asked else l.creds.renews in
-    let nobody = fit.none (λ x r. not_both (is_ready conn.life) early.unready (ap is_ready r)) in
+    let nobody = fit.none (unready_serves conn.life conn.again early.unready) in
     let none = none_hears (b.link c.single.link) c.turns n conn.renewal other (early_renewal (b.link c.single.link) conn.renewal conn.life early.unready early.alive h0.renewal) in
     let once : l.creds.renews ≡ false = renews_hear (b.link c.single.link) c.turns n ∙ early_sources (b.link c.single.link).creds conn.life early.unready early.alive h0.creds.sought in
     let said = setup_recredited l asked renews l.creds.renewals l.creds.over l.creds.timed l.creds.lost info started link (record { info_is = facts.info_is; sent = facts.sent; said = made.said }) in
@@ -229,7 +243,7 @@ readied_comes b c started n info link untold more created some_created h0 fit no
       };
       waits = fresh_waits b (inner c started) conn.life (Ready link) h0 refl nobody no_fresh refl early.bare early.unready early.alive early.other refl made.queue;
       rounds = anew_rounds b (inner c started) h0 refl nobody early.bare;
-      early = λ up. cc;
+      early = early_on conn.requests conn.again conn.again conn.life (Ready link) (unready_serves conn.life conn.again early.unready) early.alive made.queue h0.early;
       notices = facts.notices;
     }
 
@@ -439,9 +453,9 @@ made_is w link = by_wanted w.conn.renewal.wanted
     by_wanted false = refl
 
 -- so the event has had its effect, where the link need not end
-pub ready_applied : (front : List Action) (f : Core) (conn : MultiplexedConnection) (link : LinkState) (l : Ledger) (started : List ℕ) → f.turns ≢ 0 → f.shut ≡ false → conn.moved ≡ [] → IsFit conn.size conn.boundary link → ending l ≡ None
+pub ready_applied : (front : List Action) (f : Core) (conn : MultiplexedConnection) (link : LinkState) (l : Ledger) (started : List ℕ) → f.turns ≢ 0 → f.shut ≡ false → conn.admitted ≡ [] → conn.moved ≡ [] → IsFit conn.size conn.boundary link → ending l ≡ None
     → IsShownReady front f (made_ready (record { conn = conn; acts = [] }) link) l [] started → HasApplied front (with_work (record { core = f; acts = [] }) (made_ready (record { conn = conn; acts = [] }) link)) started
-ready_applied front f conn link l started began awake none_moved fit none h =
+ready_applied front f conn link l started began awake nobody none_moved fit none h =
     let first : Work = record { conn = conn; acts = [] } in
     let w = made_ready first link in
     let same = made_conn first link in
@@ -454,7 +468,7 @@ ready_applied front f conn link l started began awake none_moved fit none h =
         wanting = λ x e. cc;
         setup = λ x u e. cc;
         link = λ x e. (let same : link ≡ x = cc in subst (IsFit conn.size conn.boundary) same fit);
-        none = λ none. absurd (none link refl);
+        none = λ down. nobody;
       });
       hushed = λ over. absurd (not_both f.shut awake over);
     }
@@ -507,7 +521,7 @@ comes_ready before c started word kind n info link h good k is other shutless ea
     let silent : says_nothing (setup_steps l 0) ≡ true = says_same l info u.info_is ∙ nothing in
     let said : IsSetUp l = record { well = silent_is_set l (ap is_watching notices.hearing_is ∙ plain) (has_credentials l.creds has) silent; none = λ t. ap setup_count u.starts } in
     let made : IsMade l (book before).created conn.requests link = record { asked = u.asked; up = u.up; alive = u.alive; said = said; tied = u.tied (owner_of conn.requests); queue = u.queue; row = u.row } in
-    ready_applied (before ++ turn_of c word kind ∷ []) (turned c kind) conn link (readied more l) started (λ z. absurd (omega arith)) (going_awake c kind n is shutless early.there early.alive h.hushed) h.moved u.fit (ends_where_set (readied more l) u.up (well_readied more l ∙ said.well) ∙ calm more)
+    ready_applied (before ++ turn_of c word kind ∷ []) (turned c kind) conn link (readied more l) started (λ z. absurd (omega arith)) (going_awake c kind n is shutless early.there early.alive h.hushed) (h.fit.none (unready_serves c.single.connection.life c.single.connection.again early.unready)) h.moved u.fit (ends_where_set (readied more l) u.up (well_readied more l ∙ said.well) ∙ calm more)
     (makes_ready before c started word kind n info link [] h good k is other early (record { info_is = u.info_is; sent = u.sent; wanted_is = u.wanted_is; has = has; made = made; notices = notices }))
 
 -- on a link on which nothing has started setups stand alone
@@ -531,7 +545,7 @@ comes_to_say before c started word kind n info link h good k is other shutless e
     let given : lacks_credentials l ≡ false = has_credentials l.creds has in
     let says : says_nothing (setup_steps l 0) ≡ false = says_same l info u.info_is ∙ something in
     let count : setup_count l.starts ≡ 0 = ap setup_count u.starts in
-    let nobody = h.fit.none (λ x r. not_both (is_ready conn.life) early.unready (ap is_ready r)) in
+    let nobody = h.fit.none (unready_serves conn.life conn.again early.unready) in
     let due : IsSetupDue l next greet.WithUser = record {
       due = subst (λ m. setup_after l m ≡ Some m) (sym count) (left_if (lacks_credentials l || says_nothing (setup_steps l 0)) None (Some 0) (λ i. given i || says i));
       user = subst (λ m. greet.WithUser ≡ greeting_at m) (sym count) refl;
@@ -562,7 +576,7 @@ comes_to_say before c started word kind n info link h good k is other shutless e
       told = λ z. subst (λ (x : LinkState). AreQueued b.story conn.requests c.single.link x) early.bare (h0.told early.alive);
       waits = fresh_waits b (inner c started) conn.life life h0 refl nobody h.fresh refl early.bare early.unready early.alive early.other refl refl;
       rounds = rounds_down b.story conn.requests conn.fresh (numbers_of conn.waiting) refl h0.rounds;
-      early = λ unready alive. h0.early early.unready early.alive;
+      early = early_on conn.requests conn.again conn.again conn.life life (unready_serves conn.life conn.again early.unready) early.alive refl h0.early;
       notices = notices;
     })
     (ending_setting l next greet.WithUser u.up said ∙ calm)
@@ -575,14 +589,15 @@ comes_to_say before c started word kind n info link h good k is other shutless e
     (hushed_there c kind n life is shutless early.there early.alive h.hushed)
 
 -- where there are no requests nobody waits
-none_wait : (story : ℕ → Story) (requests : List Request) (life : Life) (link : LinkState) (greeting : Greeting) (fresh moved : List ℕ) → requests ≡ [] → TiedWaits story requests life fresh moved → TiedWaits story requests (SettingUp link greeting) fresh moved
-none_wait story requests life link greeting fresh moved empty h = record {
+none_wait : (story : ℕ → Story) (requests : List Request) (a : Again) (life : Life) (link : LinkState) (greeting : Greeting) (fresh moved : List ℕ) → requests ≡ [] → TiedWaits story requests a life fresh moved → TiedWaits story requests a (SettingUp link greeting) fresh moved
+none_wait story requests a life link greeting fresh moved empty h = record {
   early = h.early;
   backoff = λ p w d. absurd (nobody p w);
   connect = λ p w d. absurd (nobody p w);
   creds = λ p x w d. absurd (nobody p w);
   setup = λ p x u w d. absurd (nobody p w);
-  permit = λ p x w d. absurd (nobody p w);
+  resubscribe = λ p x w d goes. absurd (nobody p w);
+  permit = λ p x w d none. absurd (nobody p w);
   place = h.place;
   room = λ p i. absurd i;
   newer = h.newer;
@@ -591,7 +606,9 @@ none_wait story requests life link greeting fresh moved empty h = record {
   no_connect = λ p i w d. absurd (nobody p w);
   no_creds = λ p x i w d. absurd (nobody p w);
   no_setup = λ p x u i w d. absurd (nobody p w);
-  no_permit = λ p x i w d. absurd (nobody p w);
+  no_resubscribe = λ p x i w d goes. absurd (nobody p w);
+  unpermitted = λ p x w d goes. absurd (nobody p w);
+  no_permit = λ p x i w d none. absurd (nobody p w);
   no_place = h.no_place;
   seatless = h.seatless;
   no_room = λ p i j. absurd j;
@@ -619,7 +636,7 @@ comes_to_watch before c started word kind n info link h good k is other shutless
     let life = SettingUp next greet.Monitor in
     let silent : says_nothing (setup_steps l 0) ≡ true = says_same l info u.info_is ∙ nothing in
     let count : setup_count l.starts ≡ 0 = ap setup_count u.starts in
-    let nobody = h.fit.none (λ x r. not_both (is_ready conn.life) early.unready (ap is_ready r)) in
+    let nobody = h.fit.none (unready_serves conn.life conn.again early.unready) in
     let said : IsWatching l next = record {
       watches = ap is_watching notices.hearing_is ∙ watches;
       greeted = silent_is_greeted l (has_credentials l.creds has) silent;
@@ -647,9 +664,9 @@ comes_to_watch before c started word kind n info link h good k is other shutless
       linked = λ z. enqueued_tied _ l link watch_queued (u.tied _);
       lines = subst (λ (x : LinkState). TiedLines b.story conn.requests x conn.waiting conn.admitted [] started) early.bare h0.lines;
       told = λ z. subst (λ (x : LinkState). AreQueued b.story conn.requests c.single.link x) early.bare (h0.told early.alive);
-      waits = none_wait b.story conn.requests conn.life next greet.Monitor conn.fresh conn.moved (none_asked b (inner c started) h0 watches) h0.waits;
+      waits = none_wait b.story conn.requests conn.again conn.life next greet.Monitor conn.fresh conn.moved (none_asked b (inner c started) h0 watches) h0.waits;
       rounds = rounds_down b.story conn.requests conn.fresh conn.fresh refl h0.rounds;
-      early = λ unready alive. h0.early early.unready early.alive;
+      early = early_on conn.requests conn.again conn.again conn.life life (unready_serves conn.life conn.again early.unready) early.alive refl h0.early;
       notices = notices;
     })
     (ending_setting l next greet.Monitor u.up said ∙ calm)

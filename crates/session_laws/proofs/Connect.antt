@@ -28,7 +28,7 @@ use Rattle.legal_trace.specs.Owed.{owed_by}
 use Rattle.legal_trace.specs.Ledger.{Ledger, hears, lacks_credentials, noted, noted_each, ending, ending_alive, is_over, by_opening, ends, dials, refused_in, failure_in, failure_of, source_due, sources, is_set_up, ending_asked, lasting, renewal_count}
 use Rattle.legal_trace.specs.Book.{Book, blank_book, book, entered, if_mine, use_for, hearing_in}
 use Rattle.legal_trace.specs.Legal.{AllStand, MayNeed, is_attempt, is_by_attempt}
-use Rattle.session_laws.proofs.Rounded.{rounds_down}
+use Rattle.session_laws.proofs.Rounded.{rounds_down, early_on}
 use Rattle.session_laws.proofs.Aside.{unfailed, not_up_ends}
 use Rattle.session_laws.proofs.Server.{AreSought, HasSaid, on_link, hearing_there}
 use Rattle.session_laws.proofs.Tied.{shown_creation, AreQueued, inner, no_link, link_in, carried, whole_link, owner_of, Tied, TiedLife, TiedLines, has_ended, AreUses, IsOver}
@@ -52,6 +52,7 @@ use Rattle.redis_error.specs.declared.redis_error.RedisError.{RedisError}
 use Rattle.session_laws.proofs.Comes.{tied_live, tied_unopened, resting_down}
 use Rattle.session_laws.proofs.Retire.{IsAttempted, retires, closed_retires}
 use Rattle.session_laws.proofs.Owes.{get_behind}
+use Rattle.session_laws.proofs.Serving.{unready_serves}
 
 -- news of no account
 --
@@ -153,7 +154,7 @@ connected_wants before c started word kind h good k is e wants =
     let now = heard_book b c.turns word kind in
     let shown = action.NeedCreds (length c.sources) mine in
     let early = early_dialing conn.life wait.Creds e (λ same. cc) in
-    let nobody = h.fit.none (λ x r. (let no : Dialing ≡ Ready x = sym e ∙ r in cc)) in
+    let nobody = h.fit.none (unready_serves conn.life conn.again (ap is_ready e)) in
     let live = tied_live b (inner c started) h0 early.there early.alive in
     let same = connects l0 c.turns (ap is_some (subst (λ (x : Life). TiedLife l0 b.created x) e h0.life).2) in
     let sought = subst (λ (x : Life). AreSought l0.creds x) e h0.creds.sought in
@@ -190,7 +191,7 @@ connected_wants before c started word kind h good k is e wants =
       told = λ z. subst (λ (x : LinkState). AreQueued b.story conn.requests c.single.link x) early.bare (h0.told early.alive);
       waits = fresh_waits b (inner c started) conn.life life h0 refl nobody h.fresh refl early.bare early.unready early.alive early.other refl refl;
       rounds = rounds_down b.story conn.requests conn.fresh ns refl h0.rounds;
-      early = λ unready alive. h0.early early.unready early.alive;
+      early = early_on conn.requests conn.again conn.again conn.life life (unready_serves conn.life conn.again early.unready) early.alive refl h0.early;
       notices = pushes_there conn.life Dialing (hearing_in b.config) conn.hears l e (pushes_still before c started connected h (inl tt));
     }) in
     let may : MayNeed now (length c.sources) mine = record {

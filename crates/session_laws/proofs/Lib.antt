@@ -28,6 +28,7 @@ pub mod Start
 pub mod Moves
 pub mod Ahead
 pub mod Repeating
+pub mod RepeatsDue
 pub mod Going
 pub mod Starts
 pub mod Place

@@ -5,7 +5,7 @@ use Rattle.std.proofs.lemmas.List.{length_push}
 use Rattle.containers.proofs.Choices.{by_test, chosen, taken_if, left_if, not_both, eq_from, ne_from, lt_from, not_lt_from, eq_test}
 use Rattle.driver_model.specs.declared.action.Owner.{Owner}
 use Rattle.driver_model.specs.declared.action.Owner.TheVariants as owner
-use Rattle.legal_trace.specs.Ledger.{is_of_setup}
+use Rattle.legal_trace.specs.Ledger.{is_of_setup, Ledger}
 use Rattle.link_laws.proofs.Lists.{get_before, get_last}
 use Rattle.mux_conn.specs.declared.request.Pending.{Pending}
 use Rattle.mux_conn.specs.declared.request.Progress.{Progress}
@@ -16,7 +16,6 @@ use Rattle.legal_trace.specs.Book.{Book, hearing_in, kind_in}
 use Rattle.mux_conn.specs.Connection.{is_resting}
 use Rattle.mux_conn.specs.declared.life.Life.{Life}
 use Rattle.mux_conn.specs.declared.life.Life.TheVariants.{Resting, Dialing, Wanting, SettingUp, Ready, Ended}
-use Rattle.legal_trace.specs.Ledger.{Ledger}
 use Rattle.session_laws.proofs.Server.{hearing_on}
 use Rattle.session_laws.proofs.Tied.{owner_of, Inner, Tied, TiedLife, TiedNames, own_owner}
 use Rattle.driver_model.specs.Hearing.{is_watching}

@@ -68,6 +68,7 @@ use Rattle.driver_model.specs.declared.hearing.Hearing.TheVariants as hearing
 use Rattle.driver_model.specs.declared.news.LinkFault.{LinkFault}
 use Rattle.driver_model.specs.Hearing.{felt, hears_something}
 use Rattle.session_laws.proofs.Repeats.{serves}
+use Rattle.session_laws.proofs.Serving.{unserved_before}
 
 -- values that are taken leave entries as they are, but for what they got
 taken_entries : (requests : List Request) (h : Hearing) (d : Dealing) (vs : List Data) → AllByRecursion (IsEntry requests) d.row → AllByRecursion (IsEntry requests) (taken_each h true d vs).row
@@ -349,7 +350,8 @@ read_up before c started word kind piece link h good k is e it =
       ended = none_ends (book (trace_of_acts front f v.acts)) (seen f v.acts v.conn [] started) a.holds.tied (ends_so ∙ left_if (is_unreadable after) (Some why) None (unread ∙ n));
       began = λ z. absurd (omega arith);
       moved = still.moved ∙ h.moved;
-      fit = fit_by v.conn conn.size conn.boundary read still.size still.boundary still.life (read_fit conn.size conn.boundary conn.hears link piece (h.fit.link link e) (neither read.broken d.strange n));
+      fit = fit_by v.conn conn.size conn.boundary read still.size still.boundary still.life
+          (λ down. still.admitted ∙ h.fit.none (unserved_before (Ready read) conn.life conn.again v.conn.again refl (ap is_ready e) still.answered (ap (λ (x : Life). serves x v.conn.again) (sym still.life) ∙ down))) (read_fit conn.size conn.boundary conn.hears link piece (h.fit.link link e) (neither read.broken d.strange n));
       hushed = λ over. absurd (not_both f.shut (going_awake c kind (came piece) is (λ z. cc) (ap is_resting e) (ap has_ended e) h.hushed) over);
     })
 

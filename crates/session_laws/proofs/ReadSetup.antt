@@ -75,6 +75,7 @@ use Rattle.session_laws.proofs.Tied.{AreQueued, TiedLife, TiedLines, TiedWaits, 
 use Rattle.session_laws.proofs.Told.{retells, well_told}
 use Rattle.driver_model.specs.declared.news.LinkFault.{LinkFault}
 use Rattle.session_laws.proofs.Serving.{unready_serves}
+use Rattle.session_laws.proofs.Repeats.{serves}
 
 -- notices that all stand behind some message
 behind_all : (ps : List NoticeAt) → AllByRecursion IsBehind ps → behind_first ps ≡ ps
@@ -82,12 +83,12 @@ behind_all [] all = refl
 behind_all (p ∷ ps) all = left_if (p.settled == 0) (behind_first ps) (p ∷ ps) all.0
 
 -- a connection whose link is up is fit where the link is
-pub fit_by : (c : MultiplexedConnection) (size bound : ℕ) (link : LinkState) → c.size ≡ size → c.boundary ≡ bound → c.life ≡ Ready link → ((x : LinkState) → Ready link ≡ Ready x → IsFit size bound x) → IsFitIn c
-fit_by c size bound link size_is bound_is life h = record {
+pub fit_by : (c : MultiplexedConnection) (size bound : ℕ) (link : LinkState) → c.size ≡ size → c.boundary ≡ bound → c.life ≡ Ready link → (serves c.life c.again ≡ false → c.admitted ≡ []) → ((x : LinkState) → Ready link ≡ Ready x → IsFit size bound x) → IsFitIn c
+fit_by c size bound link size_is bound_is life nobody h = record {
   wanting = λ x same. (let no : Ready link ≡ Wanting x = sym life ∙ same in cc);
   setup = λ x u same. (let no : Ready link ≡ SettingUp x u = sym life ∙ same in cc);
   link = λ x same. subst (λ n. IsFit n c.boundary x) (sym size_is) (subst (λ n. IsFit size n x) (sym bound_is) (h x (sym life ∙ same)));
-  none = λ none. absurd (none link life);
+  none = nobody;
 }
 
 -- where an opening failed, the link isn't up, and no fault changes what is so
@@ -492,7 +493,7 @@ setup_read_as before c started word kind piece link greeting g h good k is e = b
           ended = none_ends (book (trace_of_acts front f u.acts)) (seen f u.acts u.conn [] started) done.holds.tied (up ∙ left_if (is_unreadable after) (Some (by_fault (felt l.hearing fault.Parse))) None (reads false t));
           began = λ z. absurd (omega arith);
           moved = still.moved ∙ h.moved;
-          fit = fit_by u.conn conn.size conn.boundary read still.size still.boundary still.life (λ y is_it. (let one : read ≡ y = cc in subst (IsFit conn.size conn.boundary) one (sound (first_false read.broken _ t))));
+          fit = fit_by u.conn conn.size conn.boundary read still.size still.boundary still.life (λ down. still.admitted ∙ h.fit.none (unready_serves conn.life conn.again (ap is_ready e))) (λ y is_it. (let one : read ≡ y = cc in subst (IsFit conn.size conn.boundary) one (sound (first_false read.broken _ t))));
           hushed = λ over. absurd (not_both f.shut awake over);
         })))
 

@@ -18,8 +18,7 @@ use Rattle.driver_model.specs.declared.action.Purpose.TheVariants as purpose
 use Rattle.driver_model.specs.declared.config.Config.{Config}
 use Rattle.driver_model.specs.declared.config.Config.TheVariants as variant
 use Rattle.driver_model.specs.declared.kind.SessionKind.TheVariants as kind
-use Rattle.driver_model.specs.Config.{connect_timeout, hearing_of, manager_of}
-use Rattle.driver_model.specs.Config.{hearing_in as hearing_for}
+use Rattle.driver_model.specs.Config.{connect_timeout, hearing_of, manager_of, hearing_in as hearing_for}
 use Rattle.mux_conn.specs.declared.life.Life.TheVariants.{Resting}
 use Rattle.shared_session.specs.declared.generations.Generations.{Generations}
 use Rattle.shared_session.specs.Generations.{connect_purposes, connect_timed, is_last}
@@ -27,8 +26,7 @@ use Rattle.legal_trace.specs.Again.{repeats_in}
 use Rattle.legal_trace.specs.Book.{Book, blank_book, book, entered, has_generations, hearing_in, info_in, wanted_in}
 use Rattle.legal_trace.specs.Ledger.{Ending, Ledger, Line, asks, by_opening, ending, ending_alive, ending_asked, is_over, noted, noted_each}
 use Rattle.legal_trace.specs.Legal.{AllStand, IsApplied, IsShown, IsTimed, MayConnect, MayGenerate, MayRest, MayStand, MayTimeConnect, NoneEnds, begins_first, current_link, generation_due, is_attempt, is_caused, link_due, word_of}
-use Rattle.legal_trace.specs.Managers.{settings_in}
-use Rattle.legal_trace.specs.Managers.{is_last as last_in}
+use Rattle.legal_trace.specs.Managers.{settings_in, is_last as last_in}
 use Rattle.legal_trace.proofs.Moves.{lt_test}
 use Rattle.session_laws.proofs.Comes.{NoneComes, none_caused, none_rests}
 use Rattle.session_laws.proofs.Dial.{CanDial, asks_line, dialled_book, dialled_in, dials_tied}

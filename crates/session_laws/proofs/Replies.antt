@@ -27,8 +27,7 @@ use Rattle.link_laws.proofs.TiedLink.{ReadsAlike, TiedLink, deals, has_heard, re
 use Rattle.mux_conn.specs.declared.renewal.Renewal.{Renewal}
 use Rattle.mux_conn.specs.declared.request.Request.{Request}
 use Rattle.mux_conn.specs.Renewals.{is_done, renewal_id, replied}
-use Rattle.legal_trace.specs.Ledger.{Ledger, Start, bytes_came, cut, is_full, is_of_renewal, is_taken, last_renewal, reach}
-use Rattle.legal_trace.specs.Ledger.{is_done as is_taken_so}
+use Rattle.legal_trace.specs.Ledger.{Ledger, Start, bytes_came, cut, is_full, is_of_renewal, is_taken, last_renewal, reach, is_done as is_taken_so}
 use Rattle.legal_trace.proofs.Came.{bytes_are, grown, holds_came}
 use Rattle.legal_trace.proofs.Renewals.{last_told, taken_more}
 use Rattle.legal_trace.proofs.Setups.{full_stays}

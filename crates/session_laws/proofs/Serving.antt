@@ -2,7 +2,7 @@
 use Rattle.std.proofs.Common.{◌≡◌, Bool, true, false, ◌&&◌, not, refl, ap, ◌∙◌}
 use Rattle.std.proofs.Math.Bool.{and-false}
 use Rattle.std.proofs.lemmas.Bool.{not-true}
-use Rattle.containers.proofs.Choices.{both_left, both_right}
+use Rattle.containers.proofs.Choices.{both_left, both_right, by_test, not_both}
 use Rattle.mux_conn.specs.declared.again.Again.{Again}
 use Rattle.mux_conn.specs.declared.again.Again.TheVariants as again
 use Rattle.mux_conn.specs.declared.life.Life.{Life}
@@ -23,7 +23,15 @@ outstanding_serves life a goes = ap (λ open_is. is_ready life && not open_is) g
 pub answered_serves : (life : Life) (a : Again) → is_ready life ≡ true → is_outstanding a ≡ false → serves life a ≡ true
 answered_serves life a up none = λ i. up i && not (none i)
 
--- so one that does is set up
+-- so what isn't answered is on a link that is set up and doesn't
+pub unserved_goes : (life : Life) (a : Again) → is_ready life ≡ true → serves life a ≡ false → is_outstanding a ≡ true
+unserved_goes life a up down = by_test (is_outstanding a) (is_outstanding a ≡ true) (λ t. t) (λ f. absurd (not_both (serves life a) down (answered_serves life a up f)))
+
+-- where answers leave none that isn't answered, a link that took requests takes them
+pub unserved_before : (now was : Life) (a b : Again) → is_ready now ≡ true → is_ready was ≡ true → (is_outstanding a ≡ false → is_outstanding b ≡ false) → serves now b ≡ false → serves was a ≡ false
+unserved_before now was a b up ready answered down = by_test (is_outstanding a) (serves was a ≡ false) (λ t. outstanding_serves was a t) (λ f. absurd (not_both (serves now b) down (answered_serves now b up (answered f))))
+
+-- one that does is set up
 pub serves_ready : (life : Life) (a : Again) → serves life a ≡ true → is_ready life ≡ true
 serves_ready life a e = both_left (is_ready life) (not (is_outstanding a)) e
 

@@ -32,7 +32,7 @@ use Rattle.session_laws.proofs.Names.{there_within, names_refused, submits_unwat
 use Rattle.session_laws.proofs.Owes.{started_within, ends_told, notices_told}
 use Rattle.session_laws.proofs.Answer.{owed_in, no_push}
 use Rattle.session_laws.proofs.Settle.{seen}
-use Rattle.session_laws.proofs.Announce.{aims_longer, aims_on, turn_of, turned, uses_on, uses_on, time_still}
+use Rattle.session_laws.proofs.Announce.{aims_longer, aims_on, turn_of, turned, uses_on, time_still}
 use Rattle.session_laws.proofs.Heard.{told_life, silent_no_end}
 use Rattle.session_laws.proofs.Said.{setup_on, sources_asked, IsTame, renoticed}
 use Rattle.session_laws.proofs.Further.{get_beyond, no_longer, SameBefore, further_story, tries_longer, queue_longer, packs_longer, told_longer, IsNext, waits_longer, permits_longer, late_longer}

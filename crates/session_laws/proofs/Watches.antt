@@ -150,7 +150,7 @@ watch_tied b t link due h =
       waits = setting_waits b.story t.requests t.again (queued link) (watched link) greet.Monitor greet.Monitor t.fresh t.moved h.waits;
       permits = h.permits;
       rounds = h.rounds;
-      early = h.early;
+      early = λ unserved alive. (let k = h.early unserved alive in record { unbegun = k.unbegun; empty = k.empty });
       late = h.late;
     })
 

@@ -37,7 +37,8 @@ use Rattle.session_laws.proofs.Tied.{Inner, Tied, TiedLife, carried, has_ended, 
 use Rattle.session_laws.proofs.Comes.{plain_put}
 use Rattle.mux_conn.specs.declared.request.Waiting.{Waiting}
 use Rattle.shared_session.specs.declared.generations.Generations.{Generations}
-use Rattle.session_laws.proofs.Repeats.{repeat_alike}
+use Rattle.session_laws.proofs.Repeats.{repeat_alike, serves}
+use Rattle.session_laws.proofs.Serving.{unready_serves}
 
 -- an offer
 --
@@ -67,7 +68,7 @@ write_tied b t link h =
       waits = queue_waits b.story t.requests t.again link (offered_of link) t.fresh t.moved (λ p i. i) h.waits;
       permits = h.permits;
       rounds = h.rounds;
-      early = h.early;
+      early = λ unserved alive. (let k = h.early unserved alive in record { unbegun = k.unbegun; empty = k.empty });
       late = h.late;
     })
 
@@ -99,7 +100,7 @@ write_set_tied b t link greeting h =
       waits = setting_waits b.story t.requests t.again link (offered_of link) greeting greeting t.fresh t.moved h.waits;
       permits = h.permits;
       rounds = h.rounds;
-      early = h.early;
+      early = λ unserved alive. (let k = h.early unserved alive in record { unbegun = k.unbegun; empty = k.empty });
       late = h.late;
     })
 
@@ -172,7 +173,7 @@ pub record HasWritten (before : List Action) (f : Core) (w : Work) : Type 0 wher
 pub moved_book : (before : List Action) (f : Core) (w : Work) → HasReturned before f w → IsMoved (book (trace_of_acts before f w.acts))
 moved_book before f w r =
     let h = r.moved in
-    is_moved (book (trace_of_acts before f w.acts)) (seen f w.acts w.conn [] h.started) h.holds.tied refl (refl, refl) refl h.ended h.fit.link h.fit.none h.still.held h.still.full h.still.waiting h.still.none_waits (λ over. hushed_in w.conn.life w.conn.waiting (h.hushed over)) r.put h.fit.setup h.still.setup h.seats h.still.renewed h.still.begun
+    is_moved (book (trace_of_acts before f w.acts)) (seen f w.acts w.conn [] h.started) h.holds.tied refl (refl, refl) refl h.ended h.fit.link h.fit.none h.still.held h.still.full h.still.waiting h.still.none_waits (λ over. hushed_in w.conn.life w.conn.waiting (h.hushed over)) r.put h.fit.setup h.still.setup h.seats h.still.repeated h.still.renewed h.still.begun
 
 -- the link of a life
 same_link : (link other : LinkState) → Ready link ≡ Ready other → link ≡ other
@@ -198,15 +199,16 @@ write_shown before f w link life can r =
             wanting = λ other e. cc;
             setup = λ other u e. cc;
             link = λ other e. subst (IsFit w.conn.size w.conn.boundary) (same_link after other e) (record { sound = fit.sound; size_is = fit.size_is; bound_is = fit.bound_is; within = fit.within });
-            none = λ none. absurd (none after refl);
+            none = λ down. h.fit.none (ap (λ (x : Life). serves x w.conn.again) life ∙ down);
           };
           still = record {
             setup = λ other u e. cc;
             held = λ other e. subst (λ (x : LinkState). (x.queue ≡ []) ⊎ (holds_back x ≡ true)) (same_link after other e) (h.still.held link life);
+            repeated = λ other e due. let k = h.still.repeated link life due in (k.0, subst (λ (x : LinkState). holds_back x ≡ true) (same_link after other e) k.1);
             full = λ other e. subst (λ (x : LinkState). (w.conn.admitted ≡ []) ⊎ (is_full_beside x (in_front w.conn.renewal) ≡ true)) (same_link after other e) (h.still.full link life);
             renewed = λ other e due. let k = h.still.renewed link life due in (k.0, subst (λ (x : LinkState). holds_back x ≡ true) (same_link after other e) k.1);
-            waiting = λ other e. h.still.waiting link life;
-            begun = λ shows up. h.still.begun shows (ap is_ready life);
+            waiting = λ other e none. h.still.waiting link life none;
+            begun = λ shows up. h.still.begun shows (ap (λ (x : Life). serves x w.conn.again) life ∙ up);
             none_waits = λ e. cc;
           };
           hushed = λ over. subst (λ (x : Life). IsStopped x w.conn.waiting) life (h.hushed over);
@@ -243,14 +245,15 @@ write_set_shown before f w link greeting life can r =
             wanting = λ other e. cc;
             setup = λ other u e. subst (IsFit w.conn.size w.conn.boundary) (same_set after other greeting u e) (record { sound = fit.sound; size_is = fit.size_is; bound_is = fit.bound_is; within = fit.within });
             link = λ other e. cc;
-            none = λ none. h.fit.none (λ other e. absurd (setting_not_ready w.conn.life link other greeting life e));
+            none = λ down. h.fit.none (unready_serves w.conn.life w.conn.again (ap is_ready life));
           };
           still = record {
             setup = λ other u e. subst (λ (x : LinkState). (x.queue ≡ []) ⊎ (holds_back x ≡ true)) (same_set after other greeting u e) (h.still.setup link greeting life);
             held = λ other e. cc;
             full = λ other e. cc;
+            repeated = λ other e due. cc;
             renewed = λ other e. cc;
-            waiting = λ other e. cc;
+            waiting = λ other e none. cc;
             begun = λ shows up. cc;
             none_waits = λ e. cc;
           };
