@@ -41,7 +41,7 @@ use Rattle.session_laws.proofs.Kept.{mine_noted, others_kept, tied_by}
 use Rattle.session_laws.proofs.Answer.{after_end}
 use Rattle.session_laws.proofs.Comes.{ends_there, has_begun, has_links}
 use Rattle.session_laws.proofs.Aside.{aside_ends, others_created}
-use Rattle.session_laws.proofs.Settle.{book_of_more, seen, trace_of_acts, Holds, IsAnswering, answering, IsDue, IsDueError, settled_holds, failed_holds, Leaves, leaves_on, settled_leaves, failed_leaves, Parts, sound_told, replied_each, replied_keeps, renewal_over}
+use Rattle.session_laws.proofs.Settle.{book_of_more, seen, trace_of_acts, Holds, IsAnswering, answering, IsDue, IsDueError, settled_holds, failed_holds, Leaves, leaves_on, settled_leaves, failed_leaves, Parts, sound_told, replied_each, replied_keeps, renewal_over, own_each}
 use Rattle.containers.proofs.Choices.{not_both, chosen}
 use Rattle.driver_model.specs.declared.push_info.PushInfo.{PushInfo}
 use Rattle.resp_value.specs.declared.push_kind.PushKind.TheVariants.{Disconnection}
@@ -54,6 +54,7 @@ use Rattle.driver_model.specs.Hearing.{hears_pushes}
 use Rattle.driver_model.specs.declared.hearing.Notice.TheVariants as notice
 use Rattle.session_laws.proofs.Lost.{end_served}
 use Rattle.mux_conn.specs.declared.again.Again.{Again}
+use Rattle.session_laws.proofs.Own.{own_over}
 
 -- no error is none
 no_failure : (e : RedisError) → ◌≡◌ {A = Option RedisError} None (Some e) → ⊥
@@ -437,12 +438,14 @@ all_ends before f w ids row queue started h =
     let later = all_waiting_due c s error.Closed tied h.early owed_end in
     let come = replied_each w.conn.renewal out in
     let kept = replied_keeps w.conn.renewal out in
+    let own : own_each w out ≡ renewing w come = own_over w out error.Closed h.over in
     let come_tied : Tied c (record s { renewal = come }) = renewal_over c s come error.Closed kept.0 kept.1 kept.2 kept.3 h.over tied in
     let held : Holds before f (renewing w come) ns started = record { stands = h.holds.stands; tied = come_tied } in
     let a = answering before f (renewing w come) (ns ++ []) started (subst (λ ms. Holds before f (renewing w come) ms started) (sym (append-nil ns)) held) (subst (IsInLine w.conn.requests (link_in w.conn.life) w.conn.admitted w.conn.waiting) (sym (append-nil ns)) line) in
     let u = settled_each w out in
     let k = settled_leaves w out in
-    let settled = settled_holds before f (c.link f.single.link) (owed c) (name_at w.conn.requests) (is_open_at w.conn.requests) w out [] started due a in
+    let answers = subst (λ (x : Work). IsAnswering before f (c.link f.single.link) (owed c) (name_at w.conn.requests) (is_open_at w.conn.requests) x (ns ++ []) started) (sym own) a in
+    let settled = settled_holds before f (c.link f.single.link) (owed c) (name_at w.conn.requests) (is_open_at w.conn.requests) w out [] started due answers in
     rest_ends before f (c.link f.single.link) (owed c) (name_at w.conn.requests) (is_open_at w.conn.requests) u (Ended error.Closed) error.Closed started (k.life ∙ h.over) refl
     (record {
       place = subst (AllByRecursion (IsDueError (owed c) (name_at w.conn.requests) (is_open_at w.conn.requests) error.Closed)) (sym k.admitted) later.place;
