@@ -145,6 +145,7 @@ idle_tied config word settings info number created told is first lazy shown = re
   creation = shown;
   uses = λ k what e. cc;
   renewal = record { over_is = refl; came = refl; waits = refl; untimed = refl; unstarted = refl; unasked = refl; unpending = refl; told = refl; kept = refl; found = refl };
+  repeat = refl;
   setup = record { info_is = tt; sent = λ k s less e. absurd (omega (arith, less)); said = (refl, refl) };
   link = λ e. fresh_tied (owner_of []) 0 0;
   names = opening_names;

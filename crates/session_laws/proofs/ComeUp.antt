@@ -47,7 +47,7 @@ use Rattle.session_laws.proofs.Entered.{all_stand-append, book_more, sound_more,
 use Rattle.session_laws.proofs.Settle.{Tells, seen, trace_of_acts}
 use Rattle.session_laws.proofs.InLine.{kept_ids}
 use Rattle.session_laws.proofs.Numbers.{IsIn, Rising, rising_right, requests_in}
-use Rattle.session_laws.proofs.Announce.{IsNewsKind, comes_as, heard_book, heard_is, heard_starts, heard_tied, may_turn, turn_of, turned, ComesTo, heard_tied_by, others_heard, renews_hear, uses_asked, uses_more, protocol_still, still_unrepeated, heard_hearing, asked_hear}
+use Rattle.session_laws.proofs.Announce.{IsNewsKind, comes_as, heard_book, heard_is, heard_starts, heard_tied, may_turn, turn_of, turned, ComesTo, heard_tied_by, others_heard, renews_hear, uses_asked, uses_more, protocol_still, heard_hearing, asked_hear}
 use Rattle.session_laws.proofs.Heard.{book_kind, book_news, fresh_applied, heard_by, none_ends, none_hears, hushed_there, going_awake}
 use Rattle.session_laws.proofs.Ahead.{waiting_open}
 use Rattle.session_laws.proofs.Renewals.{early_renewal, renewed_first}
@@ -60,6 +60,8 @@ use Rattle.driver_model.specs.Hearing.{is_watching}
 use Rattle.session_laws.proofs.Comes.{tied_live, tied_unopened}
 use Rattle.session_laws.proofs.Serving.{unready_serves}
 use Rattle.mux_conn.specs.declared.again.Again.{Again}
+use Rattle.session_laws.proofs.Held.{held_hears}
+use Rattle.session_laws.proofs.Repeats.{held_alike, held_ready}
 
 -- the waits
 --
@@ -234,6 +236,7 @@ readied_comes b c started n info link untold more created some_created h0 fit no
         kept = none.kept;
         found = none.found;
       });
+      repeat_is = held_ready (readied more l) b.tracked conn.renewal.within conn.again (held_alike l (readied more l) b.tracked conn.renewal.within conn.again refl refl (held_hears b c started n h0 early.there early.unready early.alive));
       said = said;
       linked = λ z. said_tied (owner_of conn.requests) l link l.info (readied more l).creds l.heard made.tied;
       lines = bare_lines b.story conn.requests link conn.waiting conn.admitted started made.queue made.row (subst (λ (x : LinkState). TiedLines b.story conn.requests x conn.waiting conn.admitted [] started) early.bare h0.lines);
@@ -345,7 +348,7 @@ makes_ready before c started word kind n info link untold h good k is other earl
         let comes = readied_comes b c started n info link untold true (b.created + 1) ((shown_creation b.created).after refl) h0 h.fit h.fresh other early facts spoken wanted (λ x. asked) in
         let used : AreUses uses mine true l.creds.asked = uses_more c.sources mine true l.creds.asked (source.Renewal mine) (omega arith, λ same. asked) (uses_asked c.sources mine (b.link mine).creds.asked (b.link mine).creds.renews l.creds.asked once h0.uses) in
         let tied : Tied (entered created needs) t =
-        heard_tied_by b c started word (b.created + 1) (b.failed || false) true true kind info (Ready link) ns [] untold links after (b.sources ++ what ∷ []) uses h0 (shown_creation b.created) (λ some none. absurd (omega arith)) (others_kept now mine sources others) (unrepeated_lined now.link mine sources refl (still_unrepeated b c started kind h0)) ledger_is
+        heard_tied_by b c started word (b.created + 1) (b.failed || false) true true kind info (Ready link) ns [] untold links after (b.sources ++ what ∷ []) uses h0 (shown_creation b.created) (λ some none. absurd (omega arith)) (others_kept now mine sources others) ledger_is
         (λ i. h0.numbers.sources i ++ what_is i ∷ []) used comes in
         let need : MayNeed created count mine = record {
           due = ap source_due own ∙ (λ i. facts.made.up i && wanted i && (not (asked i) || (facts.made.said.well i && not (renews i))));
@@ -406,7 +409,7 @@ makes_ready before c started word kind n info link untold h good k is other earl
         let comes = readied_comes b c started n info link untold true b.created (h0.creation.after told) h0 h.fit h.fresh other early facts spoken wanted (λ x. asked) in
         let used : AreUses uses mine true l.creds.asked = uses_more c.sources mine true l.creds.asked (source.Renewal mine) (omega arith, λ same. asked) (uses_asked c.sources mine (b.link mine).creds.asked (b.link mine).creds.renews l.creds.asked once h0.uses) in
         let tied : Tied (entered now needs) t =
-        heard_tied_by b c started word b.created b.failed true true kind info (Ready link) ns [] untold links after (b.sources ++ what ∷ []) uses h0 (again_creation told) (λ some. some) (others_kept now mine sources others) (unrepeated_lined now.link mine sources refl (still_unrepeated b c started kind h0)) ledger_is
+        heard_tied_by b c started word b.created b.failed true true kind info (Ready link) ns [] untold links after (b.sources ++ what ∷ []) uses h0 (again_creation told) (λ some. some) (others_kept now mine sources others) ledger_is
         (λ i. h0.numbers.sources i ++ what_is i ∷ []) used comes in
         let need : MayNeed now count mine = record {
           due = ap source_due own ∙ (λ i. facts.made.up i && wanted i && (not (asked i) || (facts.made.said.well i && not (renews i))));
@@ -570,6 +573,7 @@ comes_to_say before c started word kind n info link h good k is other shutless e
       course = setting_course b c started n h0 early.there early.unready early.alive;
       creds = record { wanted_is = u.wanted_is; sought = (has, renews_hear (b.link c.single.link) c.turns n ∙ early_sources (b.link c.single.link).creds conn.life early.unready early.alive h0.creds.sought) };
       renewal_is = none_hears (b.link c.single.link) c.turns n conn.renewal other (early_renewal (b.link c.single.link) conn.renewal conn.life early.unready early.alive h0.renewal);
+      repeat_is = held_hears b c started n h0 early.there early.unready early.alive;
       said = record { info_is = u.info_is; sent = u.sent; said = (u.none, said) };
       linked = λ z. enqueued_tied _ l link q (u.tied _);
       lines = subst (λ (x : LinkState). TiedLines b.story conn.requests x conn.waiting conn.admitted [] started) early.bare h0.lines;
@@ -660,6 +664,7 @@ comes_to_watch before c started word kind n info link h good k is other shutless
       course = setting_course b c started n h0 early.there early.unready early.alive;
       creds = record { wanted_is = u.wanted_is; sought = (has, renews_hear (b.link c.single.link) c.turns n ∙ early_sources (b.link c.single.link).creds conn.life early.unready early.alive h0.creds.sought) };
       renewal_is = none_hears (b.link c.single.link) c.turns n conn.renewal other (early_renewal (b.link c.single.link) conn.renewal conn.life early.unready early.alive h0.renewal);
+      repeat_is = held_hears b c started n h0 early.there early.unready early.alive;
       said = record { info_is = u.info_is; sent = u.sent; said = (u.none, said) };
       linked = λ z. enqueued_tied _ l link watch_queued (u.tied _);
       lines = subst (λ (x : LinkState). TiedLines b.story conn.requests x conn.waiting conn.admitted [] started) early.bare h0.lines;

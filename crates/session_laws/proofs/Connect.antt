@@ -38,7 +38,7 @@ use Rattle.session_laws.proofs.Failing.{IsFailing, failing_applied, unready_show
 use Rattle.session_laws.proofs.States.{IsFit, Between, HasApplied, HasEffect, HasRetired}
 use Rattle.session_laws.proofs.Entered.{all_stand-append, book_more, sound_more, shown_more}
 use Rattle.session_laws.proofs.Settle.{seen, trace_of_acts, book_of_more}
-use Rattle.session_laws.proofs.Announce.{IsNewsKind, comes_as, heard_book, heard_is, heard_starts, heard_tied, heard_tied_by, may_turn, others_heard, turn_of, turned, uses_asked, uses_more, timed_hear, still_unrepeated, heard_hearing, asked_hear, uses_hear}
+use Rattle.session_laws.proofs.Announce.{IsNewsKind, comes_as, heard_book, heard_is, heard_starts, heard_tied, heard_tied_by, may_turn, others_heard, turn_of, turned, uses_asked, uses_more, timed_hear, heard_hearing, asked_hear, uses_hear}
 use Rattle.session_laws.proofs.Heard.{heard_by, book_kind, book_news, lives_as, none_ends, leads_still, quiet_applied, ended_quiet, pushes_still, none_hears, still_none, hushed_there, hushed_news, resting_quiet, tame_between}
 use Rattle.session_laws.proofs.End.{up_tied, setting_tied, setting_overdue, wanting_tied, wanting_overdue, plain_begins, IsPlain, dropped_up, plain_is, notices_there}
 use Rattle.session_laws.proofs.Kept.{mine_noted, others_kept}
@@ -53,6 +53,8 @@ use Rattle.session_laws.proofs.Comes.{tied_live, tied_unopened, resting_down}
 use Rattle.session_laws.proofs.Retire.{IsAttempted, retires, closed_retires}
 use Rattle.session_laws.proofs.Owes.{get_behind}
 use Rattle.session_laws.proofs.Serving.{unready_serves}
+use Rattle.session_laws.proofs.Held.{held_hears, failed_served}
+use Rattle.session_laws.proofs.Repeats.{held_alike}
 
 -- news of no account
 --
@@ -176,7 +178,7 @@ connected_wants before c started word kind h good k is e wants =
     let none = none_hears l0 c.turns connected conn.renewal (λ x. x) (early_renewal l0 conn.renewal conn.life early.unready early.alive h0.renewal) in
     let t = record (seen f [] (comes_as c conn.info life ns) [] started) { sources = uses } in
     let tied : Tied (entered now shown) t = heard_tied_by b c started word b.created b.failed conn.told conn.opened kind conn.info life ns [] [] links after (b.sources ++ what ∷ []) uses h0 h0.creation (λ some. some)
-    (others_kept now mine sources others) (unrepeated_lined now.link mine sources refl (still_unrepeated b c started kind h0)) asked (λ i. h0.numbers.sources i ++ what_is i ∷ []) used
+    (others_kept now mine sources others) asked (λ i. h0.numbers.sources i ++ what_is i ∷ []) used
     (record {
       starts = heard_starts l0 c.turns connected;
       hearing_kept = heard_hearing l0 c.turns connected;
@@ -185,6 +187,7 @@ connected_wants before c started word kind h good k is e wants =
       course = (live.links, live.begun, tied_unopened b (inner c started) h0 early.unready early.alive, (asked_hear l0 c.turns connected).last ∙ live.lasts);
       creds = record { wanted_is = u.wanted_is; sought = (wanted_is, refl, ungiven, unasked) };
       renewal_is = record { over_is = none.over_is; came = none.came; waits = none.waits; untimed = none.untimed; unstarted = none.unstarted; unasked = none.unasked; unpending = none.unpending; told = none.told; kept = none.kept; found = none.found };
+      repeat_is = held_alike l after b.tracked conn.renewal.within conn.again refl refl (held_hears b c started connected h0 early.there early.unready early.alive);
       said = record { info_is = u.info_is; sent = u.sent; said = (u.starts, u.none, refl, refl) };
       linked = λ z. sourced_tied _ l link (u.tied _);
       lines = subst (λ (x : LinkState). TiedLines b.story conn.requests x conn.waiting conn.admitted [] started) early.bare h0.lines;
@@ -296,6 +299,7 @@ refused_fails before c started word kind f h good k is e last =
       );
       creds = record { wanted_is = ap (λ (x : Ledger). x.creds.wanted) over ∙ on_link conn.life (l0.creds.wanted ≡ conn.renewal.wanted) (ap is_resting e) h0.creds.wanted_is; sought = tt };
       renewal_is = renewal_ended l0 l conn.renewal conn.life (timed_hear l0 c.turns (refused f)) (heard_starts l0 c.turns (refused f)) h0.renewal;
+      repeat_is = failed_served l.end conn.again (error.Io f) failure;
       said = record { info_is = on_link conn.life (l.info ≡ conn.info) (ap is_resting e) said.info_is; sent = said.sent; said = tt };
       linked = λ n. cc;
       lines = subst (λ (x : Life). TiedLines b.story conn.requests (link_in x) conn.waiting conn.admitted [] started) e h0.lines;
@@ -345,7 +349,7 @@ refused_retires before c started word kind f h good k is e last =
     let book_is : book front ≡ now = book_more before (turn_of c word kind) ∙ heard_is b c.turns word kind (book_kind b c kind h0.numbers.timers k) in
     let w : Work = record { conn = conn; acts = [] } in
     subst (λ (y : Work). HasRetired front (with_work (record { core = turned c kind; acts = [] }) y)) (sym (left_if conn.last (given_up w (error.Io f)) (record w { conn = afresh conn }) last))
-    (retires before c started word kind (refused f) [] now.link l h is (λ z. cc) unready last refl refl (others_heard b c started kind b.created h0 good (λ some. some)) (still_unrepeated b c started kind h0) own_ledger a
+    (retires before c started word kind (refused f) [] now.link l h is (λ z. cc) unready last refl refl (others_heard b c started kind b.created h0 good (λ some. some)) own_ledger a
     (uses_hear c.sources c.single.link l0 c.turns (refused f) h0.uses) (subst (AllStand blank_book) (sym (append-nil front)) all) (ap book (append-nil front) ∙ book_is))
 
 -- a link that is up doesn't dial

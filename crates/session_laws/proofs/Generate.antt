@@ -9,6 +9,7 @@ use Rattle.driver_model.specs.declared.config.Config.{Config}
 use Rattle.driver_model.specs.declared.outcome.Outcome.TheVariants as outcome
 use Rattle.driver_model.specs.Hearing.{hears_pushes, hears_something}
 use Rattle.link_laws.proofs.TiedLink.{TiedLink}
+use Rattle.mux_conn.specs.declared.again.Again.TheVariants as again
 use Rattle.mux_conn.specs.Connection.{is_ready}
 use Rattle.mux_conn.specs.Renewals.{no_renewal}
 use Rattle.mux_conn.specs.Requests.{is_admitted_at, is_open_at, is_waiting_at}
@@ -46,6 +47,7 @@ begun_in t number = record t {
   free = unwrap_or t.limit 0;
   info = t.address;
   renewal = no_renewal t.renewal.wanted t.renewal.within;
+  again = again.Nothing;
   opened = false;
   fresh = waiting_ids t.waiting;
 }
@@ -120,6 +122,7 @@ over_begins b t e number h over untold parting few comes one nobody closed some 
       creation = h.creation;
       uses = λ k what i. use_later what t.link t.links _ _ (omega (arith, one)) (h.uses k what i);
       renewal = record { over_is = refl; came = refl; waits = refl; untimed = refl; unstarted = refl; unasked = refl; unpending = refl; told = refl; kept = refl; found = refl };
+      repeat = refl;
       names = h.names;
       story = λ m. by_entry m (slice_get t.table m) (h.story m);
       untried = λ p r i on. absurd (behind r.name on);
@@ -227,6 +230,7 @@ first_begins b t number h rests settled alone still nobody untold parting free f
       creds = record { wanted_is = tt; sought = sought };
       uses = h.uses;
       renewal = record { over_is = unended; came = r.came; waits = refl; untimed = r.untimed; unstarted = r.unstarted; unasked = refl; unpending = refl; told = refl; kept = r.kept; found = refl };
+      repeat = refl;
       setup = record { info_is = tt; sent = h.setup.sent; said = (said.0, refl) };
       link = λ up. subst (λ (y : Life). TiedLink (carried y t.requests) l (whole_link y)) rests (h.link (ap has_ended rests));
       names = h.names;

@@ -46,6 +46,7 @@ pub mod Greeted
 pub mod Replies
 pub mod Resubscribed
 pub mod Announce
+pub mod Held
 pub mod Heard
 pub mod Failing
 pub mod End

@@ -32,7 +32,7 @@ use Rattle.session_laws.proofs.Going.{is_moved}
 use Rattle.session_laws.proofs.Settled.{IsBetween, is_settled}
 use Rattle.session_laws.proofs.States.{IsFitIn, IsStill}
 use Rattle.session_laws.proofs.Server.{owners_of, setup_owners}
-use Rattle.session_laws.proofs.Tied.{AreAimed, IsAim, IsAside, Tied, TiedLines, TiedNames, TiedNumbers, TiedPermits, TiedTries, TiedWaits, inner, no_link, owner_of, AreUnrepeated, link_in}
+use Rattle.session_laws.proofs.Tied.{AreAimed, IsAim, IsAside, Tied, TiedLines, TiedNames, TiedNumbers, TiedPermits, TiedTries, TiedWaits, inner, no_link, owner_of, link_in}
 use Rattle.session_laws.proofs.Waits.{IsQuiet}
 use Rattle.session_laws.proofs.Write.{is_written}
 use Rattle.driver_model.specs.Hearing.{is_watching}
@@ -72,10 +72,6 @@ opened_link config word info timers m other = ap (noted_each blank_ledger) (left
 -- a fact of a link that isn't told of, and of one that is asked for, is one of each link
 each_opened : (P : Ledger → Type 0) (config : Config) (word : ℕ) (info : ConnectionInfo) (timers : List Purpose) → P blank_ledger → P (noted blank_ledger (first_line config)) → (l : ℕ) → P ((opened config word info timers).link l)
 each_opened P config word info timers none first l = chosen (λ (ls : List Line). P (noted_each blank_ledger ls)) (first_link == l) (first_line config ∷ []) [] (λ t. first) (λ f. none)
-
--- nothing is subscribed again on any
-opening_unrepeated : (config : Config) (word : ℕ) (info : ConnectionInfo) (timers : List Purpose) → IsSound config → AreUnrepeated (opened config word info timers).link
-opening_unrepeated config word info timers sound = each_opened (λ (x : Ledger). x.again.wanted ≡ false) config word info timers refl (sound_repeats_not config [] sound)
 
 -- a configuration that was told is the one
 same_config : (config other : Config) → ◌≡◌ {A = Option Config} (Some config) (Some other) → config ≡ other
@@ -226,6 +222,7 @@ opening_tied config word info timeout plain sound some is = record {
   creation = record { before = λ e. refl; after = λ e. cc };
   uses = λ k what e. cc;
   renewal = record { over_is = refl; came = refl; waits = refl; untimed = refl; unstarted = refl; unasked = refl; unpending = refl; told = refl; kept = refl; found = refl };
+  repeat = ap (λ s. repeats_in s []) (no_settings config plain);
   setup = record { info_is = refl; sent = λ k s less e. absurd (omega arith); said = (refl, refl) };
   link = λ e. asked_tied (owner_of []) blank_ledger (told_info config) (wants_credentials config) (hearing_of config) (is_last (settings_in (Some config)) 0) (repeats_in (settings_in (Some config)) []) no_link (fresh_tied (owner_of []) 0 0);
   names = opening_names;

@@ -76,6 +76,7 @@ use Rattle.session_laws.proofs.Told.{retells, well_told}
 use Rattle.driver_model.specs.declared.news.LinkFault.{LinkFault}
 use Rattle.session_laws.proofs.Serving.{unready_serves}
 use Rattle.session_laws.proofs.Repeats.{serves}
+use Rattle.session_laws.proofs.Held.{held_hears}
 
 -- notices that all stand behind some message
 behind_all : (ps : List NoticeAt) → AllByRecursion IsBehind ps → behind_first ps ≡ ps
@@ -266,6 +267,7 @@ setup_read_as before c started word kind piece link greeting g h good k is e = b
           course = (course.0, course.1, course.2, (asked_hear l c.turns (came piece)).last ∙ course.3);
           creds = subst (λ (y : Ledger). TiedCreds y.creds conn.renewal.wanted (SettingUp next now)) (sym same) (record { wanted_is = wanted_so; sought = (s.has, s.once) });
           renewal_is = none_hears l c.turns (came piece) conn.renewal (λ x. x) (early_renewal l conn.renewal conn.life (ap is_ready e) (ap has_ended e) h.sound.tied.renewal);
+          repeat_is = held_hears b c started (came piece) h.sound.tied (ap is_resting e) (ap is_ready e) (ap has_ended e);
           said = subst (λ (y : Ledger). TiedSetup y info started (SettingUp next now)) (sym same) (record { info_is = told_so; sent = h.sound.tied.setup.sent; said = (s.none, said) });
           linked = λ z. subst (λ (y : Ledger). TiedLink (λ p. greeter now) y next) (sym same) tied_next;
           lines = subst (λ (x : Life). TiedLines b.story conn.requests (link_in x) conn.waiting conn.admitted [] started) e h.sound.tied.lines;

@@ -41,6 +41,7 @@ use Rattle.session_laws.proofs.More.{after_came, after_is}
 use Rattle.session_laws.proofs.Renewals.{early_renewal}
 use Rattle.session_laws.proofs.SetUp.{lacking_unset}
 use Rattle.session_laws.proofs.Serving.{unready_serves}
+use Rattle.session_laws.proofs.Held.{held_hears}
 
 -- the course of its link
 on_way : (b : Book) (t : Inner) (link : LinkState) → t.life ≡ Wanting link → Tied b t → HasCourse (b.link t.link).last (b.link t.link).end t.links t.link t.shut t.manager t.last t.opened t.info t.address (Wanting link)
@@ -135,6 +136,7 @@ wanting_reads before c started word kind piece link h good k is e it =
           course = (course.0, course.1, course.2, (asked_hear l c.turns (came piece)).last ∙ course.3);
           creds = subst (λ (y : Ledger). TiedCreds y.creds c.single.connection.renewal.wanted (Wanting read)) (sym same) (record { wanted_is = wanted_so; sought = s.sought });
           renewal_is = none_hears l c.turns (came piece) c.single.connection.renewal (λ x. x) (early_renewal l c.single.connection.renewal c.single.connection.life (ap is_ready e) (ap has_ended e) h.sound.tied.renewal);
+          repeat_is = held_hears b c started (came piece) h.sound.tied (ap is_resting e) (ap is_ready e) (ap has_ended e);
           said = subst (λ (y : Ledger). TiedSetup y c.single.connection.info started (Wanting read)) (sym same) (record { info_is = told_so; sent = h.sound.tied.setup.sent; said = (s.starts, s.none, s.queue, row) });
           linked = λ z. subst (λ (y : Ledger). TiedLink name y read) (sym same) quiet.of.tied;
           lines = subst (λ (x : Life). TiedLines b.story c.single.connection.requests (link_in x) c.single.connection.waiting c.single.connection.admitted [] started) e h.sound.tied.lines;

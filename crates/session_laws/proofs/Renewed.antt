@@ -33,6 +33,7 @@ use Rattle.session_laws.proofs.States.{Between, HasApplied, trace_with}
 use Rattle.session_laws.proofs.Server.{AreRenewed, AreSought, NoneRenewed, TiedCreds, TiedRenewal, TiedSetup, on_link}
 use Rattle.session_laws.proofs.Tied.{Tied, TiedLife, carried, has_ended, inner, whole_link}
 use Rattle.session_laws.proofs.ComeUp.{early_sources}
+use Rattle.session_laws.proofs.Repeats.{TiedRepeat, repeat_alike}
 
 -- a link that has ended
 --
@@ -82,6 +83,7 @@ ready_renewal before c started word kind n link renewals over lost r h good k is
       course = h0.course;
       creds = subst (λ (x : Life). TiedCreds after.creds r.wanted x) (sym e) (record { wanted_is = on_link conn.life (l.creds.wanted ≡ conn.renewal.wanted) (ap is_resting e) h0.creds.wanted_is ∙ sym wanted; sought = sought });
       renewal_is = subst (λ (x : Life). TiedRenewal after r x) (sym e) are;
+      repeat_is = subst (λ o. TiedRepeat after b.tracked o conn.again conn.life) (sym within) (repeat_alike l after b.tracked conn.renewal.within conn.again conn.life refl refl refl (λ x over. refl) h0.repeat);
       said = subst (λ (x : Life). TiedSetup after conn.info started x) (sym e) said;
       linked = λ z. said_tied (carried conn.life conn.requests) l (whole_link conn.life) l.info m.creds n (h0.link z);
       lines = h0.lines;

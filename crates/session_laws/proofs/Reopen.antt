@@ -12,6 +12,7 @@ use Rattle.driver_model.specs.declared.action.Purpose.TheVariants as purpose
 use Rattle.driver_model.specs.declared.action.SourceUse.{SourceUse}
 use Rattle.driver_model.specs.declared.action.SourceUse.TheVariants as source
 use Rattle.link_laws.proofs.TiedLink.{TiedLink, fresh_tied}
+use Rattle.mux_conn.specs.declared.again.Again.TheVariants as again
 use Rattle.mux_conn.specs.Requests.{is_admitted_at, is_open_at, is_placed_at, is_unbegun_at, is_waiting_at, name_at, permits_at}
 use Rattle.mux_conn.specs.declared.life.Life.TheVariants.{Resting}
 use Rattle.mux_conn.specs.declared.request.Pending.{Pending}
@@ -47,6 +48,7 @@ pub record HasNoLink (b : Book) (t : Inner) : Type 0 where
   pub creation : TiedCreation b.created t.told
   pub uses : AreUses t.sources t.link false false
   pub renewal : NoneRenewed blank_ledger t.renewal
+  pub repeat : t.again ≡ again.Nothing
   pub names : TiedNames t.table t.requests
   pub story : (n : ℕ) → TiedStory (b.story n) t.requests t.link (slice_get t.table n)
   pub untried : (p : ℕ) (r : Request) → slice_get t.requests p ≡ Some r → (b.story r.name).link ≡ t.link → (b.story r.name).tries ≡ []
@@ -107,6 +109,7 @@ rest_tied b t h =
       uses = on_blank (λ (l : Ledger). AreUses t.sources t.link l.creds.asked l.creds.renews) (b.link t.link) h.unknown h.uses;
       renewal = on_blank (λ (l : Ledger). NoneRenewed l t.renewal) (b.link t.link) h.unknown
           (record { over_is = r.over_is; came = refl; waits = r.waits; untimed = refl; unstarted = refl; unasked = r.unasked; unpending = r.unpending; told = r.told; kept = refl; found = r.found });
+      repeat = h.repeat;
       setup = on_blank (λ (l : Ledger). TiedSetup l t.info [] Resting) (b.link t.link) h.unknown (record { info_is = tt; sent = λ m s less e. absurd (omega arith); said = (refl, refl) });
       link = λ up. on_blank (λ (l : Ledger). TiedLink (owner_of t.requests) l no_link) (b.link t.link) h.unknown
           (record { sent = k.sent; offer = k.offer; bound = k.bound; rest = k.rest; broken = k.broken; started = k.started; within = k.within; bytes = k.bytes; row = k.row });

@@ -108,33 +108,33 @@ unready_undue l unready = ap (λ r. (r && not (is_served l)) && is_none (again_o
 -- what leaves them
 --
 -- a ledger with the same of it, the same starts and the same items
-rebuilt_due : (l m : Ledger) (calls : List Call) (within : Option ℕ) (packed : List ℕ) (of_shape : Shape) (timed : Bool) → IsRepeatDue l calls within packed of_shape timed → IsRepeatDue (record m { again = l.again; starts = l.starts; dealt = l.dealt }) calls within packed of_shape timed
+rebuilt_due : (l m : Ledger) (calls : List Call) (within : Option ℕ) (packed : List ℕ) (of_shape : Shape) (timed : Bool) → IsRepeatDue l calls within packed of_shape timed → IsRepeatDue (record m { again = l.again; starts = l.starts }) calls within packed of_shape timed
 rebuilt_due l m calls within packed of_shape timed h = record { wanted = h.wanted; in_time = h.in_time; unstarted = h.unstarted; timed_is = h.timed_is; message = h.message; some = h.some; needs = h.needs }
 
-rebuilt_held : (l m : Ledger) (calls : List Call) (within : Option ℕ) (a : Again) → IsHeld l calls within a → IsHeld (record m { again = l.again; starts = l.starts; dealt = l.dealt }) calls within a
+rebuilt_held : (l m : Ledger) (calls : List Call) (within : Option ℕ) (a : Again) → IsHeld l calls within a → IsHeld (record m { again = l.again; starts = l.starts }) calls within a
 rebuilt_held l m calls within again.Nothing h = h
 rebuilt_held l m calls within (again.Due packed of_shape timed) h = rebuilt_due l m calls within packed of_shape timed h
 rebuilt_held l m calls within again.Sent h = absurd h
 
 rebuilt : (l m : Ledger) (calls : List Call) (within : Option ℕ) (a : Again) → IsRepeated l calls within a → IsRepeated (record m { again = l.again; starts = l.starts; dealt = l.dealt }) calls within a
 rebuilt l m calls within again.Nothing h = h
-rebuilt l m calls within (again.Due packed of_shape timed) h = rebuilt_due l m calls within packed of_shape timed h
+rebuilt l m calls within (again.Due packed of_shape timed) h = rebuilt_due l (record m { dealt = l.dealt }) calls within packed of_shape timed h
 rebuilt l m calls within again.Sent h = record { wanted = h.wanted; in_time = h.in_time; k = h.k; sent = h.sent; open_is = h.open_is; only = h.only }
 
 -- has it too
 pub repeated_alike : (l m : Ledger) (calls : List Call) (within : Option ℕ) (a : Again) → m.again ≡ l.again → m.starts ≡ l.starts → m.dealt ≡ l.dealt → IsRepeated l calls within a → IsRepeated m calls within a
 repeated_alike l m calls within a same starts dealt h = subst (λ (x : Ledger). IsRepeated x calls within a) (λ i. record m { again = sym same i; starts = sym starts i; dealt = sym dealt i }) (rebuilt l m calls within a h)
 
--- also before it is set up
-pub held_alike : (l m : Ledger) (calls : List Call) (within : Option ℕ) (a : Again) → m.again ≡ l.again → m.starts ≡ l.starts → m.dealt ≡ l.dealt → IsHeld l calls within a → IsHeld m calls within a
-held_alike l m calls within a same starts dealt h = subst (λ (x : Ledger). IsHeld x calls within a) (λ i. record m { again = sym same i; starts = sym starts i; dealt = sym dealt i }) (rebuilt_held l m calls within a h)
+-- also before it is set up, whatever items came
+pub held_alike : (l m : Ledger) (calls : List Call) (within : Option ℕ) (a : Again) → m.again ≡ l.again → m.starts ≡ l.starts → IsHeld l calls within a → IsHeld m calls within a
+held_alike l m calls within a same starts h = subst (λ (x : Ledger). IsHeld x calls within a) (λ i. record m { again = sym same i; starts = sym starts i }) (rebuilt_held l m calls within a h)
 
 -- by how far the link has come; and where it has ended, it ended so
 pub repeat_alike : (l m : Ledger) (calls : List Call) (within : Option ℕ) (a : Again) (life : Life) → m.again ≡ l.again → m.starts ≡ l.starts → m.dealt ≡ l.dealt → ((e : RedisError) → life ≡ Ended e → m.end ≡ l.end) → TiedRepeat l calls within a life → TiedRepeat m calls within a life
 repeat_alike l m calls within a Resting same starts dealt end h = h
-repeat_alike l m calls within a Dialing same starts dealt end h = held_alike l m calls within a same starts dealt h
-repeat_alike l m calls within a (Wanting link) same starts dealt end h = held_alike l m calls within a same starts dealt h
-repeat_alike l m calls within a (SettingUp link greeting) same starts dealt end h = held_alike l m calls within a same starts dealt h
+repeat_alike l m calls within a Dialing same starts dealt end h = held_alike l m calls within a same starts h
+repeat_alike l m calls within a (Wanting link) same starts dealt end h = held_alike l m calls within a same starts h
+repeat_alike l m calls within a (SettingUp link greeting) same starts dealt end h = held_alike l m calls within a same starts h
 repeat_alike l m calls within a (Ready link) same starts dealt end h = repeated_alike l m calls within a same starts dealt h
 repeat_alike l m calls within a (Ended e) same starts dealt end h = λ x is f. h x (sym (end e refl) ∙ is) f
 

@@ -28,7 +28,7 @@ use Rattle.legal_trace.specs.Ledger.{Ledger, by_attempt, by_opening, ending, end
 use Rattle.legal_trace.specs.Legal.{AllStand, IsShown, is_attempt, is_by_attempt}
 use Rattle.legal_trace.specs.Owed.{owed_unstarted, owed_by}
 use Rattle.legal_trace.specs.Story.{Story}
-use Rattle.session_laws.proofs.Announce.{turn_of, turned, IsNewsKind, aims_on, heard_book, uses_on, asked_hear, heard_starts, first_book, heard_is, others_heard, still_unrepeated, uses_hear}
+use Rattle.session_laws.proofs.Announce.{turn_of, turned, IsNewsKind, aims_on, heard_book, uses_on, asked_hear, heard_starts, first_book, heard_is, others_heard, uses_hear}
 use Rattle.session_laws.proofs.Aside.{aside_ends, not_up_ends, over_not_asked}
 use Rattle.session_laws.proofs.Served.{numbers_is}
 use Rattle.session_laws.proofs.Comes.{tied_live}
@@ -39,7 +39,7 @@ use Rattle.session_laws.proofs.Numbers.{IsIn}
 use Rattle.session_laws.proofs.Renewals.{down_renewed_due, early_renewal}
 use Rattle.session_laws.proofs.Settle.{trace_of_acts, book_of_more}
 use Rattle.session_laws.proofs.States.{Between, HasRetired, HasEffect}
-use Rattle.session_laws.proofs.Tied.{AreAside, AreUnrepeated, AreUses, IsAside, IsRetiring, Tied, TiedLines, inner, link_in, no_link, AreAimed}
+use Rattle.session_laws.proofs.Tied.{AreAside, AreUses, IsAside, IsRetiring, Tied, TiedLines, inner, link_in, no_link, AreAimed}
 use Rattle.legal_trace.specs.Managers.{is_lazy}
 use Rattle.connection_info.specs.declared.address.RedisConnectionInfo.{RedisConnectionInfo}
 use Rattle.session_laws.proofs.Heard.{going_awake, heard_by, book_news, book_kind}
@@ -146,11 +146,11 @@ alone_lines story requests link waiting admitted started bare nobody none h =
 
 -- the session is so
 pub retires : (before : List Action) (c : Core) (started : List ℕ) (word : ℕ) (kind : EventKind) (n : News) (acts : List LinkAct) (links : ℕ → Ledger) (l : Ledger) → Between before c started → news_of c.timers c.sources c.single.link kind ≡ n → n ≢ shut → IsUnready (book before).created c.single.connection.life started
-    → c.single.connection.last ≡ false → timers_of c.single.link acts ≡ [] → sources_of c.single.link acts ≡ [] → AreAside c.single.link c.links links c.single.connection.hears c.single.connection.renewal.within (book before).created → AreUnrepeated links → links c.single.link ≡ l → IsAttempted l c.single.connection.hears
+    → c.single.connection.last ≡ false → timers_of c.single.link acts ≡ [] → sources_of c.single.link acts ≡ [] → AreAside c.single.link c.links links c.single.connection.hears c.single.connection.renewal.within (book before).created → links c.single.link ≡ l → IsAttempted l c.single.connection.hears
     → AreUses c.sources c.single.link l.creds.asked l.creds.renews → AllStand blank_book (trace_of_acts (before ++ turn_of c word kind ∷ []) (turned c kind) acts)
     → book (trace_of_acts (before ++ turn_of c word kind ∷ []) (turned c kind) acts) ≡ record (heard_book (book before) c.turns word kind) { link = links }
     → HasRetired (before ++ turn_of c word kind ∷ []) (with_work (record { core = turned c kind; acts = [] }) (record { conn = afresh c.single.connection; acts = acts }))
-retires before c started word kind n acts links l h is other u last no_timers no_sources others unrepeated own a uses stands book_is =
+retires before c started word kind n acts links l h is other u last no_timers no_sources others own a uses stands book_is =
     let b = book before in
     let h0 = h.sound.tied in
     let conn = c.single.connection in
@@ -197,6 +197,7 @@ retires before c started word kind n acts links l h is other u last no_timers no
       uses = subst (λ (x : Ledger). AreUses (c.sources ++ sources_of c.single.link acts) c.single.link x.creds.asked x.creds.renews) (sym own)
           (subst (λ (ss : List SourceUse). AreUses (c.sources ++ ss) c.single.link l.creds.asked l.creds.renews) (sym no_sources) (uses_on c.sources c.single.link uses));
       renewal = record { over_is = refl; came = refl; waits = refl; untimed = refl; unstarted = refl; unasked = refl; unpending = refl; told = refl; kept = refl; found = refl };
+      repeat = refl;
       names = h0.names;
       story = h0.story;
       untried = λ p r e on. h0.tries.untried p r e (λ i. subst (IsIn p) u.none i) on;
@@ -263,7 +264,7 @@ closed_retires before c started word kind n x h good k is other u last must told
     let w : Work = record { conn = conn; acts = act.Close ∷ [] } in
     subst (λ (y : Work). HasRetired front (with_work (record { core = f; acts = [] }) y)) (sym (left_if conn.last (given_up w x) (record w { conn = afresh conn }) last))
     (retires before c started word kind n (act.Close ∷ []) links (noted l line) h is other u last refl refl (others_kept now c.single.link line (others_heard b c started kind b.created h0 good (λ some. some)))
-    (unrepeated_lined now.link c.single.link line refl (still_unrepeated b c started kind h0)) closed (closed_attempt b c started n x (now.turns - 1) h0 u last must told) (uses_hear c.sources c.single.link l0 c.turns n h0.uses) stands book_is)
+    closed (closed_attempt b c started n x (now.turns - 1) h0 u last must told) (uses_hear c.sources c.single.link l0 c.turns n h0.uses) stands book_is)
 
 -- a link that is closed before it is set up
 --

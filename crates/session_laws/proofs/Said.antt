@@ -31,7 +31,7 @@ use Rattle.resp_read.specs.Values.{is_spoiled}
 use Rattle.session_laws.proofs.Repeats.{down_repeats_not, TiedRepeat, served_is}
 use Rattle.sub_tracker.specs.Subscribed.{Request as Call}
 use Rattle.mux_conn.specs.declared.again.Again.{Again}
-use Rattle.mux_conn.specs.Connection.{is_outstanding}
+use Rattle.mux_conn.specs.Connection.{is_outstanding, is_ready as is_ready_life}
 
 -- whose messages a link carries
 --
@@ -410,35 +410,43 @@ dropped_end l deaf none = by_test l.up _
 
 -- where a link is ready
 --
--- by how far it has come
-ready_by : (l : Ledger) (created : ℕ) (info : RedisConnectionInfo) (started : List ℕ) (life : Life) → TiedLife l created life → AreSought l.creds life → TiedSetup l info started life → is_ready l ≡ true → created ≢ 0
-ready_by l created info started Resting h c s r = absurd (not_both l.up h.1 (both_left l.up (is_set_up l) r))
-ready_by l created info started Dialing h c s r = absurd (not_both l.up h.1 (both_left l.up (is_set_up l) r))
-ready_by l created info started (Wanting link) h c s r = absurd (not_both (is_set_up l) (lacking_unset l (wanting_lacks l.creds link c)).unset (both_right l.up (is_set_up l) r))
-ready_by l created info started (SettingUp link greeting) h c s r = absurd (not_both (is_set_up l) (not_set_up l link greeting s.said.1).unset (both_right l.up (is_set_up l) r))
-ready_by l created info started (Ready link) h c s r = h.3
-ready_by l created info started (Ended e) h c s r = absurd (not_both l.up h.0 (both_left l.up (is_set_up l) r))
+-- so is its connection's life
+ready_lives : (l : Ledger) (created : ℕ) (info : RedisConnectionInfo) (started : List ℕ) (life : Life) → TiedLife l created life → AreSought l.creds life → TiedSetup l info started life → is_ready l ≡ true → is_ready_life life ≡ true
+ready_lives l created info started Resting h c s r = absurd (not_both l.up h.1 (both_left l.up (is_set_up l) r))
+ready_lives l created info started Dialing h c s r = absurd (not_both l.up h.1 (both_left l.up (is_set_up l) r))
+ready_lives l created info started (Wanting link) h c s r = absurd (not_both (is_set_up l) (lacking_unset l (wanting_lacks l.creds link c)).unset (both_right l.up (is_set_up l) r))
+ready_lives l created info started (SettingUp link greeting) h c s r = absurd (not_both (is_set_up l) (not_set_up l link greeting s.said.1).unset (both_right l.up (is_set_up l) r))
+ready_lives l created info started (Ready link) h c s r = refl
+ready_lives l created info started (Ended e) h c s r = absurd (not_both l.up h.0 (both_left l.up (is_set_up l) r))
 
--- the creation was shown
+pub ready_life : (b : Book) (t : Inner) → Tied b t → is_ready (b.link t.link) ≡ true → is_ready_life t.life ≡ true
+ready_life b t h ready = ready_lives (b.link t.link) b.created t.info t.started t.life h.life h.creds.sought h.setup ready
+
+-- so the creation was shown
+ready_made : (l : Ledger) (created : ℕ) (life : Life) → is_ready_life life ≡ true → TiedLife l created life → created ≢ 0
+ready_made l created Resting up h = cc
+ready_made l created Dialing up h = cc
+ready_made l created (Wanting link) up h = cc
+ready_made l created (SettingUp link greeting) up h = cc
+ready_made l created (Ready link) up h = h.3
+ready_made l created (Ended e) up h = cc
+
 pub ready_shown : (b : Book) (t : Inner) → Tied b t → ReadyIsShown b
 ready_shown b t h m ready = by_test (m == t.link) _
-    (λ same. ready_by (b.link t.link) b.created t.info t.started t.life h.life h.creds.sought h.setup (subst (λ k. is_ready (b.link k) ≡ true) (eq_from m t.link same) ready))
+    (λ same. ready_made (b.link t.link) b.created t.life (ready_life b t h (subst (λ k. is_ready (b.link k) ≡ true) (eq_from m t.link same) ready)) h.life)
     (λ other. absurd (not_both (b.link m).up (h.others m (ne_from m t.link other)).down (both_left (b.link m).up (is_set_up (b.link m)) ready)))
 
 -- and it takes requests where its connection does
---
--- by how far it has come
-served_by : (l : Ledger) (calls : List Call) (within : Option ℕ) (created : ℕ) (info : RedisConnectionInfo) (started : List ℕ) (a : Again) (life : Life) → TiedLife l created life → AreSought l.creds life → TiedSetup l info started life → TiedRepeat l calls within a life → is_ready l ≡ true
-    → is_served l ≡ not (is_outstanding a)
-served_by l calls within created info started a Resting h c s k r = absurd (not_both l.up h.1 (both_left l.up (is_set_up l) r))
-served_by l calls within created info started a Dialing h c s k r = absurd (not_both l.up h.1 (both_left l.up (is_set_up l) r))
-served_by l calls within created info started a (Wanting link) h c s k r = absurd (not_both (is_set_up l) (lacking_unset l (wanting_lacks l.creds link c)).unset (both_right l.up (is_set_up l) r))
-served_by l calls within created info started a (SettingUp link greeting) h c s k r = absurd (not_both (is_set_up l) (not_set_up l link greeting s.said.1).unset (both_right l.up (is_set_up l) r))
-served_by l calls within created info started a (Ready link) h c s k r = served_is l calls within a k
-served_by l calls within created info started a (Ended e) h c s k r = absurd (not_both l.up h.0 (both_left l.up (is_set_up l) r))
+served_by : (l : Ledger) (calls : List Call) (within : Option ℕ) (a : Again) (life : Life) → is_ready_life life ≡ true → TiedRepeat l calls within a life → is_served l ≡ not (is_outstanding a)
+served_by l calls within a Resting up h = cc
+served_by l calls within a Dialing up h = cc
+served_by l calls within a (Wanting link) up h = cc
+served_by l calls within a (SettingUp link greeting) up h = cc
+served_by l calls within a (Ready link) up h = served_is l calls within a h
+served_by l calls within a (Ended e) up h = cc
 
 pub ready_served : (b : Book) (t : Inner) → Tied b t → is_ready (b.link t.link) ≡ true → is_served (b.link t.link) ≡ not (is_outstanding t.again)
-ready_served b t h ready = served_by (b.link t.link) b.tracked t.renewal.within b.created t.info t.started t.again t.life h.life h.creds.sought h.setup h.repeat ready
+ready_served b t h ready = served_by (b.link t.link) b.tracked t.renewal.within t.again t.life (ready_life b t h ready) h.repeat
 
 -- every source was asked for that is to be
 --

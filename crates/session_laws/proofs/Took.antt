@@ -27,12 +27,13 @@ use Rattle.session_laws.proofs.Server.{TiedSetup, TiedCreds, TiedRenewal}
 use Rattle.session_laws.proofs.Tied.{carried, link_in, owner_of, whole_link, TiedLife, TiedLines, AreQueued, TiedWaits, has_ended, greeter, TiedRounds, AreEarly, HasCourse}
 use Rattle.session_laws.proofs.States.{IsFit, Between, HasApplied}
 use Rattle.session_laws.proofs.Announce.{turn_of, turned, IsNewsKind, asked_hear}
-use Rattle.session_laws.proofs.Heard.{quiet_applied, ended_quiet, dialing_quiet, setting_waits, still_none, pushes_still, wanting_waits, resting_quiet, hushed_there, heard_by}
+use Rattle.session_laws.proofs.Heard.{quiet_applied, ended_quiet, dialing_quiet, setting_waits, still_none, pushes_still, wanting_waits, resting_quiet, hushed_there, heard_by, repeat_still}
 use Rattle.session_laws.proofs.Said.{mild_end, setup_hears, setup_link, setup_ready, wanting_link, pushes_there}
 use Rattle.mux_conn.specs.Connection.{is_ready, is_resting}
-use Rattle.session_laws.proofs.Repeats.{serves}
+use Rattle.session_laws.proofs.Repeats.{serves, TiedRepeat}
 use Rattle.session_laws.proofs.Serving.{unready_serves}
 use Rattle.mux_conn.specs.declared.again.Again.{Again}
+use Rattle.session_laws.proofs.Held.{held_hears}
 
 -- it need not end
 took_no_end : (l : Ledger) (turn count : ℕ) → ending l ≡ None → ending (noted l (hears turn (took count))) ≡ None
@@ -135,6 +136,7 @@ took_applied before c started word count kind h good k is can = by_life c.single
           course = (course.0, course.1, course.2, (asked_hear l c.turns (took count)).last ∙ course.3);
           creds = took_creds l conn.renewal.wanted c.turns count (Wanting (wrote_of link count)) (record { wanted_is = creds.wanted_is; sought = creds.sought });
           renewal_is = took_renewal l conn.renewal c.turns count (Wanting (wrote_of link count)) (subst (TiedRenewal l conn.renewal) e h.sound.tied.renewal);
+          repeat_is = held_hears b c started (took count) h.sound.tied (ap is_resting e) (ap is_ready e) (ap has_ended e);
           said = wanting_link (noted l (hears c.turns (took count))) conn.info started link (wrote_of link count) refl refl said;
           linked = λ n. wrote_tied (λ (p : ℕ). owner.Setup) l link c.turns count life.1 few tied;
           lines = subst (λ (x : Life). TiedLines b.story conn.requests (link_in x) conn.waiting conn.admitted [] started) e h.sound.tied.lines;
@@ -167,6 +169,7 @@ took_applied before c started word count kind h good k is can = by_life c.single
           course = (course.0, course.1, course.2, (asked_hear l c.turns (took count)).last ∙ course.3);
           creds = took_creds l conn.renewal.wanted c.turns count (SettingUp (wrote_of link count) greeting) (record { wanted_is = creds.wanted_is; sought = creds.sought });
           renewal_is = took_renewal l conn.renewal c.turns count (SettingUp (wrote_of link count) greeting) (subst (TiedRenewal l conn.renewal) e h.sound.tied.renewal);
+          repeat_is = held_hears b c started (took count) h.sound.tied (ap is_resting e) (ap is_ready e) (ap has_ended e);
           said = setup_link (noted l (hears c.turns (took count))) conn.info started link (wrote_of link count) greeting refl refl said;
           linked = λ n. wrote_tied (λ (p : ℕ). greeter greeting) l link c.turns count life.1 few tied;
           lines = subst (λ (x : Life). TiedLines b.story conn.requests (link_in x) conn.waiting conn.admitted [] started) e h.sound.tied.lines;
@@ -199,6 +202,7 @@ took_applied before c started word count kind h good k is can = by_life c.single
           course = (course.0, course.1, course.2, (asked_hear l c.turns (took count)).last ∙ course.3);
           creds = took_creds l conn.renewal.wanted c.turns count (Ready (wrote_of link count)) (record { wanted_is = creds.wanted_is; sought = creds.sought });
           renewal_is = took_renewal l conn.renewal c.turns count (Ready (wrote_of link count)) (subst (TiedRenewal l conn.renewal) e h.sound.tied.renewal);
+          repeat_is = subst (TiedRepeat (heard_by b c (took count)) b.tracked conn.renewal.within conn.again) e (repeat_still b c started (took count) h.sound.tied (inl tt));
           said = setup_ready (noted l (hears c.turns (took count))) conn.info started link (wrote_of link count) said;
           linked = λ n. wrote_tied (owner_of conn.requests) l link c.turns count life.1 few tied;
           lines = wrote_lines b.story conn.requests link count conn.waiting conn.admitted [] started (subst (λ (x : Life). TiedLines b.story conn.requests (link_in x) conn.waiting conn.admitted [] started) e h.sound.tied.lines);
