@@ -253,7 +253,7 @@ set_up_going trace t link greeting due user fit free h =
     going_more trace (set_up_action t link q) (setting_on t (with_queue (begun link q) []) greeting) h.sound.stands
     (set_up_may b t link greeting due fit free h.sound.tied h.ended)
     (set_up_tied b t link greeting due user h.sound.tied)
-    (set_up_ends_none b t link greeting due h.sound.tied h.ended) (λ x e. cc)
+    (set_up_ends_none b t link greeting due h.sound.tied h.ended) (λ x e. cc) (λ up. cc)
 
 -- the pass
 --

@@ -168,7 +168,7 @@ watch_going trace t link due fit free h =
     going_more trace (watch_action t link) (setting_on t (watched link) greet.Monitor) h.sound.stands
     (watch_may b t link due fit free h.sound.tied h.ended)
     (watch_tied b t link due h.sound.tied)
-    (watch_ends_none b t link due h.sound.tied h.ended) (λ x e. cc)
+    (watch_ends_none b t link due h.sound.tied h.ended) (λ x e. cc) (λ up. cc)
 
 -- the pass
 --
