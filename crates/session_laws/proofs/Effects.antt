@@ -9,7 +9,7 @@ use Rattle.driver_model.specs.declared.action.SourceUse.TheVariants as source
 use Rattle.driver_model.specs.declared.event.EventKind.{EventKind}
 use Rattle.driver_model.specs.declared.event.EventKind.TheVariants as event
 use Rattle.driver_model.specs.declared.news.LinkFault.TheVariants as fault
-use Rattle.driver_model.specs.News.{News, connected, took, came, failed, authorized, denied, deserted, for_link, news_of, of_source, of_timer, refused, overdue, silence, renewed, unrenewed, late}
+use Rattle.driver_model.specs.News.{News, connected, took, came, failed, authorized, denied, deserted, for_link, news_of, of_source, of_timer, refused, overdue, silence, renewed, unrenewed, late, unrepeated}
 use Rattle.mux_conn.specs.declared.life.Life.{Life}
 use Rattle.mux_conn.specs.declared.life.Life.TheVariants.{Resting, Dialing, Ready, Ended, SettingUp, Wanting}
 use Rattle.mux_conn.specs.Effects.{CanTake, applied}
@@ -32,6 +32,7 @@ use Rattle.driver_model.specs.declared.action.Purpose.TheVariants as purpose
 use Rattle.session_laws.proofs.Asked.{submit_applied}
 use Rattle.session_laws.proofs.Renewed.{renewed_applied, unrenewed_applied, renewal_late}
 use Rattle.session_laws.proofs.Heard.{silent_no_end, still_none}
+use Rattle.session_laws.proofs.RepeatOver.{repeat_over}
 
 -- the news of an event that names the connection's link
 by_news : (before : List Action) (c : Core) (started : List ℕ) (word : ℕ) (kind : EventKind) (heard n : News) → heard ≡ n

@@ -55,6 +55,7 @@ pub mod Retire
 pub mod Connect
 pub mod Given
 pub mod Renewed
+pub mod RepeatOver
 pub mod Took
 pub mod HeardBytes
 pub mod ReadSetup
