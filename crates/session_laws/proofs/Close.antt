@@ -15,11 +15,12 @@ use Rattle.link_core.specs.Link.{LinkState}
 use Rattle.link_laws.specs.Settles.{settled_ids, wanted, awaited_ids, IsOwed}
 use Rattle.link_laws.proofs.Dealt.{all_append}
 use Rattle.mux_conn.specs.declared.act.LinkAct.TheVariants as act
+use Rattle.mux_conn.specs.declared.again.Again.TheVariants as again
 use Rattle.mux_conn.specs.declared.life.Life.{Life}
 use Rattle.mux_conn.specs.declared.life.Life.TheVariants.{Resting, Wanting, SettingUp, Ready, Ended}
 use Rattle.mux_conn.specs.declared.request.Request.{Request}
 use Rattle.mux_conn.specs.declared.request.Waiting.{Waiting}
-use Rattle.mux_conn.specs.Connection.{Work, acted, at_life, is_resting}
+use Rattle.mux_conn.specs.Connection.{Work, acted, at_life, is_resting, is_outstanding}
 use Rattle.mux_conn.specs.Requests.{is_open_at, name_at}
 use Rattle.mux_conn.specs.Effects.{waiting_failed, nobody_waits, failed_each, settled_each, ended, all_answered, cut_short, parted, noticed}
 use Rattle.shared_session.specs.declared.core_state.Core.{Core}
@@ -55,6 +56,7 @@ use Rattle.driver_model.specs.declared.hearing.Notice.TheVariants as notice
 use Rattle.session_laws.proofs.Lost.{end_served}
 use Rattle.mux_conn.specs.declared.again.Again.{Again}
 use Rattle.session_laws.proofs.Own.{own_over}
+use Rattle.session_laws.proofs.Repeats.{TiedRepeat}
 
 -- no error is none
 no_failure : (e : RedisError) → ◌≡◌ {A = Option RedisError} None (Some e) → ⊥
@@ -283,14 +285,15 @@ waiting_in_line requests life admitted waiting bare r =
 
 -- all that wait are answered
 waiting_failed_holds : (before : List Action) (f : Core) (ledger : Ledger) (owes : ℕ → Option Outcome) (name : ℕ → ℕ) (was : ℕ → Bool) (w : Work) (e : RedisError) (started : List ℕ) → link_in w.conn.life ≡ no_link → AreDue owes name was e w.conn.admitted w.conn.waiting
-    → IsAnswering before f ledger owes name was w [] started → IsAnswering before f ledger owes name was (waiting_failed w e) [] started
-waiting_failed_holds before f ledger owes name was w e started bare due h =
+    → (has_ended w.conn.life ≡ false → is_outstanding w.conn.again ≡ true → ⊥) → IsAnswering before f ledger owes name was w [] started → IsAnswering before f ledger owes name was (waiting_failed w e) [] started
+waiting_failed_holds before f ledger owes name was w e started bare due quiet h =
     let rest = nobody_waits w in
     failed_holds before f ledger owes name was (failed_each rest e w.conn.admitted) e w.conn.waiting [] started due.connection
     (failed_holds before f ledger owes name was rest e w.conn.admitted (waiting_ids w.conn.waiting ++ []) started due.place
     (record {
       holds = record { stands = h.holds.stands; tied = waiting_tied (book (trace_of_acts before f w.acts)) (seen f w.acts w.conn [] started) h.holds.tied };
       line = waiting_in_line w.conn.requests w.conn.life w.conn.admitted w.conn.waiting bare h.line;
+      quiet = λ up goes. absurd (quiet up goes);
       ledger_is = h.ledger_is;
       owed_is = h.owed_is;
       named = h.named;
@@ -319,29 +322,29 @@ HasEnded before f w e started = HasAnswered before f w (Ended e) started
 
 -- those that wait are answered, where the others were
 rest_ends : (before : List Action) (f : Core) (ledger : Ledger) (owes : ℕ → Option Outcome) (name : ℕ → ℕ) (was : ℕ → Bool) (w : Work) (life : Life) (e : RedisError) (started : List ℕ) → w.conn.life ≡ life → link_in life ≡ no_link → AreDue owes name was e w.conn.admitted w.conn.waiting
-    → IsAnswering before f ledger owes name was w [] started → HasAnswered before f (waiting_failed w e) life started
-rest_ends before f ledger owes name was w life e started over bare due h =
+    → (has_ended w.conn.life ≡ false → is_outstanding w.conn.again ≡ true → ⊥) → IsAnswering before f ledger owes name was w [] started → HasAnswered before f (waiting_failed w e) life started
+rest_ends before f ledger owes name was w life e started over bare due quiet h =
     let m = waiting_leaves w e in
-    record { holds = (waiting_failed_holds before f ledger owes name was w e started (ap link_in over ∙ bare) due h).holds; over = m.life ∙ over; none_waits = m.waiting; none_admitted = m.admitted }
+    record { holds = (waiting_failed_holds before f ledger owes name was w e started (ap link_in over ∙ bare) due quiet h).holds; over = m.life ∙ over; none_waits = m.waiting; none_admitted = m.admitted }
 
 -- where only those that wait are open
-kept_end : (before : List Action) (f : Core) (w : Work) (life : Life) (e : RedisError) (started : List ℕ) → Holds before f w [] started → w.conn.life ≡ life → link_in life ≡ no_link
+kept_end : (before : List Action) (f : Core) (w : Work) (life : Life) (e : RedisError) (started : List ℕ) → Holds before f w [] started → w.conn.life ≡ life → link_in life ≡ no_link → (has_ended w.conn.life ≡ false → is_outstanding w.conn.again ≡ true → ⊥)
     → (let b = book (trace_of_acts before f w.acts) in owed_waiting b.shut (b.link f.single.link) ≡ Some (outcome.Fault e)) → HasAnswered before f (waiting_failed w e) life started
-kept_end before f w life e started h over bare owes =
+kept_end before f w life e started h over bare quiet owes =
     let b = book (trace_of_acts before f w.acts) in
     let t = seen f w.acts w.conn [] started in
     let kept = kept_ids w.conn.admitted w.conn.waiting in
     let none = ap link_in over ∙ bare in
     let line = subst (λ (x : LinkState). IsInLine w.conn.requests x w.conn.admitted w.conn.waiting []) (sym none)
     (rising_right 0 (requests_in started) kept (length w.conn.requests) (subst (λ (x : LinkState). Rising 0 (requests_in started ++ (queue_ids x.queue ++ kept)) (length w.conn.requests)) none h.tied.lines.line)) in
-    rest_ends before f (b.link f.single.link) (owed b) (name_at w.conn.requests) (is_open_at w.conn.requests) w life e started over bare (all_waiting_due b t e h.tied (are_in_time b t h.tied refl) owes) (answering before f w [] started h line)
+    rest_ends before f (b.link f.single.link) (owed b) (name_at w.conn.requests) (is_open_at w.conn.requests) w life e started over bare (all_waiting_due b t e h.tied (are_in_time b t h.tied refl) owes) quiet (answering before f w [] started h line (λ up goes. refl))
 
 -- of a link that is over
 pub waiting_ends : (before : List Action) (f : Core) (w : Work) (e : RedisError) (started : List ℕ) → Holds before f w [] started → w.conn.life ≡ Ended e → HasEnded before f (waiting_failed w e) e started
 waiting_ends before f w e started h over =
     let b = book (trace_of_acts before f w.acts) in
     let down = subst (λ (x : Life). TiedLife (b.link f.single.link) b.created x) over h.tied.life in
-    kept_end before f w (Ended e) e started h over refl (owed_asked b.shut (b.link f.single.link) down.3 ∙ down.1)
+    kept_end before f w (Ended e) e started h over refl (λ up goes. not_both (has_ended w.conn.life) up (ap has_ended over)) (owed_asked b.shut (b.link f.single.link) down.3 ∙ down.1)
 
 -- or without a link, where everything is shut down
 pub waiting_shut : (before : List Action) (f : Core) (w : Work) (started : List ℕ) → Holds before f w [] started → w.conn.life ≡ Resting → f.shut ≡ true → HasAnswered before f (waiting_failed w error.Closed) Resting started
@@ -349,7 +352,8 @@ waiting_shut before f w started h rests shut =
     let b = book (trace_of_acts before f w.acts) in
     let l = b.link f.single.link in
     let none = (subst (λ (x : Life). TiedLife l b.created x) rests h.tied.life).0 in
-    kept_end before f w Resting error.Closed started h rests refl (λ i. if (h.tied.numbers.shut ∙ shut) i && not (none i) then Some (outcome.Fault error.Closed) else owed_unstarted l.end)
+    let nothing : w.conn.again ≡ again.Nothing = subst (TiedRepeat l b.tracked w.conn.renewal.within w.conn.again) rests h.tied.repeat in
+    kept_end before f w Resting error.Closed started h rests refl (λ up goes. not_both (is_outstanding w.conn.again) (ap is_outstanding nothing) goes) (λ i. if (h.tied.numbers.shut ∙ shut) i && not (none i) then Some (outcome.Fault error.Closed) else owed_unstarted l.end)
 
 -- a settled message is one of these that wait, and gets the closed connection
 abbrev pub IsClosedOf : List ℕ → Settled → Type 0
@@ -441,7 +445,7 @@ all_ends before f w ids row queue started h =
     let own : own_each w out ≡ renewing w come = own_over w out error.Closed h.over in
     let come_tied : Tied c (record s { renewal = come }) = renewal_over c s come error.Closed kept.0 kept.1 kept.2 kept.3 h.over tied in
     let held : Holds before f (renewing w come) ns started = record { stands = h.holds.stands; tied = come_tied } in
-    let a = answering before f (renewing w come) (ns ++ []) started (subst (λ ms. Holds before f (renewing w come) ms started) (sym (append-nil ns)) held) (subst (IsInLine w.conn.requests (link_in w.conn.life) w.conn.admitted w.conn.waiting) (sym (append-nil ns)) line) in
+    let a = answering before f (renewing w come) (ns ++ []) started (subst (λ ms. Holds before f (renewing w come) ms started) (sym (append-nil ns)) held) (subst (IsInLine w.conn.requests (link_in w.conn.life) w.conn.admitted w.conn.waiting) (sym (append-nil ns)) line) (λ up goes. absurd (not_both (has_ended w.conn.life) up (ap has_ended h.over))) in
     let u = settled_each w out in
     let k = settled_leaves w out in
     let answers = subst (λ (x : Work). IsAnswering before f (c.link f.single.link) (owed c) (name_at w.conn.requests) (is_open_at w.conn.requests) x (ns ++ []) started) (sym own) a in
@@ -450,7 +454,7 @@ all_ends before f w ids row queue started h =
     (record {
       place = subst (AllByRecursion (IsDueError (owed c) (name_at w.conn.requests) (is_open_at w.conn.requests) error.Closed)) (sym k.admitted) later.place;
       connection = subst (AllByRecursion (IsDueError (owed c) (name_at w.conn.requests) (is_open_at w.conn.requests) error.Closed)) (sym k.waiting) later.connection;
-    }) settled
+    }) (λ up goes. not_both (has_ended u.conn.life) up (ap has_ended (k.life ∙ h.over))) settled
 
 -- so a link ends that need not be told to have
 pub ended_holds : (before : List Action) (f : Core) (w : Work) (row queue : List Settled) (why : Ending) (started : List ℕ) → Holds before f w [] started → has_ended w.conn.life ≡ false → owed_by why ≡ Some (outcome.Fault error.Closed) → failure_of why ≡ None → is_fault why ≡ false → f.shut ≡ true

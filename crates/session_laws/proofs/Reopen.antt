@@ -171,7 +171,7 @@ aim_later (purpose.Response owner.Resub) link links count le h = h
 aim_later (purpose.Response owner.Monitor) link links count le h = h
 aim_later (purpose.Renewal l k) link links count le h = omega (arith, le, h)
 aim_later (purpose.Backoff g) link links count le h = h
-aim_later (purpose.Resubscription l) link links count le h = h
+aim_later (purpose.Resubscription l) link links count le h = omega (arith, le, h)
 aim_later (purpose.Response (owner.Try n round)) link links count le h = h
 
 -- a source was asked for a link before it

@@ -38,7 +38,7 @@ use Rattle.session_laws.proofs.Said.{setup_on, sources_asked, IsTame, renoticed}
 use Rattle.session_laws.proofs.Further.{get_beyond, no_longer, SameBefore, further_story, tries_longer, queue_longer, packs_longer, told_longer, IsNext, waits_longer, permits_longer, late_longer}
 use Rattle.session_laws.proofs.InLine.{kept_ids, awaited_in}
 use Rattle.session_laws.proofs.Comes.{course_later}
-use Rattle.session_laws.proofs.Repeats.{repeat_alike}
+use Rattle.session_laws.proofs.Repeats.{repeat_alike, TiedRepeat}
 
 -- the stories once it is handed in
 abbrev pub stories_with : Book → Submission → ℕ → Story
@@ -221,7 +221,7 @@ refused_tied b c started word what e h tame form few no_fresh why =
       creation = h.creation;
       uses = uses_on c.sources c.single.link h.uses;
       renewal = renewal_alike ledger (record ledger { heard = silence }) conn.renewal conn.life refl refl refl h.renewal;
-      repeat = repeat_alike ledger (record ledger { heard = silence }) b.tracked conn.renewal.within conn.again conn.life refl refl refl (λ e is. refl) h.repeat;
+      repeat = subst (λ calls. TiedRepeat (record ledger { heard = silence }) calls conn.renewal.within conn.again conn.life) (sym (append-nil b.tracked)) (repeat_alike ledger (record ledger { heard = silence }) b.tracked conn.renewal.within conn.again conn.life refl refl refl (λ x over. refl) h.repeat);
       setup = setup_on ledger ledger.asked ledger.up ledger.end ledger.taken ledger.offer ledger.rest silence conn.info started conn.life h.setup;
       link = λ alive. told_tied (carried conn.life conn.requests) ledger (whole_link conn.life) ledger.asked ledger.up silence (h.link alive);
       names = names_refused c.table conn.requests h.names;

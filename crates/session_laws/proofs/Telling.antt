@@ -41,7 +41,7 @@ use Rattle.session_laws.proofs.Ahead.{later_untried}
 use Rattle.session_laws.proofs.Answer.{answer_tied, owed_still, skip_tied}
 use Rattle.session_laws.proofs.Told.{current_is, lined, notice_action, notice_tied, retells}
 use Rattle.session_laws.proofs.Kept.{mine_noted}
-use Rattle.session_laws.proofs.Settle.{IsDue, Tells, book_of_more, first_may, leaves_all, leaves_on, Leaves, rest_in_line, seen, settled_holds, settled_leaves, sound_told, trace_of_acts, one_leaves, shown_now, answered_owns, own_each, own_one, own_settled, request_settled}
+use Rattle.session_laws.proofs.Settle.{IsDue, Tells, book_of_more, first_may, leaves_all, leaves_on, Leaves, rest_in_line, seen, settled_holds, settled_leaves, sound_told, trace_of_acts, one_leaves, shown_now, answered_owns, own_each, own_one, own_settled, request_settled, AnswersNone, some_pending}
 use Rattle.driver_model.specs.declared.hearing.Notice.{Notice}
 use Rattle.driver_model.specs.declared.hearing.Notice.TheVariants as notice
 use Rattle.link_laws.proofs.Notices.{IsNoEnd}
@@ -158,6 +158,7 @@ same_push x y e = cc
 pub record IsTelling (before : List Action) (f : Core) (ledger : Ledger) (owes : ℕ → Option Outcome) (name : ℕ → ℕ) (was : ℕ → Bool) (w : Work) (untold : List Heard) (pending started : List ℕ) : Type 0 where
   pub holds : Tells before f w untold pending started
   pub line : IsInLine w.conn.requests (link_in w.conn.life) w.conn.admitted w.conn.waiting pending
+  pub quiet : AnswersNone w.conn pending
   pub told : ℕ
   pub ledger_is : (book (trace_of_acts before f w.acts)).link f.single.link ≡ retells ledger told ledger.parted
   pub owed_is : (n : ℕ) → owed (book (trace_of_acts before f w.acts)) n ≡ owes n
@@ -302,6 +303,7 @@ one_told before f ledger owes name was w n h rest pending started hears alive sa
             tame = k.holds.tied.notices.tame;
           }) k.holds.tied);
       line = k.line;
+      quiet = k.quiet;
       told = l.told + 1;
       ledger_is = next_is ∙ ap (λ (x : Ledger). retells x (l.told + 1) x.parted) k.ledger_is;
       owed_is = λ m. ap (λ (x : Book). owed x m) (notice_book before f w.acts n) ∙ notice_owed b f.single.link n m ∙ k.owed_is m;
@@ -338,8 +340,9 @@ answered_between before f ledger owes name was w h rest p o pending started hear
           holds = sound_told before f w.acts a (closed w.conn p) (h ∷ rest) false pending started k.holds.stands
               (inl (first_may b t p pending o k.holds.tied k.line e owes_now
               (λ heard push next. full_before b (record t { pending = p ∷ pending }) p early.number early.of_shape push k.holds.tied (open_within w.conn.requests p e) here (subst (λ (x : Heard). is_full_by l x.after early.number ≡ true) (same_push h push (sym n.next ∙ next)) full)) refl))
-              (answer_tied b t p pending o e owes_now k.line k.holds.tied);
+              (answer_tied b t p pending o e owes_now k.line (λ up goes. some_pending p pending (k.quiet up goes)) k.holds.tied);
           line = subst (λ m. Rising 0 (pending ++ line_of (link_in w.conn.life) w.conn.admitted w.conn.waiting) m) (sym (length_with w.conn.requests p progress.Closed 0)) (rest_in_line w.conn.requests (link_in w.conn.life) w.conn.admitted w.conn.waiting p pending k.line);
+          quiet = λ up goes. absurd (some_pending p pending (k.quiet up goes));
           told = k.told;
           ledger_is = ap (λ (x : Book). x.link f.single.link) (book_of_more before f w.acts a) ∙ k.ledger_is;
           owed_is = λ m. ap (λ (x : Book). owed x m) (book_of_more before f w.acts a) ∙ owed_still b (name_at w.conn.requests p) o m ∙ k.owed_is m;
@@ -351,6 +354,7 @@ answered_between before f ledger owes name was w h rest p o pending started hear
     shut_one e = record {
       holds = record { stands = k.holds.stands; tied = skip_tied b t p pending e k.holds.tied };
       line = rest_in_line w.conn.requests (link_in w.conn.life) w.conn.admitted w.conn.waiting p pending k.line;
+      quiet = λ up goes. absurd (some_pending p pending (k.quiet up goes));
       told = k.told;
       ledger_is = k.ledger_is;
       owed_is = k.owed_is;
@@ -363,8 +367,8 @@ answered_last : (before : List Action) (f : Core) (ledger : Ledger) (owes : ℕ 
     → IsTelling before f ledger owes name was (own_each w ss) [] (requests_in (settled_ids ss) ++ []) started → IsTelling before f ledger owes name was (settled_each w ss) [] [] started
 answered_last before f ledger owes name was w ss started due k =
     let now = (book (trace_of_acts before f (own_each w ss).acts)).link f.single.link in
-    let a = settled_holds before f now owes name was w ss [] started due (record { holds = k.holds; line = k.line; ledger_is = refl; owed_is = k.owed_is; named = k.named; opens = k.opens }) in
-    record { holds = a.holds; line = a.line; told = k.told; ledger_is = a.ledger_is ∙ k.ledger_is; owed_is = a.owed_is; named = a.named; opens = a.opens }
+    let a = settled_holds before f now owes name was w ss [] started due (record { holds = k.holds; line = k.line; quiet = k.quiet; ledger_is = refl; owed_is = k.owed_is; named = k.named; opens = k.opens }) in
+    record { holds = a.holds; line = a.line; quiet = a.quiet; told = k.told; ledger_is = a.ledger_is ∙ k.ledger_is; owed_is = a.owed_is; named = a.named; opens = a.opens }
 
 -- one that was settled is answered between, where it is a request's
 settled_between : (before : List Action) (f : Core) (ledger : Ledger) (owes : ℕ → Option Outcome) (name : ℕ → ℕ) (was : ℕ → Bool) (w : Work) (h : Heard) (rest : List Heard) (s : Settled) (ss : List Settled) (started : List ℕ) → hears_something w.conn.hears ≡ true → IsDue owes name was s → IsOnTime ledger (try_of name) h s.id
@@ -466,6 +470,6 @@ unheard_holds before f ledger owes name was w n ss started due k =
     subst (λ (x : Work). IsTelling before f ledger owes name was x [] [] started) (sym (none_told w n ss)) (answered_last before f ledger owes name was w ss started due k)
 
 -- it begins
-pub telling : (before : List Action) (f : Core) (w : Work) (untold : List Heard) (pending started : List ℕ) → Tells before f w untold pending started → IsInLine w.conn.requests (link_in w.conn.life) w.conn.admitted w.conn.waiting pending
+pub telling : (before : List Action) (f : Core) (w : Work) (untold : List Heard) (pending started : List ℕ) → Tells before f w untold pending started → IsInLine w.conn.requests (link_in w.conn.life) w.conn.admitted w.conn.waiting pending → AnswersNone w.conn pending
     → (let b = book (trace_of_acts before f w.acts) in IsTelling before f (b.link f.single.link) (owed b) (name_at w.conn.requests) (is_open_at w.conn.requests) w untold pending started)
-telling before f w untold pending started h line = record { holds = h; line = line; told = ((book (trace_of_acts before f w.acts)).link f.single.link).told; ledger_is = refl; owed_is = λ n. refl; named = λ p. refl; opens = λ p o. o }
+telling before f w untold pending started h line quiet = record { holds = h; line = line; quiet = quiet; told = ((book (trace_of_acts before f w.acts)).link f.single.link).told; ledger_is = refl; owed_is = λ n. refl; named = λ p. refl; opens = λ p o. o }
