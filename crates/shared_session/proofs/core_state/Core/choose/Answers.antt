@@ -1,9 +1,8 @@
-use Rattle.std.proofs.Common.{◌≡◌, ◌^◌, ◌<◌, sym, subst}
+use Rattle.std.proofs.Common.{◌^◌, ◌<◌, sym, subst}
 use Rattle.shared_session.specs.declared.core_state.Core.{Core}
-use Rattle.shared_session.specs.declared.generations.Comeback.{Comeback}
 use Rattle.shared_session.specs.Generations.{comeback_in, IsCounted, IsRestable}
 use Rattle.shared_session.proofs.Comebacks.{counted_heeding, suits_in, restable}
-use Rattle.shared_session.proofs.generations.Core.choose.Goals as goal
+use Rattle.shared_session.proofs.core_state.Core.choose.Goals as goal
 
 pub comeback-requires-clause-counted : goal.comeback-requires-clause-counted
 comeback-requires-clause-counted c = subst IsCounted (sym c.in_ok-heed.ensures) (counted_heeding c.args.self.now c.args.event.now c.args.acts.now c.requires.counted)

@@ -1,4 +1,4 @@
-use Rattle.std.proofs.Common.{◌≡◌, ◌≤◌, ◌^◌, ◌<◌, List, [], length, None, Bool, ap, subst, sym, ◌∙◌, arith}
+use Rattle.std.proofs.Common.{◌≡◌, ◌^◌, ◌<◌, List, [], length, None, Bool, ap, subst, sym, ◌∙◌, arith}
 use Rattle.driver_model.specs.declared.event.EventKind.{EventKind}
 use Rattle.mux_conn.specs.declared.act.LinkAct.{LinkAct}
 use Rattle.mux_conn.specs.Connection.{Work, work_with}
@@ -9,7 +9,7 @@ use Rattle.shared_session.specs.Generations.{wakes_in, heeding, comeback_in, cam
 use Rattle.shared_session.specs.Turn.{Turning, turning_with, numbered, own_part, come_back_behind, flushed_apart, ended_apart, IsFewer}
 use Rattle.mux_conn.specs.declared.errors.ConnectionError.TheVariants.{Spent}
 use Rattle.shared_session.proofs.Comebacks.{came_kept}
-use Rattle.shared_session.proofs.Spent.{none_spent}
+use Rattle.shared_session.proofs.Spent.{none_spent, same_error}
 use Rattle.shared_session.proofs.core_state.Core.end_managed.Goals as goal
 
 -- what it does of its own, once timers and sources have their numbers
@@ -85,4 +85,4 @@ returns-in-Err-clause-unspent c is =
     let t : Turning = record { core = c.args.self.now; acts = c.args.acts.now } in
     none_spent c.come_back.new.self.single.connection.failure Spent
     (sound_back t c.number.new.self c.choose.new.self c.come_back.new.self c.args.over c.args.event.now c.in_ok-comeback.comeback c.in_ok-number.ensures c.in_ok-comeback.ensures.core c.in_ok-comeback.ensures.comeback c.in_ok-come_back.ensures c.requires.sound)
-    (c.in-Err.ensures.unspent is)
+    (c.in-Err.ensures.unspent (same_error c.in-Err.error Spent is))
