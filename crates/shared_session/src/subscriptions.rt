@@ -26,8 +26,8 @@ pub struct Subscriptions {
 }
 
 impl Subscriptions {
-    ghost use Rattle.shared_session.specs.Subscriptions.{no_subscriptions, asked_by, tracked_call, tracked_by};
-    ghost use Rattle.shared_session.specs.Subscriptions.{tracked_each, informed, repeat_after};
+    ghost use Rattle.shared_session.specs.Subscriptions.{no_subscriptions, asked_by, tracked_call};
+    ghost use Rattle.shared_session.specs.Subscriptions.{tracked_behind, tracked_by, tracked_each, informed, repeat_after};
 
     /// Nothing was handed in, and nothing is subscribed. Takes no memory.
     pub(crate) fn new(alloc: Global) -> Subscriptions
@@ -74,15 +74,31 @@ impl Subscriptions {
         }
     }
 
-    /// What an act says of what is subscribed: it may tell that a submission is confirmed.
+    /// What this outcome of a submission says of what is subscribed: it may confirm that.
+    fn track_outcome(
+        &mut self,
+        alloc: Global,
+        submission: u32,
+        outcome: &Outcome,
+    ) -> Result<(), AllocError>
+        ensures { OnOk result (self.new ≡ tracked_behind self.old submission outcome.now) }
+    {
+        match outcome {
+            Outcome::Done => self.confirm(alloc, submission),
+            Outcome::One(_) => Ok(()),
+            Outcome::Many(_) => Ok(()),
+            Outcome::Fault(_) => Ok(()),
+        }
+    }
+
+    /// What an act says of it.
     fn track(&mut self, alloc: Global, act: &LinkAct) -> Result<(), AllocError>
         ensures { OnOk result (self.new ≡ tracked_by self.old act.now) }
     {
         match act {
-            LinkAct::Outcome {
-                request,
-                outcome: Outcome::Done,
-            } => self.confirm(alloc, *request),
+            LinkAct::Outcome { request, outcome } => {
+                self.track_outcome(alloc, *request, outcome)
+            }
             _ => Ok(()),
         }
     }
