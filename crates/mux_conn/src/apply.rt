@@ -479,6 +479,7 @@ impl MultiplexedConnection {
     }
 
     /// The effect of news of its link. No request is moved.
+    #[tactic(auto, using(crate::proofs::Served::served_with))]
     pub(crate) fn hear(
         &mut self,
         alloc: Global,

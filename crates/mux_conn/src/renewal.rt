@@ -147,6 +147,7 @@ impl MultiplexedConnection {
     }
 
     /// A message of a request, or the one that subscribes again, is settled.
+    #[tactic(auto, using(crate::proofs::Served::served_with))]
     fn settle_other(
         &mut self,
         alloc: Global,
