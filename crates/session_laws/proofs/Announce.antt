@@ -32,7 +32,7 @@ use Rattle.legal_trace.specs.Story.{Story, fires}
 use Rattle.legal_trace.specs.Book.{Book, book, entered, is_clock_of, hearing_in, rest_after, timeout_after, kind_in, has_generations}
 use Rattle.legal_trace.specs.Events.{is_bad_event}
 use Rattle.legal_trace.specs.Legal.{MayTurn}
-use Rattle.mux_conn.specs.Connection.{is_resting}
+use Rattle.mux_conn.specs.Connection.{is_resting, is_outstanding}
 use Rattle.session_laws.proofs.Comes.{course_later}
 use Rattle.session_laws.proofs.Server.{owners_of, setup_owners, TiedCreds, TiedSetup, TiedRenewal, hearing_at, on_link}
 use Rattle.session_laws.proofs.Tied.{TiedCreation, AreAimed, AreUses, IsAim, owners_each, Inner, inner, link_in, carried, whole_link, AreAside, TiedLife, TiedTries, TiedLines, AreQueued, TiedWaits, Tied, Sound, has_ended, TiedNotices, HasGreetedAlone, is_reading, IsUse, TiedRounds, HasCourse, AreEarly}
@@ -386,17 +386,17 @@ renews_as c info renewal a life fresh = record c.single.connection { info = info
 abbrev pub comes_as : Core → RedisConnectionInfo → Life → List ℕ → MultiplexedConnection
 comes_as c info life fresh = record c.single.connection { info = info; life = life; fresh = fresh }
 
--- where the server is put into monitor mode no credentials come of sources, and none wait
-abbrev pub StaysQuiet : Core → Renewal → Type 0
-StaysQuiet c r = is_watching c.single.connection.hears ≡ true → (r.wanted ≡ false) × (r.waiting ≡ [])
+-- where the server is put into monitor mode no credentials come of sources, none wait, and nothing is subscribed again
+abbrev pub StaysQuiet : Core → Renewal → Again → Type 0
+StaysQuiet c r a = is_watching c.single.connection.hears ≡ true → (r.wanted ≡ false) × (r.waiting ≡ []) × (is_outstanding a ≡ false)
 
 -- so it is between turns
-pub quiet_still : (b : Book) (c : Core) (started : List ℕ) → Tied b (inner c started) → StaysQuiet c c.single.connection.renewal
-quiet_still b c started h w = let q = h.numbers.quiet w in (q.unwanted, q.unrenewed)
+pub quiet_still : (b : Book) (c : Core) (started : List ℕ) → Tied b (inner c started) → StaysQuiet c c.single.connection.renewal c.single.connection.again
+quiet_still b c started h w = let q = h.numbers.quiet w in (q.unwanted, q.unrenewed, q.unrepeated)
 
 -- the session tied to a book with these ledgers, and with these sources of credentials, where new credentials came to this
 pub heard_tied_as : (b : Book) (c : Core) (started : List ℕ) (word created : ℕ) (halted told opened : Bool) (kind : EventKind) (info : RedisConnectionInfo) (renewal : Renewal) (a : Again) (life : Life) (fresh pending : List ℕ) (untold : List Heard) (links : ℕ → Ledger) (l : Ledger) (asked uses : List SourceUse) → Tied b (inner c started) → TiedCreation created told
-    → (b.created ≢ 0 → created ≢ 0) → renewal.within ≡ c.single.connection.renewal.within → renewal.wanted ≡ c.single.connection.renewal.wanted → StaysQuiet c renewal
+    → (b.created ≢ 0 → created ≢ 0) → renewal.within ≡ c.single.connection.renewal.within → renewal.wanted ≡ c.single.connection.renewal.wanted → StaysQuiet c renewal a
     → AreAside c.single.link c.links links c.single.connection.hears renewal.within created → links c.single.link ≡ l → asked ≡ uses → AreUses uses c.single.link l.creds.asked l.creds.renews → ComesAs b c l created opened info renewal a life fresh pending untold started
     → Tied (record (heard_book b c.turns word kind) { created = created; failed = halted; link = links; sources = asked }) (record (seen (turned c kind) [] (renews_as c info renewal a life fresh) pending started) { told = told; opened = opened; untold = untold; sources = uses })
 heard_tied_as b c started word created halted told opened kind info renewal a life fresh pending untold links l asked uses h made shown within wanted quiet others is sourced used k =
@@ -417,7 +417,7 @@ heard_tied_as b c started word created halted told opened kind info renewal a li
         few = h.numbers.few;
         settings = record { size_is = h.numbers.settings.size_is; bound_is = h.numbers.settings.bound_is; limit_is = h.numbers.settings.limit_is; some = h.numbers.settings.some; limited = h.numbers.settings.limited };
         kind_is = h.numbers.kind_is;
-        quiet = λ w. record { none = (h.numbers.quiet w).none; unwanted = (quiet w).0; unrenewed = (quiet w).1 };
+        quiet = λ w. record { none = (h.numbers.quiet w).none; unwanted = (quiet w).0; unrenewed = (quiet w).1; unrepeated = (quiet w).2 };
         comes_back = h.numbers.comes_back;
         lazy = λ is. shown (h.numbers.lazy is);
         current_is = h.numbers.current_is;
@@ -558,7 +558,7 @@ uses_hear sources link l turn n h =
     subst (λ (x : Bool). AreUses sources link x m.creds.renews) (sym (sources_hear l turn n)) (subst (λ (x : Bool). AreUses sources link l.creds.asked x) (sym (renews_hear l turn n)) h)
 
 -- by what its link hears, where new credentials came to this
-pub heard_tied_new : (b : Book) (c : Core) (started : List ℕ) (word created : ℕ) (halted told opened : Bool) (kind : EventKind) (info : RedisConnectionInfo) (renewal : Renewal) (a : Again) (life : Life) (fresh pending : List ℕ) (untold : List Heard) (l : Ledger) → Tied b (inner c started) → TiedCreation created told → renewal.within ≡ c.single.connection.renewal.within → renewal.wanted ≡ c.single.connection.renewal.wanted → StaysQuiet c renewal → is_bad c kind ≡ false → (b.created ≢ 0 → created ≢ 0)
+pub heard_tied_new : (b : Book) (c : Core) (started : List ℕ) (word created : ℕ) (halted told opened : Bool) (kind : EventKind) (info : RedisConnectionInfo) (renewal : Renewal) (a : Again) (life : Life) (fresh pending : List ℕ) (untold : List Heard) (l : Ledger) → Tied b (inner c started) → TiedCreation created told → renewal.within ≡ c.single.connection.renewal.within → renewal.wanted ≡ c.single.connection.renewal.wanted → StaysQuiet c renewal a → is_bad c kind ≡ false → (b.created ≢ 0 → created ≢ 0)
     → noted (b.link c.single.link) (hears c.turns (news_of b.timers b.sources c.single.link kind)) ≡ l → ComesAs b c l created opened info renewal a life fresh pending untold started
     → Tied (record (heard_book b c.turns word kind) { created = created; failed = halted }) (record (seen (turned c kind) [] (renews_as c info renewal a life fresh) pending started) { told = told; opened = opened; untold = untold })
 heard_tied_new b c started word created halted told opened kind info renewal a life fresh pending untold l h made within wanted quiet good shown is k =

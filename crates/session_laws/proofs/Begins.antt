@@ -102,7 +102,7 @@ idle_numbers config word settings info number created told is first lazy = recor
   few = omega arith;
   settings = record { size_is = refl; bound_is = refl; limit_is = refl; some = is.sized.some; limited = is.sized.limited };
   kind_is = refl;
-  quiet = λ w. record { none = refl; unwanted = unwanted_where_watched config w; unrenewed = refl };
+  quiet = λ w. record { none = refl; unwanted = unwanted_where_watched config w; unrenewed = refl; unrepeated = refl };
   comes_back = record {
     whole = config;
     told = refl;

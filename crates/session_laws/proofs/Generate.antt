@@ -100,7 +100,7 @@ over_begins b t e number h over untold parting few comes one nobody closed some 
         few = n.few;
         settings = record { size_is = n.settings.size_is; bound_is = n.settings.bound_is; limit_is = n.settings.limit_is; some = n.settings.some; limited = n.settings.limited };
         kind_is = n.kind_is;
-        quiet = λ w. let q = n.quiet w in record { none = q.none; unwanted = q.unwanted; unrenewed = refl };
+        quiet = λ w. let q = n.quiet w in record { none = q.none; unwanted = q.unwanted; unrenewed = refl; unrepeated = refl };
         comes_back = manager_begins b.config b.generation b.attempt number t.manager some n.comes_back;
         lazy = n.lazy;
         alone = λ none. absurd (not_both (is_some (option_map (λ g. begun_with g number) t.manager)) none (same_some t.manager number ∙ comes));
@@ -212,7 +212,7 @@ first_begins b t number h rests settled alone still nobody untold parting free f
         few = n.few;
         settings = record { size_is = n.settings.size_is; bound_is = n.settings.bound_is; limit_is = n.settings.limit_is; some = n.settings.some; limited = n.settings.limited };
         kind_is = n.kind_is;
-        quiet = λ w. let q = n.quiet w in record { none = q.none; unwanted = q.unwanted; unrenewed = refl };
+        quiet = λ w. let q = n.quiet w in record { none = q.none; unwanted = q.unwanted; unrenewed = refl; unrepeated = refl };
         comes_back = manager_begins b.config b.generation b.attempt number t.manager some n.comes_back;
         lazy = n.lazy;
         alone = λ none. absurd (not_both (is_some (option_map (λ g. begun_with g number) t.manager)) none (same_some t.manager number ∙ course.1));

@@ -140,7 +140,7 @@ opening_numbers config word info timeout none sound some is = record {
   few = omega arith;
   settings = record { size_is = refl; bound_is = refl; limit_is = refl; some = some.some; limited = some.limited };
   kind_is = refl;
-  quiet = λ w. record { none = refl; unwanted = unwanted_where_watched config w; unrenewed = refl };
+  quiet = λ w. record { none = refl; unwanted = unwanted_where_watched config w; unrenewed = refl; unrepeated = refl };
   comes_back = (no_settings config none, never_lazy config none);
   lazy = λ is. absurd (not_both (is_lazy (Some config)) (never_lazy config none) is);
   current_is = refl;

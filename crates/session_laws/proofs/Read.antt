@@ -67,7 +67,7 @@ use Rattle.driver_model.specs.declared.hearing.Hearing.{Hearing}
 use Rattle.driver_model.specs.declared.hearing.Hearing.TheVariants as hearing
 use Rattle.driver_model.specs.declared.news.LinkFault.{LinkFault}
 use Rattle.driver_model.specs.Hearing.{felt, hears_something}
-use Rattle.session_laws.proofs.Own.{again_after, fresh_after, has_repeat, own_done, own_is}
+use Rattle.session_laws.proofs.Own.{again_after, answered_after, fresh_after, has_repeat, own_done, own_is}
 use Rattle.session_laws.proofs.Served.{served_rounds, served_waits}
 use Rattle.session_laws.proofs.Serving.{unserved_before}
 use Rattle.session_laws.proofs.Repeats.{IsRepeated, TiedRepeat, serves}
@@ -261,7 +261,7 @@ read_begins before c started word kind piece link untold h good k is e it r came
     let lines = subst (λ (x : Life). TiedLines b.story conn.requests (link_in x) conn.waiting conn.admitted [] started) e h0.lines in
     let said = subst (λ (x : Life). TiedSetup l conn.info started x) e h0.setup in
     let course = subst (λ (x : Life). HasCourse l.last l.end c.links c.single.link c.shut c.manager conn.last conn.opened conn.info conn.address x) e h0.course in
-    let quiet : StaysQuiet c come = λ w. (let q = h0.numbers.quiet w in (keeps.1 ∙ q.unwanted, keeps.2 ∙ q.unrenewed)) in
+    let quiet : StaysQuiet c come a = λ w. (let q = h0.numbers.quiet w in (keeps.1 ∙ q.unwanted, keeps.2 ∙ q.unrenewed, answered_after (is_outstanding conn.again) conn.again d.out q.unrepeated)) in
     let same : noted l (hears c.turns (news_of b.timers b.sources c.single.link kind)) ≡ after = ap (λ (x : News). heard_by b c x) (book_news b c started kind (came piece) h0 is) ∙ heard_is l c.turns piece u.up ∙ after_is l piece it in
     let t = record (seen (turned c kind) [] (own_done (reads c link piece) d.out).conn ids started) { untold = untold } in
     let tied : Tied (heard_book b c.turns word kind) t = heard_tied_new b c started word b.created b.failed conn.told conn.opened kind conn.info come a life fresh ids untold after h0 h0.creation keeps.0 keeps.1 quiet good (λ some. some) same

@@ -55,7 +55,7 @@ over_renewal front f conn r e started over within wanted waiting asked h =
 --
 -- of which other new credentials are known
 ready_renewal : (before : List Action) (c : Core) (started : List ℕ) (word : ℕ) (kind : EventKind) (n : News) (link : LinkState) (renewals : List Credentials) (over lost : Bool) (r : Renewal) → Between before c started → is_bad c kind ≡ false → IsNewsKind c.timers kind
-    → news_of c.timers c.sources c.single.link kind ≡ n → c.single.connection.life ≡ Ready link → r.within ≡ c.single.connection.renewal.within → r.wanted ≡ c.single.connection.renewal.wanted → StaysQuiet c r → n ≢ shut
+    → news_of c.timers c.sources c.single.link kind ≡ n → c.single.connection.life ≡ Ready link → r.within ≡ c.single.connection.renewal.within → r.wanted ≡ c.single.connection.renewal.wanted → StaysQuiet c r c.single.connection.again → n ≢ shut
     → (let l = (book before).link c.single.link in let m = recredited l l.creds.asked l.creds.renews renewals over l.creds.timed lost in
     heard_by (book before) c n ≡ record m { heard = n } → AreRenewed (record m { heard = n }) r → ending_up (record m { heard = n }) n ≡ None
     → HasApplied (before ++ turn_of c word kind ∷ []) (with_work (record { core = turned c kind; acts = [] }) (record { conn = with_renewal c.single.connection r; acts = [] })) started)
@@ -169,7 +169,7 @@ renewed_applied before c started word kind a h good k is renews = by_life c.sing
         chosen done (is_ready conn.life && takes_more conn.renewal) (with_renewal conn now) conn
         (λ t.
         let so : may_renew l ≡ true = may ∙ ap (λ y. y && takes_more conn.renewal) (sym (ap is_ready e)) ∙ t in
-        let wants : StaysQuiet c now = λ w. absurd (not_both conn.renewal.wanted (still w).0 (both_left conn.renewal.wanted (not conn.renewal.over) (both_right (is_ready conn.life) (takes_more conn.renewal) t))) in
+        let wants : StaysQuiet c now conn.again = λ w. absurd (not_both conn.renewal.wanted (still w).0 (both_left conn.renewal.wanted (not conn.renewal.over) (both_right (is_ready conn.life) (takes_more conn.renewal) t))) in
         ready_renewal before c started word kind (renewed a) link (l.creds.renewals ++ a ∷ []) l.creds.over l.creds.lost now h good k is e refl refl wants (λ z. cc) (ap (λ (x : Ledger). record x { heard = renewed a }) (taken_if (may_renew l) (renewed_by l a) l so)) (expects l conn.renewal a (renewed a) tied) refl)
         (λ f.
         let so : may_renew l ≡ false = may ∙ ap (λ y. y && takes_more conn.renewal) (sym (ap is_ready e)) ∙ f in

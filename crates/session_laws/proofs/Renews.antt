@@ -127,7 +127,7 @@ time_tied b t link number ms none due within h =
         few = k.few;
         settings = record { size_is = k.settings.size_is; bound_is = k.settings.bound_is; limit_is = k.settings.limit_is; some = k.settings.some; limited = k.settings.limited };
         kind_is = k.kind_is;
-        quiet = λ w. let q = h.numbers.quiet w in record { none = q.none; unwanted = q.unwanted; unrenewed = q.unrenewed };
+        quiet = λ w. let q = h.numbers.quiet w in record { none = q.none; unwanted = q.unwanted; unrenewed = q.unrenewed; unrepeated = q.unrepeated };
         comes_back = k.comes_back;
         lazy = k.lazy;
         current_is = k.current_is;

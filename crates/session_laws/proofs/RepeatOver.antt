@@ -80,7 +80,7 @@ given_up_applied before c started word kind link h good k is e goes =
     let f = turned c kind in
     let own = ap (heard_by b c) (book_news b c started kind unrepeated h0 is) ∙ ap (λ (x : Ledger). record x { heard = unrepeated }) (taken_if (is_repeating l) (unrepeated_by l) l repeats) in
     let t = seen f [] (serving conn) [] started in
-    let tied : Tied (heard_book b c.turns word kind) t = heard_tied_new b c started word b.created b.failed conn.told conn.opened kind conn.info conn.renewal again.Nothing conn.life ns [] [] after h0 h0.creation refl refl (quiet_still b c started h0) good (λ some. some) own
+    let tied : Tied (heard_book b c.turns word kind) t = heard_tied_new b c started word b.created b.failed conn.told conn.opened kind conn.info conn.renewal again.Nothing conn.life ns [] [] after h0 h0.creation refl refl (λ w. (let q = quiet_still b c started h0 w in (q.0, q.1, refl))) good (λ some. some) own
     (record {
       starts = refl;
       hearing_kept = refl;

@@ -173,7 +173,7 @@ retires before c started word kind n acts links l h is other u last no_timers no
         few = h0.numbers.few;
         settings = record { size_is = h0.numbers.settings.size_is; bound_is = h0.numbers.settings.bound_is; limit_is = h0.numbers.settings.limit_is; some = h0.numbers.settings.some; limited = h0.numbers.settings.limited };
         kind_is = h0.numbers.kind_is;
-        quiet = λ w. let q = h0.numbers.quiet w in record { none = q.none; unwanted = q.unwanted; unrenewed = refl };
+        quiet = λ w. let q = h0.numbers.quiet w in record { none = q.none; unwanted = q.unwanted; unrenewed = refl; unrepeated = refl };
         comes_back = h0.numbers.comes_back;
         lazy = h0.numbers.lazy;
         current_is = h0.numbers.current_is;

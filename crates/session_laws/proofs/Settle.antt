@@ -296,7 +296,7 @@ renewal_tied b t r within wanted waiting tied h = record {
     few = h.numbers.few;
     settings = record { size_is = h.numbers.settings.size_is; bound_is = h.numbers.settings.bound_is; limit_is = h.numbers.settings.limit_is; some = h.numbers.settings.some; limited = h.numbers.settings.limited };
     kind_is = h.numbers.kind_is;
-    quiet = λ w. let q = h.numbers.quiet w in record { none = q.none; unwanted = wanted ∙ q.unwanted; unrenewed = waiting ∙ q.unrenewed };
+    quiet = λ w. let q = h.numbers.quiet w in record { none = q.none; unwanted = wanted ∙ q.unwanted; unrenewed = waiting ∙ q.unrenewed; unrepeated = q.unrepeated };
     comes_back = h.numbers.comes_back;
     lazy = h.numbers.lazy;
     current_is = h.numbers.current_is;

@@ -203,11 +203,12 @@ pub record IsConfigured (b : Book) (size bound : ℕ) (limit : Option ℕ) : Typ
   pub some : 0 < size
   pub limited : limit ≢ Some 0
 
--- where the server is put into monitor mode nothing is submitted, and no credentials come of sources
-pub record IsBare (table : List (Option Pending)) (r : Renewal) : Type 0 where
+-- where the server is put into monitor mode nothing is submitted, no credentials come of sources, and nothing is subscribed again
+pub record IsBare (table : List (Option Pending)) (r : Renewal) (a : Again) : Type 0 where
   pub none : table ≡ []
   pub unwanted : r.wanted ≡ false
   pub unrenewed : r.waiting ≡ []
+  pub unrepeated : is_outstanding a ≡ false
 
 -- a session that comes back so: nothing of its configuration is refused, which says how it does, where its links are asked for, and how
 -- long a connect may take; so many generations began, and so many attempts of the current one failed; and it is without a first one
@@ -260,7 +261,7 @@ pub record TiedNumbers (b : Book) (t : Inner) : Type 0 where
   pub few : length t.table ≤ 2 ^ 32
   pub settings : IsConfigured b t.size t.bound t.limit
   pub kind_is : kind_in b.config ≡ t.kind
-  pub quiet : is_watching t.hears ≡ true → IsBare t.table t.renewal
+  pub quiet : is_watching t.hears ≡ true → IsBare t.table t.renewal t.again
   pub comes_back : TiedManager b.config b.generation b.attempt t.manager
   pub lazy : is_lazy b.config ≡ true → b.created ≢ 0
   pub current_is : b.current ≡ t.link
