@@ -15,7 +15,7 @@ use Rattle.driver_model.specs.declared.event.EventKind.{EventKind}
 use Rattle.driver_model.specs.declared.event.EventKind.TheVariants as event
 use Rattle.driver_model.specs.declared.event.Submission.{Submission}
 use Rattle.driver_model.specs.News.{News, for_link, news_of, of_source, of_timer, silence}
-use Rattle.mux_conn.specs.Connection.{in_front, is_resting, is_spent_in, is_used_up}
+use Rattle.mux_conn.specs.Connection.{in_front, is_resting, is_spent_in, is_used_up, is_ready}
 use Rattle.mux_conn.specs.Requests.{is_open_at}
 use Rattle.mux_conn.specs.declared.act.LinkAct.{LinkAct}
 use Rattle.mux_conn.specs.declared.life.Life.{Life}
@@ -49,6 +49,7 @@ use Rattle.session_laws.proofs.Return.{HasReturned, at_next, begins_returned, di
 use Rattle.session_laws.proofs.States.{Between, IsFitIn, IsHushed, IsStill}
 use Rattle.session_laws.proofs.Server.{HasSaid}
 use Rattle.session_laws.proofs.Tied.{ComesBack, HasCourse, HasHeeded, Inner, IsAim, IsHeeded, IsUse, Sound, Tied, TiedLife, TiedLines, has_ended, inner, is_begun, link_in, waiting_ids}
+use Rattle.session_laws.proofs.Serving.{unready_serves}
 
 -- what a link hears that isn't asked for yet
 --
@@ -352,7 +353,7 @@ module _ (before : List Action) (c : Core) (started : List ℕ) (g : Generations
       let same : inner k h.now ≡ inner (at_next k) [] = λ i. record (inner (at_next k) []) { link = here i; started = said.1 i } in
       let timer = rest_timed before h.between.sound.stands by.0 (heed.rest_is ∙ by.2) in
       dials_returned trace k q
-      (record { sound = subst (Sound trace) same h.sound; ended = h.ended; rests = life; settled = refl; nobody = h.fit.none (λ link e. (let no : Resting ≡ Ready link = sym life ∙ e in cc)); told = (refl, refl) })
+      (record { sound = subst (Sound trace) same h.sound; ended = h.ended; rests = life; settled = refl; nobody = h.fit.none (unready_serves k.single.connection.life k.single.connection.again (ap is_ready life)); told = (refl, refl) })
       h.heeds (heed.rests waits).1 (rest_is ∙ over) failed_is over runs
       (inl (heard_is k.links ∙ ap (news_of b0.timers b0.sources k.links) by.1 ∙ ap (of_timer k.links) timer.1))
 
@@ -362,7 +363,7 @@ module _ (before : List Action) (c : Core) (started : List ℕ) (g : Generations
   -- nobody is open on a link that has ended
   pub none_open_over : (e : RedisError) → k.single.connection.life ≡ Ended e → (p : ℕ) → is_open_at k.single.connection.requests p ≡ true → ⊥
   none_open_over e over p o =
-      let admitted = h.fit.none (λ link r. (let no : Ended e ≡ Ready link = sym over ∙ r in cc)) in
+      let admitted = h.fit.none (unready_serves k.single.connection.life k.single.connection.again (ap is_ready over)) in
       let waiting = h.still.none_waits (ap has_ended over) in
       let lines = subst (λ (x : Life). TiedLines b.story k.single.connection.requests (link_in x) k.single.connection.waiting k.single.connection.admitted [] h.now) over tied.lines in
       elim (lines.there p o) [
@@ -377,7 +378,7 @@ module _ (before : List Action) (c : Core) (started : List ℕ) (g : Generations
       let there : is_resting k.single.connection.life ≡ false = ap is_resting over in
       let one : k.links ≡ k.single.link + 1 = has_links k.single.connection.life (b.link k.single.link).last (b.link k.single.link).end t there tied.course in
       let number = q.number + 1 in
-      let admitted = h.fit.none (λ link r. (let no : Ended e ≡ Ready link = sym over ∙ r in cc)) in
+      let admitted = h.fit.none (unready_serves k.single.connection.life k.single.connection.again (ap is_ready over)) in
       let waiting = h.still.none_waits (ap has_ended over) in
       let few : k.single.connection.renewal.asked < 2 ^ 32 = not_le_from (2 ^ 32) k.single.connection.renewal.asked (or_right (is_spent_in k.single.connection.life) _ unspent) in
       let is_due : generation_due b ≡ true = due b has (failed_is ∙ well) (shut_is ∙ runs) (left_if (b.generation == 0) (begins_first b) (is_caused b) (ne_test b.generation 0 (λ none. some (sym generation_is ∙ none))) ∙ caused) in
@@ -404,7 +405,7 @@ module _ (before : List Action) (c : Core) (started : List ℕ) (g : Generations
   first_returned come runs none well =
       let number = q.number + 1 in
       let life : k.single.connection.life ≡ Resting = by_test (is_resting k.single.connection.life) _ (λ r. resting_is k.single.connection.life r) (λ there. absurd (begun_there there none)) in
-      let admitted = h.fit.none (λ link e. (let no : Resting ≡ Ready link = sym life ∙ e in cc)) in
+      let admitted = h.fit.none (unready_serves k.single.connection.life k.single.connection.again (ap is_ready life)) in
       let down : TiedLife (b.link k.single.link) b.created Resting = subst (TiedLife (b.link k.single.link) b.created) life tied.life in
       let begins : begins_first b ≡ true = ap (λ x. not x || is_open (b.story (b.submissions - 1))) (back.first none) ∙ come.opens in
       let is_due : generation_due b ≡ true = due b has (failed_is ∙ well) (shut_is ∙ runs) (taken_if (b.generation == 0) (begins_first b) (is_caused b) (eq_test b.generation 0 (generation_is ∙ none)) ∙ begins) in

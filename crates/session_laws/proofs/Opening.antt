@@ -340,8 +340,8 @@ opened_between config word info timeout none sound at some is =
     let t = inner c [] in
     let tied = opening_tied config word info timeout none sound some is in
     let fit : IsFitIn conn = record { wanting = λ link e. cc; setup = λ link u e. cc; link = λ link e. cc; none = λ no. refl } in
-    let still : IsStill conn = record { setup = λ link u e. cc; held = λ link e. cc; full = λ link e. cc; waiting = λ link e. cc; begun = λ shows up. cc; none_waits = λ e. refl; renewed = λ link e. cc } in
-    let moved = is_moved b t tied refl (refl, refl) refl (opening_ends config word info timers) fit.link fit.none still.held still.full still.waiting still.none_waits (λ over. cc) (λ x. cc) fit.setup still.setup (λ p i. absurd i) still.renewed still.begun in
+    let still : IsStill conn = record { setup = λ link u e. cc; held = λ link e. cc; full = λ link e. cc; waiting = λ link e answered. cc; begun = λ shows up. cc; none_waits = λ e. refl; repeated = λ link e. cc; renewed = λ link e. cc } in
+    let moved = is_moved b t tied refl (refl, refl) refl (opening_ends config word info timers) fit.link fit.none still.held still.full still.waiting still.none_waits (λ over. cc) (λ x. cc) fit.setup still.setup (λ p i. absurd i) still.repeated still.renewed still.begun in
     let written = is_written b t tied moved refl in
     let quiet : IsQuiet t = record { seats = λ p i. absurd i; settled = refl; alone = refl; fit = fit.link; none = fit.none; held = still.held; full = still.full; waiting = still.waiting; begun = still.begun; gone = still.none_waits; setup_fit = fit.setup; setup_held = still.setup } in
     let book_is = sym (opening_book config word info timeout) in

@@ -74,7 +74,7 @@ ready_renewal before c started word kind n link renewals over lost r h good k is
     let f = turned c kind in
     let own = ap (heard_by b c) (book_news b c started kind n h0 is) ∙ same in
     let t = seen f [] (with_renewal conn r) [] started in
-    let tied : Tied (heard_book b c.turns word kind) t = heard_tied_new b c started word b.created b.failed conn.told conn.opened kind conn.info r conn.life conn.fresh [] [] after h0 h0.creation within wanted quiet good (λ some. some) own
+    let tied : Tied (heard_book b c.turns word kind) t = heard_tied_new b c started word b.created b.failed conn.told conn.opened kind conn.info r conn.again conn.life conn.fresh [] [] after h0 h0.creation within wanted quiet good (λ some. some) own
     (record {
       starts = refl;
       hearing_kept = refl;

@@ -18,7 +18,7 @@ use Rattle.mux_conn.specs.declared.request.Progress.{Progress}
 use Rattle.mux_conn.specs.declared.request.Progress.TheVariants as progress
 use Rattle.mux_conn.specs.declared.request.Request.{Request}
 use Rattle.mux_conn.specs.declared.request.Waiting.{Waiting}
-use Rattle.mux_conn.specs.Connection.{is_ready as is_life_ready, Work}
+use Rattle.mux_conn.specs.Connection.{Work}
 use Rattle.mux_conn.specs.Effects.{afresh, given_up, opening_failed}
 use Rattle.mux_conn.specs.Requests.{is_open_at, is_unbegun_at, is_waiting_at, is_unbegun, is_waiting, if_there}
 use Rattle.shared_session.specs.declared.core_state.Core.{Core}
@@ -46,6 +46,7 @@ use Rattle.session_laws.proofs.Heard.{going_awake, heard_by, book_news, book_kin
 use Rattle.session_laws.proofs.Owes.{get_behind, is_asked}
 use Rattle.session_laws.proofs.Said.{PushesOf}
 use Rattle.session_laws.proofs.Kept.{mine_noted, others_kept}
+use Rattle.session_laws.proofs.Serving.{unready_serves}
 
 -- the ledger of a link whose opening has failed, where another attempt follows: nothing of it is still to be told
 pub record IsAttempted (l : Ledger) (heard : Hearing) : Type 0 where
@@ -156,8 +157,10 @@ retires before c started word kind n acts links l h is other u last no_timers no
     let conn = c.single.connection in
     let now = record (heard_book b c.turns word kind) { link = links } in
     let live = tied_live b (inner c started) h0 u.there u.alive in
-    let nobody : conn.admitted ≡ [] = h.fit.none (λ x r. not_both (is_life_ready conn.life) u.unready (ap is_life_ready r)) in
-    let waits : (p : ℕ) → is_open_at conn.requests p ≡ true → is_waiting_at conn.requests p ≡ true = λ p o. unbegun_waits conn.requests p (h0.early u.unready u.alive p o) in
+    let unserving = unready_serves conn.life conn.again u.unready in
+    let nobody : conn.admitted ≡ [] = h.fit.none unserving in
+    let early : (p : ℕ) → is_open_at conn.requests p ≡ true → is_unbegun_at conn.requests p ≡ true = (h0.early unserving u.alive).unbegun in
+    let waits : (p : ℕ) → is_open_at conn.requests p ≡ true → is_waiting_at conn.requests p ≡ true = λ p o. unbegun_waits conn.requests p (early p o) in
     let retiring : IsRetiring now (inner (numbered (with_work (record { core = turned c kind; acts = [] }) (record { conn = afresh conn; acts = acts }))).core []) = record {
       numbers = record {
         turns = ap (λ m. m + 1) h0.numbers.turns;
@@ -210,7 +213,7 @@ retires before c started word kind n acts links l h is other u last no_timers no
       free = refl;
       letting = refl;
       rounds_is = h0.rounds.rounds_is;
-      waiting = h0.early u.unready u.alive;
+      waiting = early;
       holds = λ p o. h0.permits.none p (waits p o) (λ i. i);
       late = h0.late;
     } in

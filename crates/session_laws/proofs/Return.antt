@@ -24,6 +24,7 @@ use Rattle.session_laws.proofs.Regenerate.{IsHarmless, IsResting, dials_on, gene
 use Rattle.session_laws.proofs.Reopen.{at_rest, rested_in}
 use Rattle.session_laws.proofs.States.{IsFitIn, IsHushed, IsStill}
 use Rattle.session_laws.proofs.Tied.{ComesBack, IsHeeded, IsRetiring, Sound, Tied, has_ended, inner, link_in}
+use Rattle.session_laws.proofs.Serving.{serves_ready}
 
 -- all that a turn does is shown but bytes and waits
 pub record HasReturned (trace : List Action) (c : Core) : Type 0 where
@@ -54,9 +55,10 @@ rest_still c rests = record {
   setup = λ link u e. (let no : Resting ≡ SettingUp link u = sym rests ∙ e in cc);
   held = λ link e. (let no : Resting ≡ Ready link = sym rests ∙ e in cc);
   full = λ link e. (let no : Resting ≡ Ready link = sym rests ∙ e in cc);
+  repeated = λ link e. (let no : Resting ≡ Ready link = sym rests ∙ e in cc);
   renewed = λ link e. (let no : Resting ≡ Ready link = sym rests ∙ e in cc);
-  waiting = λ link e. (let no : Resting ≡ Ready link = sym rests ∙ e in cc);
-  begun = λ shows up. absurd (not_both (is_ready c.single.connection.life) (ap is_ready rests) up);
+  waiting = λ link e answered. (let no : Resting ≡ Ready link = sym rests ∙ e in cc);
+  begun = λ shows serving. absurd (not_both (is_ready c.single.connection.life) (ap is_ready rests) (serves_ready c.single.connection.life c.single.connection.again serving));
   none_waits = λ over. absurd (not_both (has_ended c.single.connection.life) (ap has_ended rests) over);
 }
 
