@@ -9,6 +9,7 @@ use Rattle.driver_model.specs.declared.config.Config.{Config}
 use Rattle.driver_model.specs.declared.outcome.Outcome.TheVariants as outcome
 use Rattle.driver_model.specs.Hearing.{hears_pushes, hears_something}
 use Rattle.link_laws.proofs.TiedLink.{TiedLink}
+use Rattle.mux_conn.specs.declared.again.Again.{Again}
 use Rattle.mux_conn.specs.declared.again.Again.TheVariants as again
 use Rattle.mux_conn.specs.Connection.{is_ready}
 use Rattle.mux_conn.specs.Renewals.{no_renewal}
@@ -32,7 +33,10 @@ use Rattle.session_laws.proofs.Server.{AreSought, HasSaid, NoneRenewed, TiedRene
 use Rattle.session_laws.proofs.Tied.{AreLate, AreQueued, HasCourse, IsAside, IsPacked, Inner, TiedTries, carried, has_ended, whole_link, Tied, TiedLife, TiedLines, TiedManager, TiedPermits, TiedRounds, TiedStory, TiedWaits, no_link, link_in, waiting_ids}
 use Rattle.session_laws.proofs.Repeats.{serves}
 use Rattle.session_laws.proofs.Serving.{unready_serves}
+use Rattle.mux_conn.specs.declared.again.Again.{Again}
 use Rattle.mux_conn.specs.declared.again.Again.TheVariants as again
+use Rattle.legal_trace.specs.Story.{Story}
+use Rattle.mux_conn.specs.declared.request.Request.{Request}
 
 -- that one begins of these generations
 manager_begins : (config : Option Config) (generation attempts number : ℕ) (m : Option Generations) → number ≢ 0 → TiedManager config generation attempts m → TiedManager config number 0 (option_map (λ g. begun_with g number) m)
@@ -185,6 +189,32 @@ over_begins b t e number h over untold parting few comes one nobody closed some 
 
 -- behind none
 --
+-- while the connection has no link, what is subscribed again is of no account for waits
+resting_waits : (story : ℕ → Story) (requests : List Request) (a next : Again) (fresh moved : List ℕ) → TiedWaits story requests a Resting fresh moved → TiedWaits story requests next Resting fresh moved
+resting_waits story requests a next fresh moved h = record {
+  early = h.early;
+  backoff = h.backoff;
+  connect = λ p w e. cc;
+  creds = λ p link w e. cc;
+  setup = λ p link u w e. cc;
+  resubscribe = λ p link w e goes. cc;
+  permit = λ p link w e answered. cc;
+  place = h.place;
+  room = h.room;
+  newer = h.newer;
+  rising = h.rising;
+  no_backoff = h.no_backoff;
+  no_connect = λ p i w e. cc;
+  no_creds = λ p link i w e. cc;
+  no_setup = λ p link u i w e. cc;
+  no_resubscribe = λ p link i w e goes. cc;
+  unpermitted = λ p link w e goes. cc;
+  no_permit = λ p link i w e answered. cc;
+  no_place = h.no_place;
+  seatless = h.seatless;
+  no_room = h.no_room;
+}
+
 -- the first begins of a session that waits for its first submission, where all its permits are free, and all that wait came in this turn
 pub first_begins : (b : Book) (t : Inner) (number : ℕ) → Tied b t → t.life ≡ Resting → t.pending ≡ [] → t.letting ≡ [] → t.moved ≡ [] → t.admitted ≡ [] → t.untold ≡ [] → t.parting ≡ false → t.free ≡ unwrap_or t.limit 0 → t.fresh ≡ waiting_ids t.waiting → (b.link t.link).creds.over ≡ false → number ≢ 0
     → Tied (entered b (action.Generation number)) (at_rest (begun_in t number))
