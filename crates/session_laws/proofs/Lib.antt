@@ -2,6 +2,8 @@ pub mod Numbers
 pub mod Server
 pub mod Repeats
 pub mod Serving
+pub mod Subscribes
+pub mod Informed
 pub mod Tied
 pub mod States
 pub mod Creds
