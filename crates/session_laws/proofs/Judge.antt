@@ -75,7 +75,7 @@ news_not_shut timers sources m event.Shutdown other = cc
 --
 -- one that was set up ended by a fault, while it took requests where it did, where its opening didn't fail and nothing was shut down
 by_fault_alone : (turn : ℕ) (end : End) (e : RedisError) (opened stopped : Bool) (a : Again) → stopped ≡ false → IsEndOf turn end → HasServed (Some end) a → owed_unstarted (Some end) ≡ Some (outcome.Fault e) → IsOver (Some end) stopped opened → (is_fault end.why && end.served) ≡ (opened && not (is_outstanding a))
-by_fault_alone turn end e opened stopped a runs ends took owes over = by_why end.why refl
+by_fault_alone turn end e opened stopped a runs ends serving owes over = by_why end.why refl
   where
     failed : (x : RedisError) → end.why ≡ by_opening x → opened ≡ false
     failed x is = by_test opened _ (λ t. (let no : ◌≡◌ {A = Option RedisError} (Some x) None = sym (ap failure_of is) ∙ over.unfailed t in cc)) (λ f. f)
@@ -88,7 +88,7 @@ by_fault_alone turn end e opened stopped a runs ends took owes over = by_why end
 
     by_why : (why : Ending) → end.why ≡ why → (is_fault end.why && end.served) ≡ (opened && served)
     by_why by_shutdown is = absurd (not_both (is_shut_down end.why) ends.well (ap is_shut_down is))
-    by_why (by_fault f) is = (λ i. is_fault (is i) && took end refl (ap is_fault is) i) ∙ sym (ap (λ x. x && served) (well (ap failure_of is)))
+    by_why (by_fault f) is = (λ i. is_fault (is i) && serving end refl (ap is_fault is) i) ∙ sym (ap (λ x. x && served) (well (ap failure_of is)))
     by_why (by_opening x) is = ap (λ why. is_fault why && end.served) is ∙ sym (ap (λ y. y && served) (failed x is))
     by_why (by_attempt x) is = absurd (none_owed (sym (ap owed_by is) ∙ owes))
       where
@@ -266,8 +266,8 @@ lost_so before c started word kind b acts t h end is e over = by_before (machine
     course : IsOver (b.link t.link).end t.shut t.opened
     course = (subst (HasCourse (b.link t.link).last (b.link t.link).end t.links t.link t.shut t.manager t.last t.opened t.info t.address) over h.tied.course).2
 
-    took : HasServed (b.link t.link).end t.again
-    took = subst (TiedRepeat (b.link t.link) b.tracked t.renewal.within t.again) over h.tied.repeat
+    serving : HasServed (b.link t.link).end t.again
+    serving = subst (TiedRepeat (b.link t.link) b.tracked t.renewal.within t.again) over h.tied.repeat
 
     by_before : (x : Bool) → machine.has_ended c.single.connection.life ≡ x → ((end.turn == (b.turns - 1)) && (is_fault end.why && end.served)) ≡ (not x && (t.opened && not (is_outstanding t.again)))
     by_before true is_over = ap (λ (y : Bool). y && (is_fault end.why && end.served)) (old_so before c started word kind b acts t h is_over end own)
@@ -277,7 +277,7 @@ lost_so before c started word kind b acts t h end is e over = by_before (machine
         let first = h.between.sound.tied.numbers.turns in
         let here = ends.turn_is in
         (λ i. eq_test end.turn (b.turns - 1) (omega (arith, here, turns, first)) i && (is_fault end.why && end.served))
-        ∙ by_fault_alone c.turns end e t.opened t.shut t.again (sym h.tied.numbers.shut ∙ h.runs) ends (subst (λ o. HasServed o t.again) is took) (subst (λ o. owed_unstarted o ≡ Some (outcome.Fault e)) is life.1) (subst (λ o. IsOver o t.shut t.opened) is course)
+        ∙ by_fault_alone c.turns end e t.opened t.shut t.again (sym h.tied.numbers.shut ∙ h.runs) ends (subst (λ o. HasServed o t.again) is serving) (subst (λ o. owed_unstarted o ≡ Some (outcome.Fault e)) is life.1) (subst (λ o. IsOver o t.shut t.opened) is course)
 
 -- and so is what is a cause
 pub judged : (before : List Action) (c : Core) (started : List ℕ) (word : ℕ) (kind : EventKind) (b : Book) (acts : List LinkAct) (t : Inner) → IsActed before c started word kind b acts t

@@ -28,7 +28,7 @@ use Rattle.mux_conn.specs.declared.life.Life.TheVariants.{Resting, Dialing, Want
 use Rattle.mux_conn.specs.declared.request.Request.{Request}
 use Rattle.mux_conn.specs.declared.request.Waiting.{Waiting}
 use Rattle.mux_conn.specs.Connection.{Work, is_ready, is_resting, is_outstanding}
-use Rattle.mux_conn.specs.Requests.{is_open_at, name_at}
+use Rattle.mux_conn.specs.Requests.{is_open_at, name_at, is_unbegun_at}
 use Rattle.mux_conn.specs.Effects.{failed_at, read_to, read_at, read_setup, read_wanting, told_each, numbers_of}
 use Rattle.shared_session.specs.declared.core_state.Core.{Core}
 use Rattle.shared_session.specs.Turn.{with_work, is_bad}
@@ -36,7 +36,7 @@ use Rattle.legal_trace.specs.Ledger.{Ledger, by_fault, bytes_came, ending, endin
 use Rattle.legal_trace.specs.Story.{Story}
 use Rattle.legal_trace.specs.Book.{Book, book, entered, hearing_in, has_generations}
 use Rattle.legal_trace.specs.Owed.{owed}
-use Rattle.session_laws.proofs.Numbers.{IsIn, Rising, requests_in, requests_in-append}
+use Rattle.session_laws.proofs.Numbers.{IsIn, Rising, requests_in, requests_in-append, requests_behind}
 use Rattle.session_laws.proofs.Server.{TiedSetup, AreRenewed, AreSought, IsSetUp, TiedRenewal, on_link, hearing_there}
 use Rattle.session_laws.proofs.Tied.{inner, link_in, owner_of, queue_ids, IsEntry, TiedLines, AreQueued, TiedWaits, has_ended, Tied, Sound, TiedRounds, HasCourse, AreEarly}
 use Rattle.session_laws.proofs.SetUp.{set_up_hears}
@@ -50,7 +50,7 @@ use Rattle.session_laws.proofs.ReadWanting.{wanting_read}
 use Rattle.session_laws.proofs.States.{IsFit, Between, HasApplied, HasEffect}
 use Rattle.session_laws.proofs.InLine.{kept_ids, IsInLine}
 use Rattle.session_laws.proofs.Owes.{in_line}
-use Rattle.session_laws.proofs.Settle.{seen, trace_of_acts, IsDue, Tells, replied_each, replied_keeps, own_each}
+use Rattle.session_laws.proofs.Settle.{seen, trace_of_acts, IsDue, Tells, replied_each, replied_keeps, own_each, AnswersNone}
 use Rattle.session_laws.proofs.Close.{AreInTime, are_in_time, HasEnded, pending_due, ended_applied, parted_moved}
 use Rattle.session_laws.proofs.Announce.{turn_of, turned, IsNewsKind, announced_sound, first_book, heard_book, heard_is as turn_is, heard_tied_new, StaysQuiet}
 use Rattle.session_laws.proofs.Heard.{heard_by, lives_as, none_ends, ended_quiet, dialing_quiet, book_kind, book_news, tame_between, resting_quiet, going_awake}
@@ -69,11 +69,14 @@ use Rattle.driver_model.specs.declared.news.LinkFault.{LinkFault}
 use Rattle.driver_model.specs.Hearing.{felt, hears_something}
 use Rattle.session_laws.proofs.Own.{again_after, answered_after, fresh_after, has_repeat, own_done, own_is}
 use Rattle.session_laws.proofs.Served.{served_rounds, served_waits}
-use Rattle.session_laws.proofs.Serving.{unserved_before}
+use Rattle.session_laws.proofs.Serving.{unserved_before, outstanding_serves}
 use Rattle.session_laws.proofs.Repeats.{IsRepeated, TiedRepeat, serves}
 use Rattle.session_laws.proofs.Resubscribed.{read_repeated}
 use Rattle.mux_conn.specs.declared.again.Again.{Again}
 use Rattle.mux_conn.specs.declared.again.Again.TheVariants as again
+use Rattle.session_laws.proofs.Rounded.{placed_begun}
+use Rattle.session_laws.proofs.Ahead.{placed_open}
+use Rattle.link_core.specs.declared.message.Entry.{Entry}
 
 -- values that are taken leave entries as they are, but for what they got
 taken_entries : (requests : List Request) (h : Hearing) (d : Dealing) (vs : List Data) → AllByRecursion (IsEntry requests) d.row → AllByRecursion (IsEntry requests) (taken_each h true d vs).row
@@ -230,6 +233,37 @@ read_early b c started link piece h e =
     (λ goes unserved. cc)
     (λ unserved alive. let k = subst (AreEarly conn.requests conn.again) e h.early unserved refl in record { unbegun = k.unbegun; empty = k.empty })
 
+-- where no round has begun, no request's message is in a row
+none_wanted : (requests : List Request) (row : List Entry) → AllByRecursion (IsEntry requests) row → ((p : ℕ) → is_open_at requests p ≡ true → is_unbegun_at requests p ≡ true) → requests_in (wanted row) ≡ []
+none_wanted requests [] entries unbegun = refl
+none_wanted requests (e ∷ es) entries unbegun = by_awaited e.awaited refl
+  where
+    rest : requests_in (wanted es) ≡ []
+    rest = none_wanted requests es entries.1 unbegun
+
+    by_awaited : (x : Bool) → e.awaited ≡ x → requests_in ((if x then e.id ∷ [] else []) ++ wanted es) ≡ []
+    by_awaited false is = rest
+    by_awaited true is = elim entries.0 [
+      | inl r ↦ let at = r.placed_at is in absurd (not_both (is_unbegun_at requests e.id) (placed_begun requests e.id at) (unbegun e.id (placed_open requests e.id at)))
+      | inr own ↦ requests_behind e.id (wanted es) own.is ∙ rest
+    ]
+
+-- what both are is none where both are
+first_none : (xs ys : List ℕ) → xs ++ ys ≡ [] → xs ≡ []
+first_none [] ys e = refl
+first_none (x ∷ xs) ys e = cc e
+
+-- so while what is subscribed again isn't answered, no request is
+read_quiet : (b : Book) (c : Core) (started : List ℕ) (link : LinkState) (piece : List ℕ) → Tied b (inner c started) → c.single.connection.life ≡ Ready link
+    → (let out = (deals_of c link piece).out in AnswersNone (own_done (reads c link piece) out).conn (requests_in (settled_ids out) ++ []))
+read_quiet b c started link piece h e up goes =
+    let conn = c.single.connection in
+    let d = deals_of c link piece in
+    let unanswered : is_outstanding conn.again ≡ true = by_test (is_outstanding conn.again) (is_outstanding conn.again ≡ true) (λ t. t) (λ f. absurd (not_both (is_outstanding (again_after (is_outstanding conn.again) conn.again d.out)) (answered_after (is_outstanding conn.again) conn.again d.out f) goes)) in
+    let none = h.early (outstanding_serves conn.life conn.again unanswered) (ap has_ended e) in
+    let lines = subst (λ (x : Life). TiedLines b.story conn.requests (link_in x) conn.waiting conn.admitted [] started) e h.lines in
+    append-nil (requests_in (settled_ids d.out)) ∙ first_none (requests_in (settled_ids d.out)) (requests_in (wanted d.row)) (read_asked conn.hears link piece ∙ none_wanted conn.requests link.row lines.entries none.unbegun)
+
 -- the turn begins, with those to be answered that the bytes settle, and what came that is to be told
 record BeginsTelling (before : List Action) (f : Core) (conn : MultiplexedConnection) (l : Ledger) (story : ℕ → Story) (untold : List Heard) (pending started : List ℕ) : Type 0 where
   pub holds : Tells before f (record { conn = conn; acts = [] }) untold pending started
@@ -328,7 +362,8 @@ read_due before c started word kind piece link untold h good k is e it r came_so
     record {
       ledger = begins.ledger;
       due = pending_due now (record (seen f [] come.conn ids started) { untold = untold }) out begins.holds.tied early all;
-      telling = telling front f come untold (ids ++ []) started (subst (λ ns. Tells front f come untold ns started) (sym (append-nil ids)) begins.holds) (subst (IsInLine conn.requests read conn.admitted conn.waiting) (sym (append-nil ids)) line);
+      telling = telling front f come untold (ids ++ []) started (subst (λ ns. Tells front f come untold ns started) (sym (append-nil ids)) begins.holds) (subst (IsInLine conn.requests read conn.admitted conn.waiting) (sym (append-nil ids)) line)
+          (read_quiet b c started link piece h.sound.tied e);
     }
 
 -- what the bytes settle is answered, and what came is told
