@@ -1,5 +1,5 @@
 -- A generation begins: of the link before it nothing stays, and the session goes to its next one.
-use Rattle.std.proofs.Common.{◌≡◌, ◌≢◌, inl, inr, ℕ, ◌+◌, ◌^◌, ◌<◌, ◌==◌, true, false, [], length, Option, Some, None, is_some, slice_get, refl, sym, ap, ◌∙◌, subst, arith}
+use Rattle.std.proofs.Common.{◌≡◌, ◌≢◌, inl, inr, ℕ, ◌+◌, ◌^◌, ◌<◌, ◌==◌, true, false, [], length, Option, Some, None, is_some, slice_get, refl, sym, ap, ◌∙◌, subst, arith, List}
 use Rattle.std.specs.List.{AllByRecursion}
 use Rattle.std.specs.Prelude.{option_map, unwrap_or}
 use Rattle.containers.proofs.Choices.{by_test, eq_from, left_if, ne_from, ne_test, not_both}

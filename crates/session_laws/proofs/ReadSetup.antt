@@ -475,7 +475,7 @@ setup_read_as before c started word kind piece link greeting g h good k is e = b
         let shown = subst (λ (y : Work). IsShownReady front f y (readied conn.renewal.wanted (heard_by b c (came piece))) untold started) readied_is (makes_ready before c started word kind (came piece) info read untold h good k is (λ y. y) early facts) in
         let now = book (trace_of_acts front f v.acts) in
         let line = in_line now (record (seen f v.acts v.conn [] started) { untold = untold }) shown.holds.tied refl in
-        let begins = subst (λ (y : Ledger). IsTelling front f y (owed now) (name_at v.conn.requests) (is_open_at v.conn.requests) v untold [] started) (shown.ledger ∙ ap (readied conn.renewal.wanted) same) (telling front f v untold [] started shown.holds line) in
+        let begins = subst (λ (y : Ledger). IsTelling front f y (owed now) (name_at v.conn.requests) (is_open_at v.conn.requests) v untold [] started) (shown.ledger ∙ ap (readied conn.renewal.wanted) same) (telling front f v untold [] started shown.holds line (λ up goes. refl)) in
         let done : IsTelling front f later (owed now) (name_at v.conn.requests) (is_open_at v.conn.requests) u [] [] started = tells (owed now) begins in
         let up : ending ((book (trace_of_acts front f u.acts)).link f.single.link) ≡ (if is_unreadable after then Some (by_fault (felt l.hearing fault.Parse)) else None) =
         ap ending done.ledger_is ∙ ends_where_set (retells later done.told later.parted) s.up (well_told later done.told later.parted ∙ well_readied conn.renewal.wanted after ∙ said.well) in
