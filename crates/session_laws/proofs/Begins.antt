@@ -36,6 +36,8 @@ use Rattle.session_laws.proofs.Waits.{IsQuiet}
 use Rattle.session_laws.proofs.Whole.{flushed_between}
 use Rattle.session_laws.proofs.Write.{is_written}
 use Rattle.mux_conn.specs.declared.again.Again.TheVariants as again
+use Rattle.session_laws.proofs.Informed.{HasInformed}
+use Rattle.shared_session.specs.Subscriptions.{no_subscriptions}
 
 -- what a configuration says
 --
@@ -206,6 +208,7 @@ lazy_between config word settings info is waits =
         still = still;
         hushed = λ over. cc;
         heeded = subst (λ (x : Book). HasHeeded x.rest x.failed Resting (generations_at settings info 0)) book_is (record { rest_is = refl; failed_is = refl; rests = λ some. absurd (some refl) });
+        informed = subst (λ (x : Book). HasInformed x no_subscriptions) book_is (record { held = refl; counted = refl; calls = λ n. refl });
       };
     }
 
@@ -271,7 +274,7 @@ eager_between config word settings info is eager =
       nobody = refl;
       told = (refl, refl);
     } in
-    let dials = dials_returned trace k g rests refl (λ e. cc) (ap (λ (x : Book). x.rest) (eager_book config word)) (ap (λ (x : Book). x.failed) (eager_book config word)) refl refl (subst (λ (x : Book). IsHarmless (x.link first_link).heard) book_is (inl refl)) in
+    let dials = dials_returned trace k g rests refl (λ e. cc) (ap (λ (x : Book). x.rest) (eager_book config word)) (ap (λ (x : Book). x.failed) (eager_book config word)) (subst (λ (x : Book). HasInformed x no_subscriptions) book_is (record { held = refl; counted = refl; calls = λ n. refl })) refl refl (subst (λ (x : Book). IsHarmless (x.link first_link).heard) book_is (inl refl)) in
     let shown = trace ++ action.Connect first_link info.host info.port ∷ connect_timed first_link 0 bound in
     let done : IsBetween shown (eager_core config settings info (connect_purposes first_link bound)) = subst (λ (x : List Action). IsBetween x (eager_core config settings info (connect_purposes first_link bound))) (append-nil shown) (flushed_between shown (dialling k first_link) (λ e. cc) dials) in
     let says : bound ≡ connect_timeout config = sym (bounded_so config settings is.managed) in

@@ -35,6 +35,8 @@ use Rattle.session_laws.proofs.Tied.{HasCourse, Inner, IsOver, Tied, TiedLife, h
 use Rattle.session_laws.proofs.Repeats.{HasServed, TiedRepeat}
 use Rattle.mux_conn.specs.declared.again.Again.{Again}
 use Rattle.mux_conn.specs.Connection.{is_outstanding}
+use Rattle.session_laws.proofs.Informed.{HasInformed, IsInformed, event_informed}
+use Rattle.shared_session.specs.declared.generations.Generations.{Generations}
 
 -- no shutdown is heard
 --
@@ -152,6 +154,12 @@ has_acted before c word kind acts stands =
 -- what the acts have added
 pub acted_adds : (before : List Action) (c : Core) (word : ℕ) (kind : EventKind) (b : Book) (acts : List LinkAct) → HasActed before c word kind b acts → AreAdded (turn_book before c word kind) b acts
 acted_adds before c word kind b acts h = subst (λ (x : Book). AreAdded (turn_book before c word kind) x acts) h.is (acts_add (turn_book before c word kind) c.single.link (length c.timers) (length c.sources) acts)
+
+-- what is known of subscriptions then
+pub acted_informed : (before : List Action) (c : Core) (word : ℕ) (kind : EventKind) (b : Book) (acts : List LinkAct) (g : Generations) → HasActed before c word kind b acts → c.manager ≡ Some g → IsInformed (book before) c.manager → HasInformed b (machine.heeded g kind acts).subscribed
+acted_informed before c word kind b acts g h is informed =
+    subst (λ (x : Book). HasInformed x (machine.heeded g kind acts).subscribed) h.is
+    (event_informed (book before) c.turns word kind c.single.link (length c.timers) (length c.sources) g.subscribed acts (subst (IsInformed (book before)) is informed))
 
 -- where everything wasn't shut down, its event is no shutdown
 pub runs_on : (before : List Action) (c : Core) (word : ℕ) (kind : EventKind) (b : Book) (acts : List LinkAct) → HasActed before c word kind b acts → b.shut ≡ false → shuts kind ≡ false

@@ -39,7 +39,7 @@ use Rattle.session_laws.proofs.Comes.{NoneComes, has_begun, has_links}
 use Rattle.session_laws.proofs.Generate.{begun_in, first_begins, over_begins}
 use Rattle.session_laws.proofs.Going.{shown_over, shown_resting}
 use Rattle.session_laws.proofs.InLine.{kept_ids}
-use Rattle.session_laws.proofs.Judge.{HasActed, IsActed, acted_adds, judged, runs_on, turn_book}
+use Rattle.session_laws.proofs.Judge.{HasActed, IsActed, acted_adds, judged, runs_on, turn_book, acted_informed}
 use Rattle.session_laws.proofs.Numbers.{IsIn}
 use Rattle.session_laws.proofs.Owes.{is_asked, open_request}
 use Rattle.session_laws.proofs.Past.{is_past, rest_timed, unended_over}
@@ -50,6 +50,7 @@ use Rattle.session_laws.proofs.States.{Between, IsFitIn, IsHushed, IsStill}
 use Rattle.session_laws.proofs.Server.{HasSaid}
 use Rattle.session_laws.proofs.Tied.{ComesBack, HasCourse, HasHeeded, Inner, IsAim, IsHeeded, IsUse, Sound, Tied, TiedLife, TiedLines, has_ended, inner, is_begun, link_in, waiting_ids}
 use Rattle.session_laws.proofs.Serving.{unready_serves}
+use Rattle.session_laws.proofs.Informed.{HasInformed, IsInformed}
 
 -- what a link hears that isn't asked for yet
 --
@@ -291,6 +292,10 @@ module _ (before : List Action) (c : Core) (started : List ℕ) (g : Generations
   failed_is : b.failed ≡ q.halted
   failed_is = (acted_adds before c word kind b acts h.acted).failed ∙ ap (λ (x : Bool). x || creation_fails acts) heed.failed_is
 
+  -- and so is what is known of subscriptions
+  informs : HasInformed b q.subscribed
+  informs = acted_informed before c word kind b acts g h.acted h.managed h.between.informed
+
   -- it rests only where it did before
   rested_before : is_resting k.single.connection.life ≡ true → is_resting c.single.connection.life ≡ true
   rested_before rests = by_test (is_resting c.single.connection.life) _ (λ r. r)
@@ -354,7 +359,7 @@ module _ (before : List Action) (c : Core) (started : List ℕ) (g : Generations
       let timer = rest_timed before h.between.sound.stands by.0 (heed.rest_is ∙ by.2) in
       dials_returned trace k q
       (record { sound = subst (Sound trace) same h.sound; ended = h.ended; rests = life; settled = refl; nobody = h.fit.none (unready_serves k.single.connection.life k.single.connection.again (ap is_ready life)); told = (refl, refl) })
-      h.heeds (heed.rests waits).1 (rest_is ∙ over) failed_is over runs
+      h.heeds (heed.rests waits).1 (rest_is ∙ over) failed_is informs over runs
       (inl (heard_is k.links ∙ ap (news_of b0.timers b0.sources k.links) by.1 ∙ ap (of_timer k.links) timer.1))
 
   acted : k.shut ≡ false → IsActed before c started word kind b acts t
@@ -386,7 +391,7 @@ module _ (before : List Action) (c : Core) (started : List ℕ) (g : Generations
       let near = h.link in
       let all = begins_returned trace k h.now q number h.sound shown h.heeds refl is_due
       (rest_tied (entered b (action.Generation number)) (begun_in t number) (over_begins b t e number tied over refl refl few (ap is_some h.heeds) one waiting (none_open_over e over) (λ none. absurd (omega (arith, none))) (is_past trace h.sound.stands).behind))
-      failed_is runs (harmless_next (λ x. absurd (omega (arith, one, x))) (shut_is ∙ runs)) in
+      failed_is informs runs (harmless_next (λ x. absurd (omega (arith, one, x))) (shut_is ∙ runs)) in
       subst (λ (x : List Action). HasReturned x (came_back k (comeback.Dials k.links (Some number) (length k.timers)))) (append_assoc trace (action.Generation number ∷ []) _) all
     where
       harmless_next : (k.links ≡ k.single.link → ⊥) → b.shut ≡ false → IsHarmless (b.link k.links).heard
@@ -412,7 +417,7 @@ module _ (before : List Action) (c : Core) (started : List ℕ) (g : Generations
       let shown = shown_resting b t tied (λ over rests. absurd (not_both k.shut runs over)) refl (refl, refl) life admitted h.ended in
       let all = begins_returned trace k h.now q number h.sound shown h.heeds refl is_due
       (first_begins b t number tied life refl refl come.moved admitted refl refl come.free come.fresh (unended_over trace k.single.link down.1 down.2) (λ no. absurd (omega (arith, no))))
-      failed_is runs (inl (heard_is k.links ∙ ap (news_of b0.timers b0.sources k.links) come.submits)) in
+      failed_is informs runs (inl (heard_is k.links ∙ ap (news_of b0.timers b0.sources k.links) come.submits)) in
       subst (λ (x : List Action). HasReturned x (came_back k (comeback.Dials k.links (Some number) (length k.timers)))) (append_assoc trace (action.Generation number ∷ []) _) all
 
   -- where it does nothing
@@ -433,6 +438,7 @@ module _ (before : List Action) (c : Core) (started : List ℕ) (g : Generations
           let waited : g.rest ≢ None = λ none. waits (by_test (wakes g kind) _ (λ w. taken_if (wakes g kind) None g.rest w) (λ w. left_if (wakes g kind) None g.rest w ∙ none)) in
           (rests_on_wait waited, (heed.rests waited).1);
     });
+    informed = subst (IsInformed b) (sym h.heeds) informs;
   })
 
   -- its wait goes on

@@ -357,6 +357,7 @@ opened_between config word info timeout none sound at some is =
         still = still;
         hushed = λ over. cc;
         heeded = tt;
+        informed = tt;
       };
     }
 

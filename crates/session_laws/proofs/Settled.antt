@@ -20,7 +20,7 @@ use Rattle.mux_conn.specs.declared.life.Life.{Life}
 use Rattle.mux_conn.specs.declared.life.Life.TheVariants.{Resting, Dialing, Ended, Ready, Wanting, SettingUp}
 use Rattle.shared_session.specs.Turn.{Turning, moved_on, numbered, with_work, work_of}
 use Rattle.shared_session.specs.declared.core_state.Core.{Core}
-use Rattle.legal_trace.specs.Book.{Book, book}
+use Rattle.legal_trace.specs.Book.{Book, book, entered}
 use Rattle.legal_trace.specs.Ledger.{setup_count}
 use Rattle.legal_trace.specs.Legal.{IsMoved, IsSettled, IsStarted, IsWaiting, IsWritten, NoneEnds, WaitHolds}
 use Rattle.legal_trace.specs.Story.{last_of}
@@ -32,12 +32,13 @@ use Rattle.session_laws.proofs.Moved.{passed_moved, HasMoved}
 use Rattle.session_laws.proofs.Names.{open_within}
 use Rattle.session_laws.proofs.Numbers.{IsIn, Rising, in_left, in_right, rising_in, rising_left, rising_right, requests_in}
 use Rattle.session_laws.proofs.Owes.{IsOpenRequest, lives, none_open, open_request, request_story, row_link, stands_started, wanted_entry, open_on}
-use Rattle.session_laws.proofs.Settle.{book_of_more, seen, sound_act, trace_of_acts}
+use Rattle.session_laws.proofs.Settle.{book_of_more, seen, sound_act, trace_of_acts, shown_now}
 use Rattle.session_laws.proofs.States.{Between, HasApplied, IsFitIn, IsStill, trace_with, AreBegun, IsStopped, HasEffect}
 use Rattle.session_laws.proofs.Tied.{Inner, Sound, Tied, TiedLife, TiedWaits, has_ended, link_in, owner_of, queue_ids, relined, shown_wait, waiting_ids, IsHeeded}
 use Rattle.session_laws.proofs.Waits.{IsEarly, IsPlacedOrKept, IsQuiet, WaitsSo, admitted_there, admitted_unplaced, awaited_placed, behind_places, down_admits, fresh_waits, located, moved_waits, passed_waits, permit_holds, place_holds, placed_there, room_holds, stale_waits, wait_may, wait_tied, waiting_apart, waiting_is, waiting_there, waits_at, with_unshown}
 use Rattle.session_laws.proofs.Write.{HasWritten, IsOfferedIn, is_written, written_holds, HasReturned, hushed_in, plain_returned}
 use Rattle.session_laws.proofs.Comes.{NoneComes, wait_comes}
+use Rattle.session_laws.proofs.Informed.{IsInformed, alike_still, wait_alike}
 
 -- the bytes of a turn are offered, and its waits are shown but for these: of those that were moved, and of those that came
 -- in it
@@ -51,6 +52,7 @@ pub record IsShowing (before : List Action) (f : Core) (w : Work) (moved fresh s
   pub hushed : f.shut ≡ true → IsStopped w.conn.life w.conn.waiting
   pub put : StaysPut (book (trace_of_acts before f w.acts)) w.conn.life
   pub heeded : (let b = book (trace_of_acts before f w.acts) in IsHeeded b.rest b.failed w.conn.life f.manager)
+  pub informed : IsInformed (book (trace_of_acts before f w.acts)) f.manager
 
 -- the session then
 abbrev unshown : Core → Work → List ℕ → List ℕ → List ℕ → Inner
@@ -87,6 +89,7 @@ retied before f w moved fresh started later newer fewer h waits =
       hushed = h.hushed;
       put = h.put;
       heeded = h.heeded;
+      informed = h.informed;
     }
 
 -- one wait is shown
@@ -113,6 +116,7 @@ one_shown before f w p kind moved fresh started later newer h fewer up o may wai
       hushed = h.hushed;
       put = λ stays. subst NoneComes (sym (book_of_more before f w.acts a)) (wait_comes b n kind (h.put stays));
       heeded = subst (λ (x : Book). IsHeeded x.rest x.failed w.conn.life f.manager) (sym (book_of_more before f w.acts a)) h.heeded;
+      informed = subst (λ (x : Book). IsInformed x f.manager) (sym (book_of_more before f w.acts a)) (alike_still b (entered b (shown_now f w.acts a)) f.manager (wait_alike b f.single.link 0 0 n kind) h.informed);
     }
 
 -- those that were moved
@@ -402,6 +406,7 @@ showing_unmoved before f w moved fresh started h = record {
   hushed = h.hushed;
   put = h.put;
   heeded = h.heeded;
+  informed = h.informed;
 }
 
 -- in either way
@@ -416,13 +421,14 @@ showing_unfresh before f w moved fresh started h = record {
   hushed = h.hushed;
   put = h.put;
   heeded = h.heeded;
+  informed = h.informed;
 }
 
 -- it begins
 showing : (before : List Action) (f : Core) (w : Work) (h : HasWritten before f w) → IsShowing before f (none_moved w) w.conn.moved w.conn.fresh h.returned.moved.started
 showing before f w h =
     let m = h.returned.moved in
-    showing_unmoved before f w w.conn.moved w.conn.fresh m.started (record { seats = m.seats; sound = m.holds; ended = m.ended; fit = m.fit; still = m.still; offered = h.offered; hushed = m.hushed; put = h.returned.put; heeded = h.returned.heeded })
+    showing_unmoved before f w w.conn.moved w.conn.fresh m.started (record { seats = m.seats; sound = m.holds; ended = m.ended; fit = m.fit; still = m.still; offered = h.offered; hushed = m.hushed; put = h.returned.put; heeded = h.returned.heeded; informed = h.returned.informed })
 
 -- where those that were moved are shown, the others are too
 shown_early : (before : List Action) (f : Core) (v : Work) (started : List ℕ) → v.conn.moved ≡ [] → IsShowing before f v [] v.conn.fresh started → HasShown before f (fresh_each_shown (none_fresh v) v.conn.fresh)
@@ -541,6 +547,7 @@ shown_between before f w began h =
         still = s.still;
         hushed = s.hushed;
         heeded = s.heeded;
+        informed = s.informed;
       };
     }
 

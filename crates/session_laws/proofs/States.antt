@@ -18,6 +18,7 @@ use Rattle.session_laws.proofs.Repeating.{HasRepeated}
 use Rattle.session_laws.proofs.Repeats.{serves}
 use Rattle.session_laws.proofs.Tied.{IsHeeded, IsRetiring, Sound, has_ended, inner}
 use Rattle.mux_conn.specs.declared.request.Waiting.{Waiting}
+use Rattle.session_laws.proofs.Informed.{IsInformed}
 
 -- no link goes on, and where there is none, nobody waits for one
 abbrev pub IsStopped : Life → List Waiting → Type 0
@@ -63,7 +64,8 @@ pub record IsStill (c : MultiplexedConnection) : Type 0 where
   pub begun : AreBegun c.rounds c.again c.life c.requests
   pub none_waits : has_ended c.life ≡ true → c.waiting ≡ []
 
--- between two turns: all is settled, no wait is to be shown, nothing moves, and what was shown of generations is heeded
+-- between two turns: all is settled, no wait is to be shown, nothing moves, what was shown of generations is heeded, and what is
+-- subscribed is known
 pub record Between (before : List Action) (c : Core) (started : List ℕ) : Type 0 where
   pub sound : Sound before (inner c started)
   pub settled : IsSettled (book before)
@@ -74,6 +76,7 @@ pub record Between (before : List Action) (c : Core) (started : List ℕ) : Type
   pub still : IsStill c.single.connection
   pub hushed : IsHushed c
   pub heeded : IsHeeded (book before).rest (book before).failed c.single.connection.life c.manager
+  pub informed : IsInformed (book before) c.manager
 
 -- the trace of a turn up to its last act so far, behind what was shown before its acts
 abbrev pub trace_with : List Action → Turning → List Action

@@ -29,6 +29,7 @@ use Rattle.session_laws.proofs.Settle.{seen}
 use Rattle.session_laws.proofs.Settled.{IsBetween, returned_between}
 use Rattle.session_laws.proofs.Tied.{HasCourse, Inner, IsHeeded, IsRetiring, Sound, Tied, TiedManager, TiedNumbers, inner, is_begun}
 use Rattle.session_laws.proofs.Write.{HasReturned}
+use Rattle.session_laws.proofs.Informed.{IsInformed}
 
 -- other generations
 --
@@ -170,6 +171,7 @@ begins_anew trace d h =
       };
       put = λ x. subst (λ (y : List Action). NoneComes (book y)) (sym none) h.comes;
       heeded = subst (λ (y : List Action). IsHeeded (book y).rest (book y).failed d.single.connection.life d.manager) (sym none) h.heeded;
+      informed = subst (λ (y : List Action). IsInformed (book y) d.manager) (sym none) h.informed;
     }
 
 -- so they are shown

@@ -28,7 +28,7 @@ use Rattle.session_laws.proofs.Said.{setup_link, setup_on}
 use Rattle.session_laws.proofs.SetsUp.{setting_on}
 use Rattle.session_laws.proofs.Ahead.{HasSeats}
 use Rattle.session_laws.proofs.Renewals.{renewal_alike}
-use Rattle.session_laws.proofs.Settle.{book_of_more, holds_more, seen, trace_of_acts}
+use Rattle.session_laws.proofs.Settle.{book_of_more, holds_more, seen, trace_of_acts, shown_now}
 use Rattle.session_laws.proofs.Start.{on_link}
 use Rattle.session_laws.proofs.Took.{queue_waits}
 use Rattle.session_laws.proofs.States.{IsFit, IsStopped}
@@ -39,6 +39,7 @@ use Rattle.mux_conn.specs.declared.request.Waiting.{Waiting}
 use Rattle.shared_session.specs.declared.generations.Generations.{Generations}
 use Rattle.session_laws.proofs.Repeats.{repeat_alike, serves}
 use Rattle.session_laws.proofs.Serving.{unready_serves}
+use Rattle.session_laws.proofs.Informed.{IsInformed, alike_still, write_alike}
 
 -- an offer
 --
@@ -135,6 +136,7 @@ pub record HasReturned (before : List Action) (f : Core) (w : Work) : Type 0 whe
   pub moved : HasMoved before f w
   pub put : StaysPut (book (trace_of_acts before f w.acts)) w.conn.life
   pub heeded : (let b = book (trace_of_acts before f w.acts) in IsHeeded b.rest b.failed w.conn.life f.manager)
+  pub informed : IsInformed (book (trace_of_acts before f w.acts)) f.manager
 
 -- so it is of a session that doesn't come back
 pub plain_returned : (before : List Action) (f : Core) (w : Work) → is_some f.manager ≡ false → HasMoved before f w → HasReturned before f w
@@ -144,11 +146,16 @@ plain_returned before f w plain h =
       moved = h;
       put = λ x. plain_put b (seen f w.acts w.conn [] h.started) h.holds.tied plain;
       heeded = none_heeded f.manager plain;
+      informed = none_informed f.manager plain;
     }
   where
     none_heeded : (m : Option Generations) → is_some m ≡ false → (let b = book (trace_of_acts before f w.acts) in IsHeeded b.rest b.failed w.conn.life m)
     none_heeded None none = tt
     none_heeded (Some g) none = cc
+
+    none_informed : (m : Option Generations) → is_some m ≡ false → IsInformed (book (trace_of_acts before f w.acts)) m
+    none_informed None none = tt
+    none_informed (Some g) none = cc
 
 -- where everything was shut down, nobody waits for a link
 pub hushed_in : (life : Life) (waiting : List Waiting) → IsStopped life waiting → is_resting life ≡ true → waiting ≡ []
@@ -216,6 +223,7 @@ write_shown before f w link life can r =
         };
         put = λ x. cc;
         heeded = subst (λ (x : Book). IsHeeded x.rest x.failed (Ready after) f.manager) (sym (book_of_more before f w.acts a)) (heeded_alike b.rest b.failed w.conn.life (Ready after) f.manager (ap is_resting life) r.heeded);
+        informed = subst (λ (x : Book). IsInformed x f.manager) (sym (book_of_more before f w.acts a)) (alike_still b (entered b (shown_now f w.acts a)) f.manager (write_alike b f.single.link 0 0 link.outbox.unwritten) r.informed);
       };
       offered = all_offered_can link.outbox;
     }
@@ -262,6 +270,7 @@ write_set_shown before f w link greeting life can r =
         };
         put = λ x. cc;
         heeded = subst (λ (x : Book). IsHeeded x.rest x.failed (SettingUp after greeting) f.manager) (sym (book_of_more before f w.acts a)) (heeded_alike b.rest b.failed w.conn.life (SettingUp after greeting) f.manager (ap is_resting life) r.heeded);
+        informed = subst (λ (x : Book). IsInformed x f.manager) (sym (book_of_more before f w.acts a)) (alike_still b (entered b (shown_now f w.acts a)) f.manager (write_alike b f.single.link 0 0 link.outbox.unwritten) r.informed);
       };
       offered = all_offered_can link.outbox;
     }
