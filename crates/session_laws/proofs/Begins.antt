@@ -38,6 +38,8 @@ use Rattle.session_laws.proofs.Write.{is_written}
 use Rattle.mux_conn.specs.declared.again.Again.TheVariants as again
 use Rattle.session_laws.proofs.Informed.{HasInformed}
 use Rattle.shared_session.specs.Subscriptions.{no_subscriptions}
+use Rattle.session_laws.proofs.Subscribes.{nothing_first}
+use Rattle.mux_conn.specs.declared.again.Again.{Again}
 
 -- what a configuration says
 --
@@ -250,6 +252,13 @@ timed_so None = refl
 timed_so (Some ms) = refl
 
 -- the session then
+abbrev eager_with : Config → ConnectionManagerConfig → ConnectionInfo → List Purpose → Again → Core
+eager_with config settings info timers a = record (single_core config) {
+  manager = Some (generations_at settings info 1);
+  timers = timers;
+  single = record (single_core config).single { connection = record (first_dialled settings (single_core config).single.connection) { again = a } };
+}
+
 abbrev eager_core : Config → ConnectionManagerConfig → ConnectionInfo → List Purpose → Core
 eager_core config settings info timers = record (single_core config) {
   manager = Some (generations_at settings info 1);
@@ -276,7 +285,9 @@ eager_between config word settings info is eager =
     } in
     let dials = dials_returned trace k g rests refl (λ e. cc) (ap (λ (x : Book). x.rest) (eager_book config word)) (ap (λ (x : Book). x.failed) (eager_book config word)) (subst (λ (x : Book). HasInformed x no_subscriptions) book_is (record { held = refl; counted = refl; calls = λ n. refl })) refl refl (subst (λ (x : Book). IsHarmless (x.link first_link).heard) book_is (inl refl)) in
     let shown = trace ++ action.Connect first_link info.host info.port ∷ connect_timed first_link 0 bound in
-    let done : IsBetween shown (eager_core config settings info (connect_purposes first_link bound)) = subst (λ (x : List Action). IsBetween x (eager_core config settings info (connect_purposes first_link bound))) (append-nil shown) (flushed_between shown (dialling k first_link) (λ e. cc) dials) in
+    let timers = connect_purposes first_link bound in
+    let flushed = subst (λ (x : List Action). IsBetween x (dialling k first_link)) (append-nil shown) (flushed_between shown (dialling k first_link) (λ e. cc) dials) in
+    let done : IsBetween shown (eager_core config settings info timers) = subst (λ (a : Again). IsBetween shown (eager_with config settings info timers a)) (nothing_first settings info 1) flushed in
     let says : bound ≡ connect_timeout config = sym (bounded_so config settings is.managed) in
     subst (λ (x : Option ℕ). IsBetween (trace ++ action.Connect first_link info.host info.port ∷ timer_asked x) (eager_core config settings info (connect_timers x))) says
     (subst (λ (ts : List Purpose). IsBetween (trace ++ action.Connect first_link info.host info.port ∷ timer_asked bound) (eager_core config settings info ts)) (purposes_are bound)

@@ -21,7 +21,7 @@ use Rattle.session_laws.proofs.Ahead.{waiting_open}
 use Rattle.session_laws.proofs.Kept.{mine_noted, tied_by}
 use Rattle.session_laws.proofs.Numbers.{IsIn, Rising, requests_in, rising_right}
 use Rattle.session_laws.proofs.Rounded.{rounds_down}
-use Rattle.session_laws.proofs.Server.{AreSought, HasSaid, NoneRenewed, TiedRenewal, owners_of, setup_owners, hearing_at}
+use Rattle.session_laws.proofs.Server.{AreSought, HasSaid, NoneRenewed, TiedRenewal, owners_of, setup_owners}
 use Rattle.session_laws.proofs.Tied.{AreAimed, AreQueued, HasCourse, IsAside, IsUse, Inner, Tied, TiedLife, TiedLines, carried, has_ended, is_begun, link_in, no_link, owner_of, owners_each, waiting_ids, whole_link}
 use Rattle.session_laws.proofs.Serving.{unready_serves}
 use Rattle.session_laws.proofs.Subscribes.{RepeatsNext, asked_repeat}
@@ -52,6 +52,7 @@ pub record CanDial (b : Book) (t : Inner) (last : Bool) (a : Again) : Type 0 whe
   pub begun : is_begun t.manager ≡ true
   pub last_is : is_last (settings_in b.config) b.attempt ≡ last
   pub unended : (b.link t.link).creds.over ≡ false
+  pub unwatched : is_watching t.hears ≡ false
   pub again_is : RepeatsNext (repeats_in (settings_in b.config) b.tracked) b.tracked a
 
 -- so it is tied once its link is asked for
@@ -86,7 +87,7 @@ dials_tied b t host port last a timers timed c aimed bounded =
         few = n.few;
         settings = record { size_is = n.settings.size_is; bound_is = n.settings.bound_is; limit_is = n.settings.limit_is; some = n.settings.some; limited = n.settings.limited };
         kind_is = n.kind_is;
-        quiet = λ w. absurd (not_both (is_watching t.hears) unwatched w);
+        quiet = λ w. absurd (not_both (is_watching t.hears) c.unwatched w);
         comes_back = n.comes_back;
         lazy = n.lazy;
         alone = λ none. absurd (not_both (is_some t.manager) none course.1);
@@ -151,11 +152,6 @@ dials_tied b t host port last a timers timed c aimed bounded =
       late = h.late;
     })
   where
-    unwatched : is_watching t.hears ≡ false
-    unwatched =
-        let life : TiedLife (b.link t.link) b.created Resting = subst (TiedLife (b.link t.link) b.created) c.rests c.tied.life in
-        sym (ap is_watching (subst (λ (y : Life). hearing_at y t.hears (b.link t.link).hearing ≡ t.hears) c.rests c.tied.notices.hearing_is)) ∙ life.3
-
     none_sent : (b.link t.link).starts ≡ [] → (m : ℕ) → m < setup_count (b.link t.link).starts → ⊥
     none_sent none m less = let count = ap setup_count none in omega (arith, less, count)
 

@@ -1,5 +1,5 @@
 -- What a session that comes back knows of subscriptions is what the book of its trace says of them.
-use Rattle.std.proofs.Common.{◌≡◌, ◌≢◌, ℕ, zero, suc, ◌+◌, ◌==◌, Bool, true, false, List, [], ◌∷◌, ◌++◌, length, length-append, Option, Some, None, slice_get, if◌then◌else◌, refl, sym, ap, ◌∙◌, arith}
+use Rattle.std.proofs.Common.{◌≡◌, ◌≢◌, ℕ, zero, suc, ◌+◌, ◌==◌, Bool, true, false, List, [], ◌∷◌, ◌++◌, length, length-append, Option, Some, None, slice_get, if◌then◌else◌, refl, sym, ap, ◌∙◌, arith, ◌&&◌}
 use Rattle.std.specs.Prelude.{max}
 use Rattle.containers.proofs.Choices.{by_test, chosen, eq_from, left_if, ne_from, taken_if}
 use Rattle.sub_tracker.specs.Held.{held_after}
@@ -47,7 +47,7 @@ pub record AsksAlike (b c : Book) : Type 0 where
   pub submissions : c.submissions ≡ b.submissions
   pub asked : (n : ℕ) → (c.story n).submission ≡ (b.story n).submission
 
-alike_informed : (b c : Book) (s : Subscriptions) → AsksAlike b c → HasInformed b s → HasInformed c s
+pub alike_informed : (b c : Book) (s : Subscriptions) → AsksAlike b c → HasInformed b s → HasInformed c s
 alike_informed b c s same h = record {
   held = h.held ∙ ap held_after (sym same.tracked);
   counted = h.counted ∙ sym same.submissions;

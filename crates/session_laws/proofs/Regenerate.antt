@@ -7,7 +7,7 @@ use Rattle.containers.proofs.Choices.{chosen, eq_from, left_if, ne_test, not_bot
 use Rattle.connection_info.specs.declared.address.RedisConnectionInfo.{RedisConnectionInfo}
 use Rattle.redis_error.specs.declared.redis_error.RedisError.TheVariants as error
 use Rattle.driver_model.specs.News.{News, silence, dropped}
-use Rattle.driver_model.specs.Hearing.{hears_messages}
+use Rattle.driver_model.specs.Hearing.{hears_messages, is_watching}
 use Rattle.driver_model.specs.declared.hearing.Hearing.{Hearing}
 use Rattle.manager_config.specs.declared.config.ConnectionManagerConfig.{ConnectionManagerConfig}
 use Rattle.manager_config.specs.Backoff.{backoff}
@@ -177,18 +177,18 @@ link_is_due b t h rests has some awake runs =
 abbrev pub IsHarmless : News → Type 0
 IsHarmless n = (n ≡ silence) ⊎ (n ≡ dropped)
 
--- no session that comes back hears messages
-none_messages : (config : Config) (s : ConnectionManagerConfig) → manager_of config ≡ Some s → hears_messages (hearing_of config) ≡ false
+-- no session that comes back hears messages, or has its server put into monitor mode
+none_messages : (config : Config) (s : ConnectionManagerConfig) → manager_of config ≡ Some s → (hears_messages (hearing_of config) ≡ false) × (is_watching (hearing_of config) ≡ false)
 none_messages (variant.Single address connection) s e = cc
 none_messages (variant.Manager lazy address connection manager) s e = by_push (unwrap_or connection.push false)
   where
-    by_push : (x : Bool) → hears_messages (hearing_for kind.Single x) ≡ false
-    by_push true = refl
-    by_push false = refl
+    by_push : (x : Bool) → (hears_messages (hearing_for kind.Single x) ≡ false) × (is_watching (hearing_for kind.Single x) ≡ false)
+    by_push true = (refl, refl)
+    by_push false = (refl, refl)
 none_messages (variant.PubSub address) s e = cc
 none_messages (variant.Monitor address) s e = cc
 
-comes_unheard : (config : Option Config) (s : ConnectionManagerConfig) → settings_in config ≡ Some s → hears_messages (hearing_in config) ≡ false
+comes_unheard : (config : Option Config) (s : ConnectionManagerConfig) → settings_in config ≡ Some s → (hears_messages (hearing_in config) ≡ false) × (is_watching (hearing_in config) ≡ false)
 unfolding settings_in
 comes_unheard None s e = cc
 comes_unheard (Some config) s e = none_messages config s e
@@ -246,6 +246,7 @@ dials_on trace t g timer h is some awake informed runs next harmless = by_bound 
       begun = subst (λ (m : Option Generations). is_begun m ≡ true) (sym is) (ap not (ne_test g.number 0 some));
       last_is = λ i. last_in (k.settings_are i) (k.attempt_is i);
       unended = unended_over trace t.link down.1 down.2;
+      unwatched = sym (ap is_watching tied.notices.heard_is) ∙ (comes_unheard b.config g.settings k.settings_are).1;
       again_is = subst (λ m. RepeatsNext (repeats_in m b.tracked) b.tracked (repeat_for g)) (sym k.settings_are) (repeats_next g b.tracked informed.held);
     }
 
@@ -267,7 +268,7 @@ dials_on trace t g timer h is some awake informed runs next harmless = by_bound 
     ends : NoneEnds (entered b a)
     ends m = chosen (λ (ls : List Line). ending (noted_each (b.link m) ls) ≡ None) (t.link == m) (asks_line b ∷ []) []
         (λ e. subst (λ n. ending (noted (b.link n) (asks_line b)) ≡ None) (eq_from t.link m e)
-        (asked_ends_not (b.link t.link) (info_in b.config) (wanted_in b.config) (hearing_in b.config) (last_in (settings_in b.config) b.attempt) (repeats_in (settings_in b.config) b.tracked) down.1 (comes_unheard b.config g.settings k.settings_are) harmless))
+        (asked_ends_not (b.link t.link) (info_in b.config) (wanted_in b.config) (hearing_in b.config) (last_in (settings_in b.config) b.attempt) (repeats_in (settings_in b.config) b.tracked) down.1 (comes_unheard b.config g.settings k.settings_are).0 harmless))
         (λ e. h.ended m)
 
     -- once it is, and its timer

@@ -2,6 +2,8 @@
 use Rattle.std.proofs.Common.{◌≡◌, ◌≢◌, ℕ, zero, suc, ◌+◌, ◌<◌, ◌==◌, Bool, true, false, ◌&&◌, not, is_some, if◌then◌else◌, List, [], ◌∷◌, ◌++◌, length, Option, Some, None, refl, sym, ap, ◌∙◌, subst, arith, codes}
 use Rattle.std.proofs.Math.Bool.{and-false}
 use Rattle.containers.proofs.Choices.{chosen, ne_from}
+use Rattle.connection_info.specs.declared.address.ConnectionInfo.{ConnectionInfo}
+use Rattle.manager_config.specs.declared.config.ConnectionManagerConfig.{ConnectionManagerConfig}
 use Rattle.resp_write.specs.Command.{CommandList}
 use Rattle.resp_write.specs.Pack.{pack_pipeline}
 use Rattle.sub_tracker.specs.Held.{Held, held_after}
@@ -14,7 +16,7 @@ use Rattle.driver_model.specs.Shape.{need_of, one_at_least, shape_inside}
 use Rattle.mux_conn.specs.declared.again.Again.{Again}
 use Rattle.mux_conn.specs.declared.again.Again.TheVariants as again
 use Rattle.shared_session.specs.declared.generations.Generations.{Generations}
-use Rattle.shared_session.specs.Generations.{repeat_for}
+use Rattle.shared_session.specs.Generations.{repeat_for, generations_at}
 use Rattle.shared_session.specs.Subscriptions.{repeat_after, repeat_of}
 use Rattle.legal_trace.specs.Again.{again_message, is_subscribed, repeats_in}
 use Rattle.legal_trace.specs.Ledger.{Ledger, again_of}
@@ -40,8 +42,8 @@ subscribes_some h some = by_names h.plain h.sharded h.pattern some
     by_names [] [] [] some e = cc
 
 -- and takes items
-one_needed : (n : ℕ) → 0 < one_at_least n
-one_needed n = chosen (λ k. 0 < k) (n == 0) 1 n (λ t. omega arith) (λ f. let other = ne_from n 0 f in omega (arith, other))
+one_needed : (n : ℕ) → 0 < 0 + one_at_least n
+one_needed n = chosen (λ k. 0 < 0 + k) (n == 0) 1 n (λ t. omega arith) (λ f. let other = ne_from n 0 f in omega (arith, other))
 
 inside_needs : (n : ℕ) → 0 < need_of (shape_inside n)
 inside_needs n = chosen (λ (s : Shape). 0 < need_of s) (n == 1) Single (Pipeline 0 n false) (λ t. omega arith) (λ f. one_needed n)
@@ -75,6 +77,15 @@ repeats_next g calls held = by_kind g.settings.automatic_resubscription
   where
     by_kind : (subscribes : Bool) → RepeatsNext (subscribes && is_subscribed calls) calls (if subscribes then repeat_after g.subscribed else again.Nothing)
     by_kind true = subst (λ (h : Held). RepeatsNext (is_subscribed calls) calls (repeat_of (resubscription h))) (sym held) (held_next calls)
+    by_kind false = refl
+
+-- before the first call nothing is
+pub nothing_first : (settings : ConnectionManagerConfig) (info : ConnectionInfo) (number : ℕ) → repeat_for (generations_at settings info number) ≡ again.Nothing
+unfolding resubscription
+nothing_first settings info number = by_kind settings.automatic_resubscription
+  where
+    by_kind : (subscribes : Bool) → (if subscribes then repeat_after (generations_at settings info number).subscribed else again.Nothing) ≡ again.Nothing
+    by_kind true = refl
     by_kind false = refl
 
 -- on a link that was just asked for it is held until that is set up
