@@ -35,8 +35,8 @@ module _ (plan : Plan) (lines : List Line) (old new : Option (List Call)) (f : F
       subst (λ (word : ℕ). AreUnspent flight.opened.config word flight.opened.events) (sym flight.submitted.config.1)
       (subst (λ (config : Config). AreUnspent config flight.word flight.opened.events) (sym flight.submitted.config.0) flight.submitted.unspent)
 
-  pub flight_front : (l : ℕ) → IsPrefix (taken l (calls_of flight.driven) ++ (link_in f.session l).offer) (joined (link_in f.session l).starts)
-  flight_front l = run_front flight.driven l opened_sound opened_good opened_unspent (none_wrote flight.opened.events flight.submitted.only)
+  pub flight_front : (l : ℕ) → IsPrefix (taken l (calls_of flight.driven.run) ++ (link_in f.session l).offer) (joined (link_in f.session l).starts)
+  flight_front l = run_front flight.driven.run l opened_sound opened_good opened_unspent (none_wrote flight.opened.events flight.submitted.only)
 
   pub flight_replays : IsSound f.session.config × IsGood f.session × IsUnspent f.session
-  flight_replays = (subst IsSound (sym flight.driven.config_after) opened_sound, flight.driven.good opened_good, flight.driven.unspent opened_unspent)
+  flight_replays = (subst IsSound (sym flight.driven.run.config_after) opened_sound, flight.driven.run.good opened_good, flight.driven.run.unspent opened_unspent)

@@ -19,7 +19,7 @@ use Rattle.shared_session.specs.Replay.{turns_on}
 use Rattle.legal_trace.specs.Book.{Book, entered, entered_each}
 use Rattle.legal_trace.specs.Legal.{AllStand}
 use Rattle.legal_trace.proofs.Plain.{not_none}
-use Rattle.live_run.specs.Agenda.{agenda_of, answered, begun, behind, dialled, noted, noted_each, offered, removed, stands, undialled, without}
+use Rattle.live_run.specs.Agenda.{agenda_of, answered, begun, behind, dialled, noted, noted_each, offered, removed, stands, tried, undialled, without}
 use Rattle.live_run.specs.Deeds.{Deed, did, fired, answer_of, asked, made, calls_of, events_of, actions_of, after, May, MayCall}
 use Rattle.live_laws.specs.Taken.{IsNoWrote, taken, taken_by}
 use Rattle.live_laws.proofs.Agendas.{Agenda}
@@ -121,8 +121,8 @@ module _ (a : Agenda) (b : Book) (number word n : ℕ) (bytes : List ℕ) (h : T
   gone l = gone_ties b b l a.links (λ m other. (λ u. u, refl, refl)) h.ties
 
   call_heard : (c : Call) → MayCall a c → Hears b (answered a c) number word (answer_of c) n (bytes ++ taken_by n c)
-  call_heard (call.Dial l host port dialed.Yes) may = quiet_took (event.Connected l) tt (dialled (record a { dials = behind a.dials }) l) h.early (dialled_ties b l a.links h.ties)
-  call_heard (call.Dial l host port (dialed.Failed fault)) may = quiet_took (event.Refused l fault) tt (record a { dials = behind a.dials }) h.early h.ties
+  call_heard (call.Dial l host port dialed.Yes) may = quiet_took (event.Connected l) tt (dialled (tried a) l) h.early (dialled_ties b l a.links h.ties)
+  call_heard (call.Dial l host port (dialed.Failed fault)) may = quiet_took (event.Refused l fault) tt (tried a) h.early h.ties
   call_heard (call.Read l room (got.Read k) piece) may = quiet_took (event.Bytes l piece) tt a h.early h.ties
   call_heard (call.Read l room got.NotYet piece) may = still_took a h.early refl
   call_heard (call.Read l room got.Ended piece) may = quiet_took (event.Ended l) tt (record a { links = without l a.links }) h.early (gone l)

@@ -18,7 +18,7 @@ abbrev pub FlightsTakeFront : Type 0
 FlightsTakeFront =
     (plan : Plan) (lines : List Line) (old new : Option (List Call)) (f : Flight) (l : ℕ)
     → (flight : IsFlight plan lines old new f)
-    → IsPrefix (taken l (calls_of flight.driven) ++ (link_in f.session l).offer) (joined (link_in f.session l).starts)
+    → IsPrefix (taken l (calls_of flight.driven.run) ++ (link_in f.session l).offer) (joined (link_in f.session l).starts)
 
 -- a replay of the run's history comes to its end: its configuration is sound, no event is bad, and no step is spent
 abbrev pub FlightsReplay : Type 0

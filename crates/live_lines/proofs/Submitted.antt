@@ -16,7 +16,7 @@ use Rattle.session_callers.specs.Rule.{Ascends}
 use Rattle.session_callers.proofs.Totals.{prefix_length}
 use Rattle.caller_threads.proofs.Places.{each_with}
 use Rattle.caller_threads.proofs.Submitting.{ascends_within, ascends_anyhow}
-use Rattle.session_callers.specs.Closes.{IsShared}
+use Rattle.session_callers.specs.Closes.{AreUndialled, IsShared, IsUndialled}
 use Rattle.shared_session.specs.History.{History}
 use Rattle.shared_session.specs.Replay.{opening_actions}
 use Rattle.live_lines.specs.Flights.{IsBare, AreSubmitted, callers_of}
@@ -53,6 +53,10 @@ module _ (config : Config) (word : ℕ) (vs ws : List Known) (lines : List Line)
   tables_still z of =
       let share = λ (c : ℕ) (v w : Known). HasSubmitted v w (share (length vs) c lines) (share (length vs) c turns) in
       second_ones (λ c v w. (v.table ≡ z) × share c v w) (λ (c : Known). c.table ≡ z) (λ c v w h. h.1.same.table ∙ h.0) 0 vs ws (each_with (λ (c : Known). c.table ≡ z) share 0 vs ws of run.each)
+
+  -- and have neither read nor claimed a number of the dial
+  pub undialled_still : AreUndialled ws
+  undialled_still = second_ones HasShare IsUndialled (λ c v w h. (h.1.same.dial.0 ∙ h.0.3.0, h.1.same.dial.1 ∙ h.0.3.1)) 0 vs ws have_shares
 
   -- each line has its turn in whatever begins with what the callers have seen
   pub lines_stand : (log : List Event) → 0 < length vs → Each (λ (c : Known). IsPrefix c.view.seen log) ws → AreTurnsOf config word log lines turns

@@ -10,19 +10,20 @@ use Rattle.live_lines.specs.declared.flying.FlightError.{FlightError}
 use Rattle.live_lines.specs.declared.flying.FlightError.TheVariants as flight
 use Rattle.live_lines.specs.declared.planning.Plan.{Plan}
 use Rattle.live_lines.specs.Plans.{refused_of}
-use Rattle.live_run.specs.Driven.{Driven}
+use Rattle.live_run.specs.Driven.{DrivenWith}
 use Rattle.outside.specs.World.{Adds}
 use Rattle.outside.specs.declared.world.Call.{Call}
 use Rattle.outside.specs.declared.world.Call.TheVariants as call
 use Rattle.session_callers.specs.Calls.{Known}
+use Rattle.session_callers.specs.Closes.{IsUndialled}
 use Rattle.caller_threads.specs.Lines.{share}
 use Rattle.session_callers.specs.Rule.{times, below, Ascends, Each, MaySpend, SpendsNext}
 use Rattle.shared_session.specs.History.{History}
 use Rattle.shared_session.specs.Replay.{AreGood, AreUnspent, IsSound, trace_of}
 
--- a caller of a session of this configuration and word, which has submitted nothing
+-- a caller of a session of this configuration and word, which has submitted and dialled nothing
 abbrev pub IsBare : Config → ℕ → Known → Type 0
-IsBare config word c = (c.view.config ≡ config) × (c.view.word ≡ word) × (c.view.mine ≡ [])
+IsBare config word c = (c.view.config ≡ config) × (c.view.word ≡ word) × (c.view.mine ≡ []) × IsUndialled c
 
 -- how many callers a plan has: one at least
 abbrev pub callers_of : Plan → ℕ
@@ -49,7 +50,8 @@ pub record AreSubmitted (plan : Plan) (word : ℕ) (lines : List Line) (numbers 
   pub spent : MaySpend plan.config word s.events s.failure
 
 -- The live run of a plan and these lines, which came to its end: nothing of the plan is refused; the session's word is the
--- world's first; the lines are submitted, and then the session is driven, by what the trace of their history asks.
+-- world's first; the lines are submitted, and then the session is driven, by what the trace of their history asks. Each
+-- generation is dialled with its number claimed of the dial: claimed are the numbers up to the last that was dialled.
 pub record IsFlight (plan : Plan) (lines : List Line) (old new : Option (List Call)) (f : Flight) : Type 0 where
   pub sound : IsSound plan.config
   pub bare : wants_credentials plan.config ≡ false
@@ -58,7 +60,7 @@ pub record IsFlight (plan : Plan) (lines : List Line) (old new : Option (List Ca
   pub asked : Adds old middle (call.Word word)
   pub opened : History
   pub submitted : AreSubmitted plan word lines f.numbers.items opened
-  pub driven : Driven (trace_of plan.config word opened.events) middle new opened f.session (length lines) f.ending
+  pub driven : DrivenWith f.keeper (trace_of plan.config word opened.events) middle new opened f.session (length lines) f.ending
 
 -- numbers ran out: behind so many events the step of some event that isn't bad would be spent
 pub record RanOut (config : Config) (count : ℕ) : Type 0 where

@@ -1,7 +1,9 @@
 ghost use Rattle.std.specs.Prelude.{◌≡◌, ℕ, ◌≤◌, ◌++◌, [], false, length, max, IfOk, IfErr, IsErrOf};
 ghost use Rattle.caller_threads.specs.Submits.{IsAllowed};
 ghost use Rattle.driver_model.specs.Config.{kind_of, wants_credentials};
+ghost use Rattle.session_callers.specs.Closes.{IsUndialled};
 ghost use Rattle.session_callers.specs.Rule.{Each};
+ghost use Rattle.live_run.specs.Claims.{HasClaimed};
 ghost use Rattle.shared_session.specs.Replay.{IsSound, trace_of};
 ghost use Rattle.live_lines.specs.Flights.{AreSubmitted, IsBare, IsFlight, IsNoFlight, RanOut};
 
@@ -11,7 +13,7 @@ use driver_model::{Action, Submission};
 use live_run::{Ending, drive};
 use outside::World;
 use redis_error::ConfigName;
-use session_callers::{Caller, SharedSession};
+use session_callers::{Caller, Keeper, SharedSession};
 use shared_session::{MakeError, Session, StepError};
 use std::alloc::{AllocError, Global};
 use std::sync::Wait;
@@ -24,6 +26,8 @@ pub struct Flight {
     pub session: Session,
     /// The number of each line's submission, in the order of the lines.
     pub numbers: Vec<u32>,
+    /// The caller that was left, which claimed the number of each generation that was dialled.
+    pub keeper: Keeper,
     pub ending: Ending,
 }
 
@@ -61,6 +65,7 @@ fn join_all<R: Wait>(
 ) -> Result<Vec<Caller>, AllocError>
     requires of { first.table ≡ shared.now.table.shared.table_id }
     requires none { first.view.mine ≡ [] }
+    requires undialled { IsUndialled first }
     ensures of { IfOk result (λ callers.
         Each (λ caller. caller.table ≡ shared.now.table.shared.table_id) callers.items
         ) }
@@ -83,8 +88,8 @@ fn join_all<R: Wait>(
     Ok(callers)
 }
 
-/// The session of a plan, whose callers submitted these lines, and the numbers of the submissions. `actions` gains all that
-/// was asked so far.
+/// The session of a plan, whose callers submitted these lines, the numbers of the submissions, and the caller that is left.
+/// `actions` gains all that was asked so far.
 fn submitted<R: Threads + Wait + Sync>(
     rt: &R,
     alloc: Global,
@@ -92,7 +97,7 @@ fn submitted<R: Threads + Wait + Sync>(
     word: u64,
     lines: Vec<(Submission, u64)>,
     actions: &mut Vec<Action>,
-) -> Result<(Session, Vec<u32>), FlightError>
+) -> Result<(Session, Vec<u32>, Keeper), FlightError>
     requires none { actions.old.items ≡ [] }
     requires allowed { Each (IsAllowed (kind_of plan.config)) lines.items }
     ensures sound { IfOk result (λ _. IsSound plan.config) }
@@ -100,6 +105,7 @@ fn submitted<R: Threads + Wait + Sync>(
     ensures submitted { IfOk result (λ made.
         AreSubmitted plan word lines.items made.1.items made.0
         ) }
+    ensures undialled { IfOk result (λ made. HasClaimed 0 made.2) }
     ensures asked { IfOk result (λ made.
         actions.new.items ≡ trace_of plan.config word made.0.events
         ) }
@@ -137,8 +143,8 @@ fn submitted<R: Threads + Wait + Sync>(
         Ok(()) => {}
         Err(error) => return Err(refused(error)),
     }
-    match shared.close(callers) {
-        Ok(session) => Ok((session, numbers)),
+    match shared.keep(rt, callers) {
+        Ok((session, keeper)) => Ok((session, numbers, keeper)),
         Err(_) => Err(FlightError::NoMemory),
     }
 }
@@ -163,15 +169,17 @@ pub fn fly<R: Threads + Wait + Sync, W: World>(
     };
     let mut actions = Vec::new(alloc);
     let word = world.word();
-    let (session, numbers) = match submitted(rt, alloc, plan, word, lines, &mut actions) {
+    let (session, numbers, keeper) = match submitted(rt, alloc, plan, word, lines, &mut actions) {
         Ok(made) => made,
         Err(error) => return Err(error),
     };
     let mut session = session;
-    match drive(alloc, &mut session, actions, count, world) {
+    let mut keeper = keeper;
+    match drive(alloc, &mut session, &mut keeper, actions, count, world) {
         Ok(ending) => Ok(Flight {
             session,
             numbers,
+            keeper,
             ending,
         }),
         Err(error) => Err(refused(error)),

@@ -101,6 +101,7 @@ pub fn write_outcomes<K: Sink>(alloc: Global, flight: Flight, sink: &mut K) -> S
     let Flight {
         session,
         numbers,
+        keeper: _,
         ending: _,
     } = flight;
     match write_each(alloc, &session, numbers, sink) {

@@ -16,7 +16,7 @@ unasked a (action.Push l info) h = refl
 unasked a (action.Message m) h = refl
 unasked a (action.Monitor v) h = refl
 unasked a (action.NeedCreds c l) h = refl
-unasked a (action.Generation g) h = refl
+unasked a (action.Generation g) h = absurd (let e = h in cc)
 unasked a (action.Round who l) h = refl
 unasked a (action.Start l message who count len) h = refl
 unasked a (action.Wait who kind) h = refl

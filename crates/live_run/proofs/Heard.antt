@@ -22,7 +22,7 @@ use Rattle.live_run.specs.declared.agenda.Agenda.{Agenda}
 use Rattle.live_run.specs.declared.agenda.Target.{Target}
 use Rattle.live_run.specs.declared.links.Link.{Link}
 use Rattle.live_run.specs.declared.timers.Pending.{Pending}
-use Rattle.live_run.specs.Agenda.{answered, behind, dialled, noted, noted_each, offered, without}
+use Rattle.live_run.specs.Agenda.{answered, behind, dialled, noted, noted_each, offered, tried, without}
 use Rattle.live_run.specs.Deeds.{Deed, did, fired, answer_of, made, events_of, actions_of, after, MayCall, May}
 use Rattle.live_run.proofs.Agendas.{each_behind, each_last, each_offered, each_without, first_dialled, none_offered, single_last, single_offered, single_without}
 use Rattle.live_run.proofs.Hearing.{IsNoTurn, IsNoWrote, turn_grows, turn_of}
@@ -86,7 +86,7 @@ module _ (a : Agenda) (b : Book) (number word : ℕ) (h : Knows b a) where
       let k = known_grown (turn_grows b number word kind quiet) h in
       record { dials = k.dials; links = each_without (IsKnownLink (entered b (turn_of number word kind))) l a.links k.links; single = single_without l a.links k.single; timers = k.timers }
 
-  dialled_known : (l : ℕ) → l < b.links → Knows (entered b (turn_of number word (event.Connected l))) (dialled (record a { dials = behind a.dials }) l)
+  dialled_known : (l : ℕ) → l < b.links → Knows (entered b (turn_of number word (event.Connected l))) (dialled (tried a) l)
   dialled_known l less =
       let c = entered b (turn_of number word (event.Connected l)) in
       let k = known_grown (turn_grows b number word (event.Connected l) tt) h in
@@ -98,7 +98,7 @@ module _ (a : Agenda) (b : Book) (number word : ℕ) (h : Knows b a) where
         timers = k.timers;
       }
 
-  refused_known : (l : ℕ) (kind : EventKind) → IsNoWrote kind → Knows (entered b (turn_of number word kind)) (record a { dials = behind a.dials })
+  refused_known : (l : ℕ) (kind : EventKind) → IsNoWrote kind → Knows (entered b (turn_of number word kind)) (tried a)
   refused_known l kind quiet =
       let k = known_grown (turn_grows b number word kind quiet) h in
       record { dials = each_behind (λ (t : Target). t.link < (entered b (turn_of number word kind)).links) a.dials k.dials; links = k.links; single = k.single; timers = k.timers }

@@ -11,6 +11,7 @@ pub mod Balance
 pub mod Words
 pub mod Whole
 pub mod Agendas
+pub mod Claiming
 pub mod Hearing
 mod Standing
 pub mod Heard

@@ -1,5 +1,5 @@
 -- What the actions of a session ask of the world and is not done yet.
-use Rattle.std.specs.Prelude.{ℕ, ◌+◌, ◌-◌, ◌^◌, ◌==◌, nat_le, nat_lt, min, Bool, true, false, ◌&&◌, List, [], ◌∷◌, ◌++◌, Option, Some, None, if◌then◌else◌}
+use Rattle.std.specs.Prelude.{ℕ, ◌+◌, ◌-◌, ◌^◌, ◌==◌, nat_le, nat_lt, min, max, Bool, true, false, ◌&&◌, List, [], ◌∷◌, ◌++◌, Option, Some, None, if◌then◌else◌}
 use Rattle.driver_model.specs.declared.action.Action.{Action}
 use Rattle.driver_model.specs.declared.action.Action.TheVariants as action
 use Rattle.outside.specs.declared.world.Call.{Call}
@@ -14,7 +14,7 @@ use Rattle.live_run.specs.declared.timers.Pending.{Pending}
 
 -- before the first pass: nothing is noted of these actions
 abbrev pub agenda_of : List Action → Agenda
-agenda_of early = record { early = early; dials = []; closes = []; links = []; unclosed = []; timers = []; moment = 0 }
+agenda_of early = record { early = early; dials = []; closes = []; links = []; unclosed = []; timers = []; moment = 0; generation = 0; claimed = 0 }
 
 -- all but the first
 abbrev pub behind : {T : Type 0} → List T → List T
@@ -87,33 +87,33 @@ asks (action.Connect l host port) = true
 asks (action.Timer t ms what) = true
 asks (action.Close l) = true
 asks (action.Write l bytes) = true
+asks (action.Generation g) = true
 asks (action.Turn number c) = false
 asks (action.Took who l count) = false
 asks (action.Push l info) = false
 asks (action.Message m) = false
 asks (action.Monitor v) = false
 asks (action.NeedCreds c l) = false
-asks (action.Generation g) = false
 asks (action.Round who l) = false
 asks (action.Start l message who count len) = false
 asks (action.Wait who kind) = false
 asks (action.Created e) = false
 asks (action.Outcome n o) = false
 
--- what an action asks: a connect is to be dialled; a timer is due so many milliseconds after the moment of the pass; a link
--- that ended is no longer read and written, and is to be closed; all unwritten bytes of a link are offered
+-- what an action asks: a connect is to be dialled, of the generation that began last; a timer is due so many milliseconds after the moment of the pass; a link
+-- that ended is no longer read and written, and is to be closed; all unwritten bytes of a link are offered; a generation begins
 abbrev pub noted : Agenda → Action → Agenda
-noted a (action.Connect l host port) = record a { dials = a.dials ++ record { link = l; host = host; port = port } ∷ [] }
+noted a (action.Connect l host port) = record a { dials = a.dials ++ record { link = l; host = host; port = port; generation = a.generation } ∷ [] }
 noted a (action.Timer t ms what) = record a { timers = timed (record { timer = t; due = due_after a.moment ms }) a.timers }
 noted a (action.Close l) = to_close (record a { links = without l a.links; dials = undialled l a.dials }) l
 noted a (action.Write l bytes) = record a { links = offered l bytes a.links }
+noted a (action.Generation g) = record a { generation = g }
 noted a (action.Turn number c) = a
 noted a (action.Took who l count) = a
 noted a (action.Push l info) = a
 noted a (action.Message m) = a
 noted a (action.Monitor v) = a
 noted a (action.NeedCreds c l) = a
-noted a (action.Generation g) = a
 noted a (action.Round who l) = a
 noted a (action.Start l message who count len) = a
 noted a (action.Wait who kind) = a
@@ -132,11 +132,20 @@ begun a moment = noted_each (record a { early = []; moment = moment }) a.early
 abbrev pub dialled : Agenda → ℕ → Agenda
 dialled a l = record a { links = a.links ++ record { number = l; offer = [] } ∷ []; unclosed = a.unclosed ++ l ∷ [] }
 
+-- the generation of the link that is to be dialled first
+abbrev pub first_generation : List Target → ℕ
+first_generation [] = 0
+first_generation (t ∷ ts) = t.generation
+
+-- the first dial is done, and the number of its generation claimed, and each below it
+abbrev pub tried : Agenda → Agenda
+tried a = record a { dials = behind a.dials; claimed = max a.claimed (first_generation a.dials) }
+
 -- what a call's answer is to it: the first dial or close is done; a link that ended or failed is no longer read and written; an
 -- offer is answered
 abbrev pub answered : Agenda → Call → Agenda
-answered a (call.Dial l host port dialed.Yes) = dialled (record a { dials = behind a.dials }) l
-answered a (call.Dial l host port (dialed.Failed fault)) = record a { dials = behind a.dials }
+answered a (call.Dial l host port dialed.Yes) = dialled (tried a) l
+answered a (call.Dial l host port (dialed.Failed fault)) = tried a
 answered a (call.Read l room got.Ended bytes) = record a { links = without l a.links }
 answered a (call.Read l room (got.Failed fault) bytes) = record a { links = without l a.links }
 answered a (call.Read l room (got.Read n) bytes) = a

@@ -5,11 +5,13 @@ use Rattle.driver_model.specs.declared.event.Event.{Event}
 use Rattle.driver_model.specs.declared.event.EventKind.TheVariants as event
 use Rattle.outside.specs.declared.world.Call.{Call}
 use Rattle.outside.specs.declared.world.Call.TheVariants as call
+use Rattle.session_callers.specs.Calls.{Known}
 use Rattle.shared_session.specs.History.{History}
 use Rattle.live_run.specs.declared.agenda.Agenda.{Agenda}
 use Rattle.live_run.specs.declared.ending.Ending.{Ending}
 use Rattle.live_run.specs.declared.ending.Ending.TheVariants.{Answered, Idle, Full}
 use Rattle.live_run.specs.Agenda.{agenda_of}
+use Rattle.live_run.specs.Claims.{HasClaimed}
 use Rattle.live_run.specs.Deeds.{Deed, Told, AllMay, AreShown, IsGood, IsUnspent, after_each, calls_in, events_in}
 use Rattle.live_run.specs.Passes.{AreRounds, EndsIdle}
 use Rattle.live_run.specs.Closing.{close_calls, downs, times, ups}
@@ -63,3 +65,9 @@ pub record Driven (early : List Action) (old new : Option (List Call)) (before a
   -- none of the answers is left out, and each event has the word that was told for it
   pub answers : untimed_in (events_in deeds) ≡ answers_in (calls_in deeds)
   pub words : words_of (events_in deeds) ≡ words_in (calls_in deeds)
+
+-- A run, and what this caller has claimed of the dial behind it: the numbers up to the last generation that was dialled. Each
+-- link is dialled with the number of its generation claimed
+pub record DrivenWith (keeper : Known) (early : List Action) (old new : Option (List Call)) (before after : History) (count : ℕ) (ending : Ending) : Type 0 where
+  pub run : Driven early old new before after count ending
+  pub claims : HasClaimed (after_each (agenda_of early) run.deeds).claimed keeper

@@ -1,4 +1,5 @@
 pub mod Agenda
+pub mod Claims
 pub mod Deeds
 pub mod Passes
 pub mod Closing

@@ -1,4 +1,4 @@
-ghost use Rattle.std.specs.Prelude.{◌≡◌, ℕ, List, IfSome, OnOk, None, true};
+ghost use Rattle.std.specs.Prelude.{◌≡◌, ℕ, List, IfSome, OnOk, None, true, max};
 ghost use Rattle.live_run.specs.Agenda.{agenda_of, answered, asks, begun, behind, first_due, noted, noted_each, undialled};
 ghost use Rattle.live_run.specs.Places.{AreOthers, IsFirstAt, target_link};
 ghost use Rattle.live_run.specs.Steps.{to_dial};
@@ -16,6 +16,8 @@ pub(crate) struct Target {
     pub(crate) link: u32,
     pub(crate) host: Bytes,
     pub(crate) port: u16,
+    /// The generation whose link it is: 0 where there are none.
+    pub(crate) generation: u32,
 }
 
 /// What the actions of a session ask of the world and is not done yet.
@@ -35,6 +37,10 @@ pub(crate) struct Agenda {
     pub(crate) timers: Queue<Pending>,
     /// The moment of the pass.
     pub(crate) moment: u64,
+    /// The generation that began last, whose links are asked for now: 0 before the first.
+    pub(crate) generation: u32,
+    /// The last generation that was dialled: 0 before the first. Its number, and each below it, is claimed of the dial.
+    pub(crate) claimed: u32,
 }
 
 /// The place of the dial of a link, if it is to be dialled.
@@ -77,6 +83,7 @@ fn asks(action: &Action) -> bool
         } => true,
         Action::Close { link: _ } => true,
         Action::Write { link: _, bytes: _ } => true,
+        Action::Generation { number: _ } => true,
         _ => false,
     }
 }
@@ -94,6 +101,8 @@ impl Agenda {
             unclosed: Queue::new(alloc),
             timers: Queue::new(alloc),
             moment: 0,
+            generation: 0,
+            claimed: 0,
         }
     }
 
@@ -116,7 +125,13 @@ impl Agenda {
     {
         match action {
             Action::Connect { link, host, port } => {
-                self.dials.push_back(Target { link, host, port })
+                let generation = self.generation;
+                self.dials.push_back(Target {
+                    link,
+                    host,
+                    port,
+                    generation,
+                })
             }
             Action::Timer {
                 timer,
@@ -129,6 +144,10 @@ impl Agenda {
             Action::Close { link } => self.note_close(link),
             Action::Write { link, bytes } => {
                 put_offer(&mut self.links, link, bytes);
+                Ok(())
+            }
+            Action::Generation { number } => {
+                self.generation = number;
                 Ok(())
             }
             _ => unreachable!(),
@@ -148,8 +167,10 @@ impl Agenda {
     }
 
     /// Notes what actions ask, in order.
+    #[tactic(auto, using(crate::proofs::Claiming::claimed_each))]
     pub(crate) fn note_all(&mut self, actions: Vec<Action>) -> Result<(), AllocError>
-        ensures { OnOk result (self.new ≡ noted_each self.old actions.items) }
+        ensures noted { OnOk result (self.new ≡ noted_each self.old actions.items) }
+        ensures claims { OnOk result (self.new.claimed ≡ self.old.claimed) }
     {
         let mut rest = Queue::from_vec(actions);
         while let Some(action) = rest.pop_front() {
@@ -160,7 +181,8 @@ impl Agenda {
 
     /// A pass begins at this moment. What was asked before the first pass is noted then.
     pub(crate) fn begin(&mut self, alloc: Global, moment: u64) -> Result<(), AllocError>
-        ensures { OnOk result (self.new ≡ begun self.old moment) }
+        ensures begun { OnOk result (self.new ≡ begun self.old moment) }
+        ensures claims { OnOk result (self.new.claimed ≡ self.old.claimed) }
     {
         self.moment = moment;
         let early = std::mem::replace(&mut self.early, Seq::new(alloc));
@@ -171,29 +193,34 @@ impl Agenda {
     pub(crate) fn after_dial(
         &mut self,
         alloc: Global,
-        link: u32,
+        target: &Target,
         answer: Dialed,
     ) -> Result<(), AllocError>
-        ensures { OnOk result ((target : Target) → (host : List ℕ) → (port : ℕ)
-            → self.new ≡ answered (to_dial target self.old) (Call.Dial link host port answer)) }
+        ensures noted { OnOk result ((host : List ℕ) → (port : ℕ)
+            → self.new ≡ answered (to_dial target.now self.old) (Call.Dial target.now.link host port answer)) }
+        ensures claims { OnOk result (
+            self.new.claimed ≡ max self.old.claimed target.now.generation
+            ) }
     {
+        self.claimed = self.claimed.max(target.generation);
         match answer {
             Dialed::Failed(_) => Ok(()),
             Dialed::Yes => {
                 let offer = Bytes::new(alloc);
                 self.links.push_back(Link {
-                    number: link,
+                    number: target.link,
                     offer,
                 })?;
-                self.unclosed.push_back(link)
+                self.unclosed.push_back(target.link)
             }
         }
     }
 
     /// A read of a link was answered.
     pub(crate) fn after_read(&mut self, link: u32, answer: LinkGot)
-        ensures { (room : ℕ) → (bytes : List ℕ)
+        ensures noted { (room : ℕ) → (bytes : List ℕ)
             → self.new ≡ answered self.old (Call.Read link room answer bytes) }
+        ensures claims { self.new.claimed ≡ self.old.claimed }
     {
         match answer {
             LinkGot::Read(_) => {}
@@ -205,8 +232,9 @@ impl Agenda {
 
     /// The offer of a link was answered.
     pub(crate) fn after_write(&mut self, alloc: Global, link: u32, answer: LinkPut)
-        ensures { (piece : List ℕ)
+        ensures noted { (piece : List ℕ)
             → self.new ≡ answered self.old (Call.Write link piece answer) }
+        ensures claims { self.new.claimed ≡ self.old.claimed }
     {
         match answer {
             LinkPut::Took(_) => put_offer(&mut self.links, link, Bytes::new(alloc)),

@@ -1,5 +1,6 @@
 ghost use Rattle.std.specs.Prelude.{◌≡◌, ℕ, List, ◌∷◌, ◌<◌, [], true, Some, length, IfOk, IfErr, OnOk};
 ghost use Rattle.live_run.specs.Agenda.{first_due};
+ghost use Rattle.live_run.specs.Claims.{HasClaimed};
 ghost use Rattle.live_run.specs.Closing.{close_calls};
 ghost use Rattle.live_run.specs.Deeds.{Broke, Does, IsNameOf, Told, answer_of};
 ghost use Rattle.live_run.specs.Passes.{InTurn, IsDial, IsFire, IsReadOf, IsUp, IsWriteOf, Offers};
@@ -7,11 +8,13 @@ ghost use Rattle.live_run.specs.Steps.{One, Refused, Settled, Stepped, Unsettled
 ghost use Rattle.outside.specs.World.{LinkGotWithin, link_given};
 
 use crate::agenda::{Agenda, Target};
+use crate::claims::claim_up_to;
 use crate::links::{is_up, unanswered};
 use crate::rooms::ROOM;
 use containers::{Bytes, Queue};
 use driver_model::{Action, Event, EventKind};
 use outside::{Call, Dialed, LinkGot, LinkPut, World};
+use session_callers::Keeper;
 use shared_session::{Session, StepError};
 use std::alloc::{AllocError, Global};
 
@@ -100,6 +103,7 @@ fn settle<W: World>(
     world: &mut W,
     kind: Option<EventKind>,
 ) -> Result<(), StepError>
+    ensures claims { OnOk result (agenda.new.claimed ≡ agenda.old.claimed) }
     ensures ok { OnOk result (
         Settled (W.told world.old) (W.told world.new) session.old session.new
         (kinds_in kind) agenda.old agenda.new) }
@@ -119,14 +123,18 @@ fn settle<W: World>(
     }
 }
 
-/// Dials a link, which was the first that is to be dialled.
+/// Dials a link, which was the first that is to be dialled. A generation is dialled with its number claimed of the dial; where
+/// another caller claimed it, memory is refused.
 pub(crate) fn dial_link<W: World>(
     alloc: Global,
     agenda: &mut Agenda,
     session: &mut Session,
+    keeper: &mut Keeper,
     world: &mut W,
     target: Target,
 ) -> Result<(), StepError>
+    requires { HasClaimed agenda.old.claimed keeper.old }
+    ensures claims { OnOk result (HasClaimed agenda.new.claimed keeper.new) }
     ensures did { OnOk result (
         Does (W.told world.old) (W.told world.new) session.old session.new
         (to_dial target agenda.old) agenda.new (One IsDial)) }
@@ -134,11 +142,13 @@ pub(crate) fn dial_link<W: World>(
         Broke error (W.told world.old) (W.told world.new) session.old session.new
         (to_dial target agenda.old)) }
 {
-    let link = target.link;
+    if !claim_up_to(keeper, agenda.claimed, target.generation) {
+        return Err(StepError::NoMemory);
+    }
     let name = host_text(&target.host);
-    let answer = world.dial(link, name, target.port);
-    let news = dial_news(link, answer);
-    match agenda.after_dial(alloc, link, answer) {
+    let answer = world.dial(target.link, name, target.port);
+    let news = dial_news(target.link, answer);
+    match agenda.after_dial(alloc, &target, answer) {
         Ok(()) => {}
         Err(_) => return Err(StepError::NoMemory),
     }
@@ -158,6 +168,7 @@ pub(crate) fn read_link<W: World>(
     link: u32,
 ) -> Result<(), StepError>
     requires { length room.old ≡ ROOM }
+    ensures claims { OnOk result (agenda.new.claimed ≡ agenda.old.claimed) }
     ensures did { OnOk result (
         Does (W.told world.old) (W.told world.new) session.old session.new agenda.old agenda.new
         (InTurn IsUp IsReadOf (link ∷ []) true agenda.old)) }
@@ -187,6 +198,7 @@ pub(crate) fn write_link<W: World>(
     world: &mut W,
     link: u32,
 ) -> Result<(), StepError>
+    ensures claims { OnOk result (agenda.new.claimed ≡ agenda.old.claimed) }
     ensures did { OnOk result (
         Does (W.told world.old) (W.told world.new) session.old session.new agenda.old agenda.new
         (InTurn Offers IsWriteOf (link ∷ []) true agenda.old)) }
@@ -214,6 +226,7 @@ pub(crate) fn fire_timer<W: World>(
     timer: u32,
 ) -> Result<(), StepError>
     requires { first_due agenda.old ≡ Some timer }
+    ensures claims { OnOk result (agenda.new.claimed ≡ agenda.old.claimed) }
     ensures did { OnOk result (
         Does (W.told world.old) (W.told world.new) session.old session.new agenda.old agenda.new
         (One IsFire)) }

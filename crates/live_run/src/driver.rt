@@ -1,5 +1,6 @@
 ghost use Rattle.std.specs.Prelude.{◌≡◌, length, is_none, IfOk, IfErr, OnOk};
 ghost use Rattle.live_run.specs.Agenda.{agenda_of};
+ghost use Rattle.live_run.specs.Claims.{HasClaimed};
 ghost use Rattle.live_run.specs.Deeds.{Broke, Does};
 ghost use Rattle.live_run.specs.Endings.{Goes, Over};
 ghost use Rattle.live_run.specs.Passes.{Dialing, Firing, Pass, Reading, Writing};
@@ -12,6 +13,7 @@ use crate::rooms::ROOM;
 use crate::verdict::Verdict;
 use driver_model::Action;
 use outside::World;
+use session_callers::Keeper;
 use shared_session::{Session, StepError};
 use std::alloc::Global;
 
@@ -39,8 +41,11 @@ impl Driver {
     fn dial_all<W: World>(
         &mut self,
         session: &mut Session,
+        keeper: &mut Keeper,
         world: &mut W,
     ) -> Result<Option<Ending>, StepError>
+        requires { HasClaimed self.old.agenda.claimed keeper.old }
+        ensures claims { OnOk result (HasClaimed self.new.agenda.claimed keeper.new) }
         ensures did { IfOk result (λ ending.
             Does (W.told world.old) (W.told world.new) session.old session.new
             self.old.agenda self.new.agenda (Dialing (is_none ending) self.old.agenda)) }
@@ -58,7 +63,7 @@ impl Driver {
             let Some(target) = self.agenda.dials.pop_front() else {
                 return Ok(None);
             };
-            match dial_link(self.alloc, &mut self.agenda, session, world, target) {
+            match dial_link(self.alloc, &mut self.agenda, session, keeper, world, target) {
                 Ok(()) => left -= 1,
                 Err(error) => return Err(error),
             }
@@ -74,6 +79,7 @@ impl Driver {
         room: &mut [u8],
     ) -> Result<Option<Ending>, StepError>
         requires { length room.old ≡ ROOM }
+        ensures claims { OnOk result (self.new.agenda.claimed ≡ self.old.agenda.claimed) }
         ensures did { IfOk result (λ ending.
             Does (W.told world.old) (W.told world.new) session.old session.new
             self.old.agenda self.new.agenda (Reading (is_none ending) self.old.agenda)) }
@@ -105,6 +111,7 @@ impl Driver {
         session: &mut Session,
         world: &mut W,
     ) -> Result<Option<Ending>, StepError>
+        ensures claims { OnOk result (self.new.agenda.claimed ≡ self.old.agenda.claimed) }
         ensures did { IfOk result (λ ending.
             Does (W.told world.old) (W.told world.new) session.old session.new
             self.old.agenda self.new.agenda (Writing (is_none ending) self.old.agenda)) }
@@ -136,6 +143,7 @@ impl Driver {
         session: &mut Session,
         world: &mut W,
     ) -> Result<Option<Ending>, StepError>
+        ensures claims { OnOk result (self.new.agenda.claimed ≡ self.old.agenda.claimed) }
         ensures did { IfOk result (λ ending.
             Does (W.told world.old) (W.told world.new) session.old session.new
             self.old.agenda self.new.agenda (Firing (is_none ending) self.old.agenda)) }
@@ -161,10 +169,13 @@ impl Driver {
     pub(crate) fn pass<W: World>(
         &mut self,
         session: &mut Session,
+        keeper: &mut Keeper,
         world: &mut W,
         room: &mut [u8],
     ) -> Result<Option<Ending>, StepError>
-        requires { length room.old ≡ ROOM }
+        requires room { length room.old ≡ ROOM }
+        requires claimed { HasClaimed self.old.agenda.claimed keeper.old }
+        ensures claims { OnOk result (HasClaimed self.new.agenda.claimed keeper.new) }
         ensures did { IfOk result (λ ending.
             Does (W.told world.old) (W.told world.new) session.old session.new
             self.old.agenda self.new.agenda (Pass (is_none ending) self.old.agenda)) }
@@ -180,7 +191,7 @@ impl Driver {
             Err(_) => return Err(StepError::NoMemory),
         }
         close_each(&mut self.agenda.closes, world);
-        match self.dial_all(session, world) {
+        match self.dial_all(session, keeper, world) {
             Ok(None) => {}
             Ok(Some(ending)) => return Ok(Some(ending)),
             Err(error) => return Err(error),

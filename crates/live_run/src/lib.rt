@@ -2,6 +2,7 @@
 #![tactic(auto)]
 
 mod agenda;
+mod claims;
 mod deeds;
 mod driver;
 mod ending;

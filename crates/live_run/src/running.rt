@@ -1,7 +1,8 @@
 ghost use Rattle.std.specs.Prelude.{◌≡◌, ◌≤◌, ◌<◌, ◌++◌, length, IfOk, IfErr, OnOk};
 ghost use Rattle.live_run.specs.Agenda.{agenda_of};
+ghost use Rattle.live_run.specs.Claims.{HasClaimed};
 ghost use Rattle.live_run.specs.Deeds.{Broke, Does};
-ghost use Rattle.live_run.specs.Driven.{Driven, Ran};
+ghost use Rattle.live_run.specs.Driven.{DrivenWith, Ran};
 ghost use Rattle.live_run.specs.Endings.{Goes};
 ghost use Rattle.live_run.specs.Rounds.{IsNext, IsOverNext};
 ghost use Rattle.live_run.specs.Steps.{IsEnd};
@@ -12,6 +13,7 @@ use crate::ending::Ending;
 use crate::rooms::{ROOM, new_room};
 use driver_model::{Action, EventKind};
 use outside::World;
+use session_callers::Keeper;
 use shared_session::{Session, StepError};
 use std::alloc::Global;
 
@@ -34,12 +36,15 @@ pub(crate) enum Next {
 fn round<W: World>(
     driver: &mut Driver,
     session: &mut Session,
+    keeper: &mut Keeper,
     world: &mut W,
     room: &mut [u8],
     idle: u32,
 ) -> Result<Next, StepError>
     requires room { length room.old ≡ ROOM }
     requires few { idle < 6_000 }
+    requires claimed { HasClaimed driver.old.agenda.claimed keeper.old }
+    ensures claims { OnOk result (HasClaimed driver.new.agenda.claimed keeper.new) }
     ensures did { IfOk result (λ next.
         Does (W.told world.old) (W.told world.new) session.old session.new
         driver.old.agenda driver.new.agenda
@@ -56,7 +61,7 @@ fn round<W: World>(
         Broke error (W.told world.old) (W.told world.new) session.old session.new driver.old.agenda) }
 {
     let before = session.events_taken();
-    match driver.pass(session, world, room) {
+    match driver.pass(session, keeper, world, room) {
         Ok(None) => {}
         Ok(Some(ending)) => return Ok(Next::Over(ending)),
         Err(error) => return Err(error),
@@ -72,10 +77,13 @@ fn round<W: World>(
 fn run<W: World>(
     driver: &mut Driver,
     session: &mut Session,
+    keeper: &mut Keeper,
     world: &mut W,
     room: &mut [u8],
 ) -> Result<Ending, StepError>
-    requires { length room.old ≡ ROOM }
+    requires room { length room.old ≡ ROOM }
+    requires claimed { HasClaimed driver.old.agenda.claimed keeper.old }
+    ensures claims { OnOk result (HasClaimed driver.new.agenda.claimed keeper.new) }
     ensures did { IfOk result (λ ending.
         Does (W.told world.old) (W.told world.new) session.old session.new
         driver.old.agenda driver.new.agenda
@@ -91,7 +99,7 @@ fn run<W: World>(
         if let Some(ending) = driver.verdict.ending(session) {
             return Ok(ending);
         }
-        match round(driver, session, world, room, idle) {
+        match round(driver, session, keeper, world, room, idle) {
             Ok(Next::Idle(count)) => idle = count,
             Ok(Next::Over(ending)) => return Ok(ending),
             Err(error) => return Err(error),
@@ -121,16 +129,20 @@ fn end<W: World>(driver: &mut Driver, session: &mut Session, world: &mut W) -> R
 /// holds 9,999,999 events. Then the session is shut down, and the links are closed.
 ///
 /// `actions` are those of the turns so far, in order, and `submissions` is how many submissions were handed in. No more
-/// come. After an error the session keeps the events that it has taken.
+/// come. `keeper`, which has claimed nothing of the dial yet, claims the number of each generation before that is dialled.
+/// After an error the session keeps the events that it has taken.
 pub fn drive<W: World>(
     alloc: Global,
     session: &mut Session,
+    keeper: &mut Keeper,
     actions: Vec<Action>,
     submissions: u32,
     world: &mut W,
 ) -> Result<Ending, StepError>
+    requires { HasClaimed 0 keeper.old }
     ensures driven { IfOk result (λ ending.
-        Driven actions.items (W.told world.old) (W.told world.new) session.old session.new submissions ending
+        DrivenWith keeper.new actions.items (W.told world.old) (W.told world.new) session.old session.new
+        submissions ending
         ) }
     ensures err { IfErr result (λ error.
         Broke error (W.told world.old) (W.told world.new) session.old session.new
@@ -141,7 +153,7 @@ pub fn drive<W: World>(
         Err(_) => return Err(StepError::NoMemory),
     };
     let mut driver = Driver::new(alloc, actions, submissions);
-    let ending = match run(&mut driver, session, world, room.as_mut_slice()) {
+    let ending = match run(&mut driver, session, keeper, world, room.as_mut_slice()) {
         Ok(ending) => ending,
         Err(error) => return Err(error),
     };

@@ -7,16 +7,15 @@ use Rattle.session_callers.specs.declared.board.Ended.{Ended}
 use Rattle.session_callers.specs.declared.board.Stage.TheVariants.{Idle}
 use Rattle.session_callers.specs.Rule.{MaySpend, total, times, Each, callers, as_ended, joined}
 use Rattle.session_callers.specs.Calls.{Known, IsOf, Gathered}
-use Rattle.session_callers.proofs.Totals.{total_append}
-use Rattle.session_callers.proofs.Seats.{each_append}
+use Rattle.session_callers.proofs.Totals.{each_append, total_append}
 use mathlib.Core.Option.{some, some-injective}
 use lib.ListN.{get_elem?}
 use Rattle.std.proofs.Common.{map, Option, Some, None, inl, inr}
 use Rattle.atomic_table.specs.Seated.{TableId}
 use Rattle.atomic_table.specs.Table.{Final, Seen}
 use Rattle.session_callers.specs.declared.board.Home.{Home}
-use Rattle.session_callers.specs.Rule.{Ruled, below}
-use Rattle.session_callers.proofs.Whole.{closes}
+use Rattle.session_callers.specs.Rule.{HasAll, OwnsAll, Ruled, below, out, waiting}
+use Rattle.session_callers.proofs.Whole.{closes, each_map}
 use Rattle.std.proofs.lemmas.Bool.Decides.{nat_tests}
 use Rattle.std.proofs.Common.{Bool, true, false, true≢false}
 use Rattle.std.specs.Prelude.{nat_le, nat_lt, ◌||◌}
@@ -63,10 +62,6 @@ pub each_split : {A : Type 0} (P : A → Type 0) (xs : List A) (x : A) → Each 
 each_split P [] x h = (tt, h.0)
 each_split P (y ∷ ys) x h = let r = each_split P ys x h.1 in ((h.0, r.0), r.1)
 
-each_map : (m : ℕ) (es : List Ended) → Each (λ (e : Ended). e.number < m) es → Each (λ (n : ℕ). n < m) (map (λ (e : Ended). e.number) es)
-each_map m [] h = tt
-each_map m (e ∷ es) h = (h.0, each_map m es h.1)
-
 abbrev get_home : {A : Type 0} → A → Option A → A
 get_home d (Some z) = z
 get_home d None = d
@@ -80,7 +75,7 @@ closed m cs v g some_caller enough id ws xs h final taken =
     let s = final.0 in
     let seen = final.1 in
     let all : m ≤ callers v = let a = g.count in omega arith in
-    let end = closes s seen.0 id v seen.1 g.idle m all (each_append (λ (n : ℕ). n < m) v.number (map (λ (e : Ended). e.number) v.ended) g.low (each_map m v.ended g.low_ended)) some_caller g.made g.made_ended in
+    let end = closes s seen.0 id v seen.1 (ap out g.idle) m all (each_append (λ (n : ℕ). n < m) v.number (map (λ (e : Ended). e.number) v.ended) g.low (each_map m v.ended g.low_ended)) some_caller g.made g.made_ended in
     let same_home : end.0 ≡ h = some_home end.0 h (some-injective (Some end.0) (Some h) (sym (final.4 0 (Some end.0) (ap (λ l. get_elem? l 0) end.1)) ∙ taken)) in
     let own = end.5 (omega (arith, g.single)) in
     subst (λ (h : Home). Each (λ (c : Known). IsPrefix c.view.seen h.session.events) cs × ((p : ℕ) → total (λ (c : Known). times p c.view.mine) cs ≡ below p (length h.session.events)) × IsShared cs h.session.config h.session.word × MaySpend h.session.config h.session.word h.session.events h.session.failure) same_home (
@@ -96,7 +91,7 @@ not_away m cs v g some_caller enough id ws xs final taken =
     let s = final.0 in
     let seen = final.1 in
     let all : m ≤ callers v = let a = g.count in omega arith in
-    let end = closes s seen.0 id v seen.1 g.idle m all (each_append (λ (n : ℕ). n < m) v.number (map (λ (e : Ended). e.number) v.ended) g.low (each_map m v.ended g.low_ended)) some_caller g.made g.made_ended in
+    let end = closes s seen.0 id v seen.1 (ap out g.idle) m all (each_append (λ (n : ℕ). n < m) v.number (map (λ (e : Ended). e.number) v.ended) g.low (each_map m v.ended g.low_ended)) some_caller g.made g.made_ended in
     let both : Some end.0 ≡ None = some-injective (Some end.0) None (sym (final.4 0 (Some end.0) (ap (λ l. get_elem? l 0) end.1)) ∙ taken) in
     some_none end.0 both
   where
@@ -119,3 +114,12 @@ all_known z count (c ∷ cs) of e =
     let k = or_false (are_above count c.view.number) (nat_lt count c.view.made) o.0 in
     let lt = k.1 in
     ((of.0, none_above count c.view.number k.0, grind (arith, nat_tests)), all_known z count cs of.1 o.1)
+
+-- callers that were taken in, and that are all, are so once the seat has drawn its ticket
+pub waits_with_all : (m : ℕ) (cs : List Known) (v : View) (t : ℕ) → Gathered m cs v → 1 ≤ m → m ≤ length cs → HasAll m (waiting v t)
+waits_with_all m cs v t g some_caller enough = record { some = some_caller; all = let a = g.count in omega arith; low = g.low; low_ended = g.low_ended; made = g.made; made_ended = g.made_ended }
+
+-- the session that they have out together
+pub kept : (m : ℕ) (cs : List Known) (v : View) (t : ℕ) (seen : List Event) → Gathered m cs v → OwnsAll (waiting v t) seen → IsPrefix v.seen seen
+    → Each (λ (c : Known). IsPrefix c.view.seen seen) cs × ((p : ℕ) → total (λ (c : Known). times p c.view.mine) cs ≡ below p (length seen)) × IsShared cs v.config v.word
+kept m cs v t seen g own begins = (g.begins seen own.1 begins, (λ p. sym (g.mine p) ∙ own.0 p), (λ config word each. g.config config word each))

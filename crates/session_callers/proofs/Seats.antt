@@ -1,10 +1,9 @@
 -- Splitting and joining seats keeps the rule, and so does the start.
-use Rattle.std.proofs.Common.{◌≡◌, ℕ, zero, suc, ◌+◌, ◌-◌, ◌^◌, ◌<◌, ◌≤◌, List, [], ◌∷◌, ◌++◌, length, set, Some, refl, sym, ap, ◌∙◌, subst, ⊎_elim, inl, arith, zero-le, length-append, Bool, true, false, true≢false}
+use Rattle.std.proofs.Common.{◌≡◌, ℕ, zero, suc, ◌+◌, ◌-◌, ◌^◌, ◌<◌, ◌≤◌, List, [], ◌∷◌, ◌++◌, length, set, Some, refl, sym, ap, ◌∙◌, subst, ⊎_elim, inl, arith, zero-le, length-append, Bool, true, false}
 use Rattle.std.specs.Prelude.{if◌then◌else◌, ◌==◌}
 use Rattle.driver_model.specs.declared.config.Config.{Config}
 use Rattle.driver_model.specs.declared.event.Event.{Event}
-use Rattle.shared_session.specs.declared.session.Failure.{Failure}
-use Rattle.shared_session.specs.declared.session.Failure.TheVariants.{Sound, Spent, NoMemory}
+use Rattle.shared_session.specs.declared.session.Failure.TheVariants.{Sound, Spent}
 use mathlib.Core.Option.{some, some-ne-none, some-injective}
 use mathlib.Core.List.{IsPrefix}
 use lib.ListN.{get_elem?}
@@ -17,7 +16,7 @@ use Rattle.session_callers.specs.declared.board.Ended.{Ended}
 use Rattle.session_callers.specs.declared.board.Stage.{Stage}
 use Rattle.session_callers.specs.declared.board.Stage.TheVariants.{Idle, Waiting, Served, Holding, Split}
 use Rattle.session_callers.specs.Rule.{total, same, below, between, times, has, draws, out, more, numbered, callers, owns, claimed, makes, Now, InTurn, Each, FitsEnded, Fits, IsPlaced, Ruled, ticket_of, newcomer, nobody, longer, as_ended, joined, left_of, right_of, history, submissions_in}
-use Rattle.session_callers.proofs.Totals.{total_set, total_gap, total_last, total_append, prefix_length, ascends_up, below_up}
+use Rattle.session_callers.proofs.Totals.{each_append, total_set, total_gap, total_last, total_append, prefix_length, ascends_up, below_up}
 use Rattle.session_callers.proofs.Counts.{each_set}
 use Rattle.session_callers.proofs.Moves.{away, served_one}
 
@@ -95,10 +94,6 @@ longer_left xs ys = go (length xs - length ys == 0) refl
     go : (b : Bool) → (length xs - length ys == 0) ≡ b → length xs ≤ length (longer_if xs ys b)
     go true e = grind (arith, nat_tests)
     go false e = omega arith
-
-pub each_append : {A : Type 0} (P : A → Type 0) (xs ys : List A) → Each P xs → Each P ys → Each P (xs ++ ys)
-each_append P [] ys a b = b
-each_append P (x ∷ xs) ys a b = (a.0, each_append P xs ys a.1 b)
 
 -- join seat
 pub joins : (id : ℕ) (v : View) (other : ℕ) (w : View) (k : ℕ) → v.stage ≡ Idle → w.stage ≡ Idle → 1 ≤ length v.number → w.number ≡ k ∷ [] → Joins Ruled id v other w (joined v w) nobody

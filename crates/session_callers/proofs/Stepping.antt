@@ -1,7 +1,6 @@
 -- What one step of the session is to the callers.
-use Rattle.std.proofs.Common.{◌≡◌, ◌≢◌, ◌⊎◌, inl, inr, ℕ, ◌+◌, ◌^◌, ◌<◌, ◌≤◌, List, [], ◌∷◌, ◌++◌, length, refl, sym, ap, ◌∙◌, subst, arith, zero-le}
+use Rattle.std.proofs.Common.{◌≡◌, ◌≢◌, ◌⊎◌, inl, inr, ℕ, ◌+◌, ◌^◌, ◌<◌, ◌≤◌, List, [], ◌∷◌, ◌++◌, length, refl, sym, ap, ◌∙◌, arith}
 use Rattle.std.specs.Prelude.{Result, Err, IsErrOf, ◌↔◌, true, false}
-use mathlib.Core.List.{IsPrefix}
 use Rattle.driver_model.specs.declared.action.Action.{Action}
 use Rattle.driver_model.specs.declared.event.Event.{Event}
 use Rattle.driver_model.specs.declared.event.EventKind.{EventKind}
@@ -14,8 +13,8 @@ use Rattle.shared_session.specs.declared.errors.StepError.TheVariants.{BadEvent,
 use Rattle.shared_session.specs.declared.session.Failure.{Failure}
 use Rattle.shared_session.specs.declared.session.Failure.TheVariants as failure
 use Rattle.session_callers.specs.declared.board.Home.{Home}
-use Rattle.session_callers.specs.Rule.{MaySpend, submits, submissions_in, total}
-use Rattle.session_callers.specs.Steps.{IsCounted, Stepped, HasTaken, IsRefused, HasRefused}
+use Rattle.session_callers.specs.Rule.{MaySpend, submits, submissions_in}
+use Rattle.session_callers.specs.Steps.{IsCounted, Stepped, IsRefused, HasRefused}
 use Rattle.session_callers.proofs.Totals.{total_last, total_most}
 
 submits_one : (k : EventKind) → submits k ≤ 1

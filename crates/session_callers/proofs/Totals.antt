@@ -94,6 +94,10 @@ pub total_append : {A : Type 0} (f : A → ℕ) (xs ys : List A) → total f (xs
 total_append f [] ys = omega arith
 total_append f (x ∷ xs) ys = let rest = total_append f xs ys in omega arith
 
+pub each_append : {A : Type 0} (P : A → Type 0) (xs ys : List A) → Each P xs → Each P ys → Each P (xs ++ ys)
+each_append P [] ys a b = b
+each_append P (x ∷ xs) ys a b = (a.0, each_append P xs ys a.1 b)
+
 pub each_up : (xs : List ℕ) (a b : ℕ) → a ≤ b → Each (λ (n : ℕ). n < a) xs → Each (λ (n : ℕ). n < b) xs
 each_up [] a b le h = tt
 each_up (x ∷ xs) a b le h = (let e = h.0 in omega arith, each_up xs a b le h.1)

@@ -11,14 +11,13 @@ use Rattle.shared_session.specs.Replay.{is_bad_after, is_spent_after, state_afte
 use Rattle.shared_session.specs.Turn.{actions_of}
 use Rattle.shared_session.specs.declared.errors.StepError.{StepError}
 use Rattle.shared_session.specs.declared.session.Failure.{Failure}
-use Rattle.shared_session.specs.declared.session.Failure.TheVariants.{Sound}
 use Rattle.session_callers.specs.declared.board.Home.{Home}
 use Rattle.session_callers.specs.declared.board.View.{View}
 use Rattle.session_callers.specs.declared.board.Stage.TheVariants.{Idle, Holding}
 use Rattle.session_callers.specs.Rule.{MaySpend, MayGive, Grows, more, given, left_of, history, submissions_in, waiting, served, ticket_of}
 use Rattle.session_callers.specs.Steps.{IsCounted, Stepped, HasTaken, IsRefused, HasRefused}
-use Rattle.session_callers.specs.Calls.{Took, Turned, Added, Refused, history_of}
-use Rattle.session_callers.proofs.Totals.{prefix_of, prefix_all, prefix_more}
+use Rattle.session_callers.specs.Calls.{Took, Turned, Added, Refused}
+use Rattle.session_callers.proofs.Totals.{prefix_of, prefix_all}
 
 -- what was true where it is Ok
 pub on_ok : {T E : Type 0} {P Q : Type 0} (r : Result T E) → (P → Q) → OnOk r P → OnOk r Q

@@ -12,8 +12,8 @@ use Rattle.session_callers.specs.declared.board.View.{View}
 use Rattle.session_callers.specs.declared.board.Ended.{Ended}
 use Rattle.session_callers.specs.declared.board.Stage.{Stage}
 use Rattle.session_callers.specs.declared.board.Stage.TheVariants.{Idle, Waiting, Served, Holding, Split}
-use Rattle.session_callers.specs.Rule.{MaySpend, total, same, below, between, times, draws, out, more, numbered, callers, owns, makes, InTurn, Each, Ruled}
-use Rattle.session_callers.proofs.Totals.{total_at, total_two, total_le, total_append, below_up, same_self}
+use Rattle.session_callers.specs.Rule.{MaySpend, total, same, below, between, times, draws, out, more, numbered, callers, owns, makes, InTurn, Each, HasAll, OwnsAll, Ruled}
+use Rattle.session_callers.proofs.Totals.{each_append, total_at, total_two, total_le, total_append, below_up, same_self}
 
 -- f of each number below b, added up
 abbrev upto : (ℕ → ℕ) → ℕ → ℕ
@@ -53,6 +53,10 @@ upto_full f (suc b) h full n lt = go (upto_full f b h (let c = h b in omega arit
 
 abbrev pub numbers_of : View → List ℕ
 numbers_of v = v.number ++ map (λ (e : Ended). e.number) v.ended
+
+pub each_map : (m : ℕ) (es : List Ended) → Each (λ (e : Ended). e.number < m) es → Each (λ (n : ℕ). n < m) (map (λ (e : Ended). e.number) es)
+each_map m [] h = tt
+each_map m (e ∷ es) h = (h.0, each_map m es h.1)
 
 total_map : {A B : Type 0} (f : A → B) (g : B → ℕ) (l : List A) → total g (map f l) ≡ total (λ a. g (f a)) l
 total_map f g [] = refl
@@ -104,7 +108,7 @@ late_makes_ended : (m : ℕ) (es : List Ended) → Each (λ (e : Ended). e.made 
 late_makes_ended m [] h = refl
 late_makes_ended m (e ∷ es) h = let a = h.0 in let r = late_makes_ended m es h.1 in omega arith
 
-module _ (s : State (Option Home) View) (r : Ruled s) (id : ℕ) (v : View) (at : get_elem? s.views id ≡ some v) (idle : v.stage ≡ Idle)
+module _ (s : State (Option Home) View) (r : Ruled s) (id : ℕ) (v : View) (at : get_elem? s.views id ≡ some v) (home : out v.stage ≡ 0)
     (m : ℕ) (all : m ≤ callers v) (low : Each (λ (n : ℕ). n < m) (numbers_of v)) (some_caller : 1 ≤ m) (made : v.made ≤ m) (made_ended : Each (λ (e : Ended). e.made ≤ m) v.ended) where
   once : (n : ℕ) → numbered n v ≤ 1
   once n = let a = r.counted.numbers n in let b = total_at (numbered n) s.views id v at in omega arith
@@ -155,7 +159,7 @@ module _ (s : State (Option Home) View) (r : Ruled s) (id : ℕ) (v : View) (at 
       stages (Split t) is h apart = absurd (none_served j u apart e (let a = (r.each j u e).caller in let b : draws u.stage ≡ 1 = ap draws is in omega arith) (subst (λ b. Each (λ (n : ℕ). n < b) u.number) h.3 h.4))
 
       go : Dec (j ≡ id) → out u.stage ≡ 0
-      go (yes same_one) = let is : v ≡ u = some-injective v u (sym at ∙ ap (get_elem? s.views) (sym same_one) ∙ e) in ap (λ (u : View). out u.stage) (sym is) ∙ ap out idle
+      go (yes same_one) = let is : v ≡ u = some-injective v u (sym at ∙ ap (get_elem? s.views) (sym same_one) ∙ e) in ap (λ (u : View). out u.stage) (sym is) ∙ home
       go (no apart) = stages u.stage refl (r.each j u e).turn apart
 
   more_out : (x : Stage) → more x ≤ out x
@@ -179,6 +183,10 @@ module _ (s : State (Option Home) View) (r : Ruled s) (id : ℕ) (v : View) (at 
           let h : below n (r.now.made + total (λ (v : View). more v.stage) s.views) ≡ below n (r.now.made + 0) = ap (λ k. below n (r.now.made + k)) g in
           let i = other_has_none j u apart e n (omega arith) in absurd (omega arith)
 
+  -- each position of the history is its own, which begins with all that was seen
+  pub owns_all : OwnsAll v r.now.log
+  owns_all = ((λ p. sym (total_only (owns p) s.views id v at (owns_none p)) ∙ r.counted.positions p), (r.each id v at).fronts)
+
   pub closes : (h : Home) × (s.homes ≡ some (Some h) ∷ []) × IsPrefix v.seen h.session.events × Each (λ (x : List Event). IsPrefix x h.session.events) v.fronts × ((p : ℕ) → owns p v ≡ below p (length h.session.events))
       × (1 ≤ length v.number → (h.session.config ≡ v.config) × (h.session.word ≡ v.word)) × MaySpend h.session.config h.session.word h.session.events h.session.failure
   closes = ⊎_elim
@@ -196,3 +204,7 @@ module _ (s : State (Option Home) View) (r : Ruled s) (id : ℕ) (v : View) (at 
     where
       h_events : Home → List Event
       h_events h = h.session.events
+
+-- a view that has all callers owns each position
+pub owns_history : (s : State (Option Home) View) (r : Ruled s) (id : ℕ) (v : View) → get_elem? s.views id ≡ some v → out v.stage ≡ 0 → (m : ℕ) → HasAll m v → OwnsAll v r.now.log
+owns_history s r id v at home m h = owns_all s r id v at home m h.all (each_append (λ (n : ℕ). n < m) v.number (map (λ (e : Ended). e.number) v.ended) h.low (each_map m v.ended h.low_ended)) h.some h.made h.made_ended

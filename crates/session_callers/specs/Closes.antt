@@ -1,7 +1,8 @@
 -- Whether all callers were handed in.
 use Rattle.std.specs.Prelude.{◌≡◌, ◌⊎◌, ℕ, nat_le, nat_lt, Bool, true, false, ◌||◌, List, [], ◌∷◌, length}
 use Rattle.driver_model.specs.declared.config.Config.{Config}
-use Rattle.session_callers.specs.Calls.{Known}
+use Rattle.atomic_table.specs.Seated.{TableId}
+use Rattle.session_callers.specs.Calls.{Gathered, Known, Place}
 use Rattle.session_callers.specs.Rule.{Each}
 use Rattle.session_callers.specs.declared.session.SharedSession.{SharedSession}
 use Rattle.session_callers.specs.declared.closing.CloseError.{CloseError}
@@ -35,3 +36,14 @@ AreOf config word cs = Each (λ (c : Known). (c.view.config ≡ config) × (c.vi
 -- where callers share a session of some configuration and word, these are they
 abbrev pub IsShared : List Known → Config → ℕ → Type 0
 IsShared cs its_config its_word = (config : Config) (word : ℕ) → AreOf config word cs → (its_config ≡ config) × (its_word ≡ word)
+
+-- the caller has neither read nor claimed a number of the dial
+abbrev pub IsUndialled : Known → Type 0
+IsUndialled c = (c.view.dial ≡ 0) × (c.view.claims ≡ [])
+
+abbrev pub AreUndialled : List Known → Type 0
+AreUndialled cs = Each IsUndialled cs
+
+-- the seat of a table, which holds nothing, has taken in these callers
+abbrev pub IsGathered : TableId → ℕ → List Known → Place → Type 0
+IsGathered z made cs seat = (seat.table_id ≡ z) × (seat.me.1 ≡ []) × Gathered made cs seat.me.0

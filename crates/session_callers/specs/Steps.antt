@@ -1,6 +1,5 @@
 -- What one step of the session is to the callers.
-use Rattle.std.specs.Prelude.{◌≡◌, ◌≢◌, ◌⊎◌, ℕ, ◌+◌, ◌<◌, ◌≤◌, List, [], ◌∷◌, ◌++◌, length, Option, true, false}
-use mathlib.Core.List.{IsPrefix}
+use Rattle.std.specs.Prelude.{◌≡◌, ◌≢◌, List, [], ◌∷◌, ◌++◌, length, true, false}
 use Rattle.driver_model.specs.declared.action.Action.{Action}
 use Rattle.driver_model.specs.declared.event.Event.{Event}
 use Rattle.shared_session.specs.History.{History}
@@ -10,7 +9,6 @@ use Rattle.shared_session.specs.declared.errors.StepError.{StepError}
 use Rattle.shared_session.specs.declared.errors.StepError.TheVariants.{BadEvent, Spent, NoMemory}
 use Rattle.shared_session.specs.declared.session.Failure.TheVariants as failure
 use Rattle.session_callers.specs.declared.board.Home.{Home}
-use Rattle.session_callers.specs.declared.board.View.{View}
 use Rattle.session_callers.specs.Rule.{MaySpend, Grows, submissions_in}
 
 -- the number of submissions beside the session is that of its history, and it may be spent only where a step would be

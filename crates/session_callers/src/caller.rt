@@ -1,4 +1,6 @@
 //! A caller, between two calls.
+ghost use Rattle.std.specs.Prelude.{◌≡◌};
+
 use crate::board::Place;
 use std::marker::Model;
 
@@ -23,4 +25,13 @@ impl Model for Caller {
     ghost invariant = { λ c. IsIdle c.seat × (c.front ≡ length c.seat.me.0.seen)
         × (c.generation ≡ c.seat.me.0.dial) × (c.seat.me.0.number ≡ c.number ∷ [])
         × (c.seat.me.0.made ≡ c.made) };
+}
+
+impl Caller {
+    /// The greatest number of the dial that it has read.
+    pub fn generation(&self) -> u64
+        ensures { result ≡ self.now.view.dial }
+    {
+        self.generation
+    }
 }

@@ -1,10 +1,10 @@
-ghost use Rattle.std.specs.Prelude.{◌≡◌, ℕ, ◌≤◌, IfOk, IfErr, OnOk, length, false};
+ghost use Rattle.std.specs.Prelude.{◌≡◌, ℕ, ◌≤◌, [], IfOk, IfErr, OnOk, length, false, max};
 ghost use mathlib.Core.List.{IsPrefix};
 ghost use Rattle.session_callers.specs.Rule.{Each, MaySpend, total, times, below};
 ghost use Rattle.session_callers.specs.Calls.{IsOf};
-ghost use Rattle.session_callers.specs.Closes.{knows_more, do_know_more, IsMissing, IsShared};
+ghost use Rattle.session_callers.specs.Closes.{knows_more, do_know_more, AreUndialled, IsGathered, IsMissing, IsShared};
 
-use crate::board::Home;
+use crate::board::{Board, Home, Place};
 use crate::caller::Caller;
 use crate::session::SharedSession;
 use crate::steps::merge;
@@ -28,7 +28,7 @@ fn knows_more(caller: &Caller, count: u64) -> bool
 }
 
 /// Whether one of these callers shows that more than so many were made.
-fn do_know_more(mut callers: &[Caller], count: u64) -> bool
+pub(crate) fn do_know_more(mut callers: &[Caller], count: u64) -> bool
     ensures { result ≡ do_know_more count callers.entry.now }
 {
     while let [caller, rest @ ..] = callers {
@@ -40,10 +40,48 @@ fn do_know_more(mut callers: &[Caller], count: u64) -> bool
     false
 }
 
+/// The greater of two numbers.
+fn greater(one: u64, other: u64) -> u64
+    ensures { result ≡ max one other }
+{
+    one.max(other)
+}
+
+/// The seats of callers as one, and the greatest number of the dial that it has read. They are all that were made: `made` is
+/// above their numbers, none of them saw more callers than that, and they are so many.
+pub(crate) fn gather(board: &Board, mut callers: Vec<Caller>, made: u64) -> (Place, u64)
+    requires sized { (board.now.table_id.words ≡ 3) × (board.now.table_id.slots ≡ 1) }
+    requires of { Each (IsOf board.now.table_id made) callers.items }
+    requires all { (1 ≤ made) × (made ≤ length callers.items) }
+    ensures gathered { IsGathered board.now.table_id made callers.items result.0 }
+    ensures dial { result.1 ≡ result.0.me.0.dial }
+    ensures undialled { AreUndialled callers.items
+        → (result.0.me.0.dial ≡ 0) × (result.0.me.0.claims ≡ []) }
+{
+    let Some(last) = callers.pop() else {
+        unreachable!()
+    };
+    let mut dial = last.generation();
+    let Caller {
+        seat,
+        front: _,
+        generation: _,
+        number: _,
+        made: _,
+    } = last;
+    let mut seat = seat;
+    while let Some(next) = callers.pop() {
+        let read = next.generation();
+        dial = greater(dial, read);
+        merge(board, &mut seat, next);
+    }
+    (seat, dial)
+}
+
 impl SharedSession {
     /// Ends the sharing, where these callers are all that were made: `made` is above their numbers, none of them saw
     /// more callers than that, and they are so many.
-    fn close_all(self, mut callers: Vec<Caller>, made: u64) -> Session
+    fn close_all(self, callers: Vec<Caller>, made: u64) -> Session
         requires of { Each (IsOf self.table.shared.table_id made) callers.items }
         requires all { (1 ≤ made) × (made ≤ length callers.items) }
         ensures begins { Each (λ caller. IsPrefix caller.view.seen result.events) callers.items }
@@ -53,20 +91,7 @@ impl SharedSession {
         ensures shared { IsShared callers.items result.config result.word }
         ensures spent { MaySpend result.config result.word result.events result.failure }
     {
-        let Some(last) = callers.pop() else {
-            unreachable!()
-        };
-        let Caller {
-            seat,
-            front: _,
-            generation: _,
-            number: _,
-            made: _,
-        } = last;
-        let mut seat = seat;
-        while let Some(next) = callers.pop() {
-            merge(&self.table.shared, &mut seat, next);
-        }
+        let (seat, _) = gather(&self.table.shared, callers, made);
         let SharedSession { table } = self;
         let mut closed = table.close_with(seat);
         let home = closed.take(0);

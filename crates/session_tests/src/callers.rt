@@ -174,6 +174,37 @@ fn the_dial_is_claimed_once(rt: HostRuntime) -> Result<(), AllocError> {
     Ok(())
 }
 
+/// Whether a number of the dial was claimed, and that number, or the one that the word held.
+fn number_of(claim: Claim) -> (bool, u64) {
+    match claim {
+        Claim::Claimed(dial) => (true, dial.spend()),
+        Claim::Newer(number) => (false, number),
+    }
+}
+
+#[test]
+fn the_caller_that_is_left_claims_what_nobody_has(rt: HostRuntime) -> Result<(), AllocError> {
+    let alloc = rt.alloc();
+    let mut out = Vec::new(alloc);
+    let (shared, mut a) = start(alloc, &mut out)?;
+    let Ok(mut b) = shared.join(&rt, &mut a) else {
+        return Ok(());
+    };
+    assert_eq!(rt; submit(&rt, alloc, &shared, &mut a, "a", &mut out)?, 0);
+    assert_eq!(rt; number_of(shared.claim_dial(&mut b, 0)), (true, 1));
+    assert_eq!(rt; (a.generation(), b.generation()), (0, 1));
+    let mut callers = Vec::new(alloc);
+    callers.push(a)?;
+    callers.push(b)?;
+    let Ok((session, mut keeper)) = shared.keep(&rt, callers) else {
+        return Ok(());
+    };
+    assert_eq!(rt; (session.events_taken(), keeper.generation()), (1, 1));
+    assert_eq!(rt; number_of(keeper.claim_dial(0)), (false, 1));
+    assert_eq!(rt; number_of(keeper.claim_dial(1)), (true, 2));
+    Ok(())
+}
+
 #[test]
 fn a_queue_that_holds_nothing_is_refused(rt: HostRuntime) -> Result<(), AllocError> {
     let alloc = rt.alloc();

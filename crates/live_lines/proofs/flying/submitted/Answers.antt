@@ -5,7 +5,7 @@ use Rattle.session_callers.specs.Rule.{Each}
 use Rattle.shared_session.specs.Replay.{opening_actions}
 use Rattle.live_lines.specs.Flights.{IsBare}
 use Rattle.live_lines.proofs.RunningOut.{stopped_out}
-use Rattle.live_lines.proofs.Submitted.{allowed_to, are_submitted, tables_still, asked_well}
+use Rattle.live_lines.proofs.Submitted.{allowed_to, are_submitted, tables_still, undialled_still, asked_well}
 use Rattle.live_lines.proofs.flying.submitted.Goals as goal
 
 pub submit_lines-requires-clause-allowed : goal.submit_lines-requires-clause-allowed
@@ -23,28 +23,35 @@ returns-in-Err-clause-err g c =
     c.refused.ensures c.args.plan
     (stopped_out c.args.plan.config first.word c.in-Ok-join_all.callers.items c.submit_lines.new.callers.items c.args.lines.items c.in-Err.error bare c.in-Err.ensures.err)
 
-pub close-requires : goal.close-requires
-close-requires g c =
+pub keep-requires : goal.keep-requires
+keep-requires g c =
     let first = c.in-Ok.made.1.view in
     tables_still first.config first.word c.in-Ok-join_all.callers.items c.submit_lines.new.callers.items c.args.lines.items c.in-Ok-submit_lines.ensures.ok.turns
     c.in-Ok-join_all.ensures.bare c.in-Ok-submit_lines.ensures.ok.run _ c.in-Ok-join_all.ensures.of
 
-pub returns-in-Ok-close-clause-submitted : goal.returns-in-Ok-close-clause-submitted
-returns-in-Ok-close-clause-submitted g c =
+pub returns-in-Ok-keep-clause-submitted : goal.returns-in-Ok-keep-clause-submitted
+returns-in-Ok-keep-clause-submitted g c =
     let is = c.in-Ok.ensures.caller.1 in
     let callers = c.in-Ok-join_all.callers.items in
     let bare = subst (λ (word : ℕ). Each (IsBare c.args.plan.config word) callers) (ap (λ v. v.word) is)
     (subst (λ (config : Config). Each (IsBare config c.in-Ok.made.1.view.word) callers) (ap (λ v. v.config) is) c.in-Ok-join_all.ensures.bare) in
     let shown = ◌∙◌ {A = List Action} c.in-Ok.ensures.actions (ap (λ (xs : List Action). xs ++ opening_actions c.args.plan.config c.args.word) c.requires.none) in
-    are_submitted c.args.plan c.args.word callers c.submit_lines.new.callers.items c.args.lines.items c.new-numbers.result.items c.submit_lines.new.numbers.items c.in-Ok-close.session
-    c.new.new.out.items c.submit_lines.new.out.items c.requires.allowed bare c.in-Ok-join_all.ensures.count c.in-Ok-submit_lines.ensures.ok c.new-numbers.ensures.items shown c.in-Ok-close.ensures.begins c.in-Ok-close.ensures.mine c.in-Ok-close.ensures.shared c.in-Ok-close.ensures.spent
+    are_submitted c.args.plan c.args.word callers c.submit_lines.new.callers.items c.args.lines.items c.new-numbers.result.items c.submit_lines.new.numbers.items c.in-Ok-keep.session
+    c.new.new.out.items c.submit_lines.new.out.items c.requires.allowed bare c.in-Ok-join_all.ensures.count c.in-Ok-submit_lines.ensures.ok c.new-numbers.ensures.items shown c.in-Ok-keep.ensures.begins c.in-Ok-keep.ensures.mine c.in-Ok-keep.ensures.shared c.in-Ok-keep.ensures.spent
 
-pub returns-in-Ok-close-clause-asked : goal.returns-in-Ok-close-clause-asked
-returns-in-Ok-close-clause-asked g c =
+pub returns-in-Ok-keep-clause-asked : goal.returns-in-Ok-keep-clause-asked
+returns-in-Ok-keep-clause-asked g c =
     let is = c.in-Ok.ensures.caller.1 in
     let callers = c.in-Ok-join_all.callers.items in
     let bare = subst (λ (word : ℕ). Each (IsBare c.args.plan.config word) callers) (ap (λ v. v.word) is)
     (subst (λ (config : Config). Each (IsBare config c.in-Ok.made.1.view.word) callers) (ap (λ v. v.config) is) c.in-Ok-join_all.ensures.bare) in
     let shown = ◌∙◌ {A = List Action} c.in-Ok.ensures.actions (ap (λ (xs : List Action). xs ++ opening_actions c.args.plan.config c.args.word) c.requires.none) in
-    (asked_well c.args.plan c.args.word callers c.submit_lines.new.callers.items c.args.lines.items c.new-numbers.result.items c.submit_lines.new.numbers.items c.in-Ok-close.session
-    c.new.new.out.items c.submit_lines.new.out.items c.requires.allowed bare c.in-Ok-join_all.ensures.count c.in-Ok-submit_lines.ensures.ok shown c.in-Ok-close.ensures.begins c.in-Ok-close.ensures.mine).asked
+    (asked_well c.args.plan c.args.word callers c.submit_lines.new.callers.items c.args.lines.items c.new-numbers.result.items c.submit_lines.new.numbers.items c.in-Ok-keep.session
+    c.new.new.out.items c.submit_lines.new.out.items c.requires.allowed bare c.in-Ok-join_all.ensures.count c.in-Ok-submit_lines.ensures.ok shown c.in-Ok-keep.ensures.begins c.in-Ok-keep.ensures.mine).asked
+
+pub returns-in-Ok-keep-clause-undialled : goal.returns-in-Ok-keep-clause-undialled
+returns-in-Ok-keep-clause-undialled g c =
+    let first = c.in-Ok.made.1.view in
+    c.in-Ok-keep.ensures.undialled
+    (undialled_still first.config first.word c.in-Ok-join_all.callers.items c.submit_lines.new.callers.items c.args.lines.items c.in-Ok-submit_lines.ensures.ok.turns
+    c.in-Ok-join_all.ensures.bare c.in-Ok-submit_lines.ensures.ok.run)

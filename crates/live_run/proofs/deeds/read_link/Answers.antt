@@ -10,7 +10,7 @@ returns-in-Err-clause-err g c = broke_call _ c.read-answer.ensures.tells
 pub returns-in-Ok-settle-clause-did : goal.returns-in-Ok-settle-clause-did
 returns-in-Ok-settle-clause-did g c =
     read_one c.args.link (length c.args.room.now) c.requires (sym c.is_up.ensures ∙ c.if-not-is_up.false) c.read-answer.ensures.tells (c.in-Ok.ensures (length c.args.room.now))
-    (c.after_read.ensures (length c.args.room.now) (link_given c.read-answer.new.room c.read-answer.result)) c.in-Ok-settle.ensures.ok
+    (c.after_read.ensures.noted (length c.args.room.now) (link_given c.read-answer.new.room c.read-answer.result)) c.in-Ok-settle.ensures.ok
 
 pub returns-in-Err-settle-clause-err : goal.returns-in-Err-settle-clause-err
 returns-in-Err-settle-clause-err g c =

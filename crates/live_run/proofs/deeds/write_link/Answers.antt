@@ -5,7 +5,7 @@ pub returns-in-Ok-clause-did : goal.returns-in-Ok-clause-did
 returns-in-Ok-clause-did g c =
     let offer = c.in-Some.ensures in
     write_one c.args.link c.in-Some.offer.now offer.0 offer.1 c.write-answer.ensures.within c.write-answer.ensures.tells (c.write_news-news.ensures c.in-Some.offer.now)
-    (c.after_write.ensures c.in-Some.offer.now) c.in-Ok.ensures.ok
+    (c.after_write.ensures.noted c.in-Some.offer.now) c.in-Ok.ensures.ok
 
 pub returns-in-Err-clause-err : goal.returns-in-Err-clause-err
 returns-in-Err-clause-err g c =

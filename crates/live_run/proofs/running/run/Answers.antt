@@ -5,7 +5,7 @@ use Rattle.live_run.proofs.Whole.{next_within, ran_over, sofar_more, sofar_none}
 use Rattle.live_run.proofs.running.run.Goals as goal
 
 pub passes-init : goal.passes-init
-passes-init g c = record { does = sofar_none; goes = goes_none; same = refl; within = omega arith }
+passes-init g c = record { does = sofar_none; goes = goes_none; same = refl; within = omega arith; claims = c.requires.claimed }
 
 pub passes-preserved : goal.passes-preserved
 passes-preserved g c =
@@ -15,6 +15,7 @@ passes-preserved g c =
       goes = goes_more c.passes.invariant.goes (rw (c.ending.ensures.same, c.passes.invariant.same) at c.in-Ok-Idle.ensures.goes);
       same = c.in-Ok-Idle.ensures.same ∙ (c.ending.ensures.same ∙ c.passes.invariant.same);
       within = next_within _ _ did c.passes-test.true;
+      claims = c.in-Ok-Idle.ensures.claims;
     }
 
 pub returns-in-Ok-Over-clause-did : goal.returns-in-Ok-Over-clause-did

@@ -1,4 +1,5 @@
 use Rattle.std.proofs.Common.{◌≡◌, ◌≤◌, ◌+◌, ◌-◌, ◌*◌, length}
+use Rattle.live_run.specs.Claims.{HasClaimed}
 use Rattle.live_run.specs.Deeds.{Does}
 use Rattle.live_run.specs.Endings.{Goes, most_events}
 use Rattle.live_run.proofs.Whole.{Sofar}
@@ -10,6 +11,7 @@ invariant-passes g l = record {
   goes : Goes l.fn.session l.session l.fn.driver.verdict.submissions;
   same : l.driver.verdict.submissions ≡ l.fn.driver.verdict.submissions;
   within : l.idle ≤ 6_000;
+  claims : HasClaimed l.driver.agenda.claimed l.keeper;
 }
 
 -- passes that events may come of, and idle ones between them

@@ -16,6 +16,7 @@ dials-preserved g c =
       does = dial_next (length c.args.self.now.agenda.dials) c.dials.left (c.dials.left - 1) next c.in-Some-pop_front.ensures c.dials.invariant.does c.in-Ok.ensures.did;
       goes = goes_more c.dials.invariant.goes (goes_one (rw (← c.dials.invariant.same) (c.in_default.ensures.going refl)) c.in-Ok.ensures.did);
       same = c.ending.ensures.same ∙ c.dials.invariant.same;
+      claims = c.in-Ok.ensures.claims;
     }
 
 pub returns-in-Err-clause-err : goal.returns-in-Err-clause-err

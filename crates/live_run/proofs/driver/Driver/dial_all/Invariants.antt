@@ -1,4 +1,5 @@
 use Rattle.std.proofs.Common.{◌≡◌, length}
+use Rattle.live_run.specs.Claims.{HasClaimed}
 use Rattle.live_run.specs.Deeds.{Does}
 use Rattle.live_run.specs.Endings.{Goes}
 use Rattle.live_run.specs.Passes.{AreDials}
@@ -12,6 +13,7 @@ invariant-dials g l = record {
       (Until (AreDials (length l.fn.self.agenda.dials)) l.fn.self.agenda (AreDials l.left) l.self.agenda);
   goes : Goes l.fn.session l.session l.fn.self.verdict.submissions;
   same : l.self.verdict.submissions ≡ l.fn.self.verdict.submissions;
+  claims : HasClaimed l.self.agenda.claimed l.keeper;
 }
 
 abbrev pub decreases-dials : goal.decreases-dials

@@ -8,7 +8,7 @@ pub returns-in-Some-ending-clause-did : goal.returns-in-Some-ending-clause-did
 returns-in-Some-ending-clause-did g c = fires_cut c.fires.invariant.does
 
 pub fires-preserved : goal.fires-preserved
-fires-preserved g c = record { does = fire_more c.fires.invariant.does c.in-Ok.ensures.did; goes = goes_more c.fires.invariant.goes (goes_one (rw (← c.fires.invariant.same) (c.in_default-ending.ensures.going refl)) c.in-Ok.ensures.did); same = c.ending.ensures.same ∙ c.fires.invariant.same }
+fires-preserved g c = record { does = fire_more c.fires.invariant.does c.in-Ok.ensures.did; goes = goes_more c.fires.invariant.goes (goes_one (rw (← c.fires.invariant.same) (c.in_default-ending.ensures.going refl)) c.in-Ok.ensures.did); same = c.ending.ensures.same ∙ c.fires.invariant.same; claims = c.in-Ok.ensures.claims ∙ c.fires.invariant.claims }
 
 pub returns-in-Err-clause-err : goal.returns-in-Err-clause-err
 returns-in-Err-clause-err g c = broke_more c.fires.invariant.does c.in-Err.ensures.err

@@ -12,6 +12,7 @@ invariant-fires g l = record {
       (Until Firing l.fn.self.agenda Firing l.self.agenda);
   goes : Goes l.fn.session l.session l.fn.self.verdict.submissions;
   same : l.self.verdict.submissions ≡ l.fn.self.verdict.submissions;
+  claims : l.self.agenda.claimed ≡ l.fn.self.agenda.claimed;
 }
 
 abbrev pub decreases-fires : goal.decreases-fires

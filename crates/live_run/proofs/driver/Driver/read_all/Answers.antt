@@ -17,6 +17,7 @@ loop-link-preserved g c = record {
   does = turn_more IsUp IsReadOf (numbers_of c.args.self.now.agenda.links) c.loop-link.left c.in-Some.ensures c.loop-link.invariant.does c.in-Ok-read_link.ensures.did;
   goes = goes_more c.loop-link.invariant.goes (goes_in_turn IsUp IsReadOf (rw (← c.loop-link.invariant.same) (c.in_default-ending.ensures.going refl)) c.in-Ok-read_link.ensures.did);
   same = c.ending.ensures.same ∙ c.loop-link.invariant.same;
+  claims = c.in-Ok-read_link.ensures.claims ∙ c.loop-link.invariant.claims;
 }
 
 pub returns-in-Err-read_link-clause-err : goal.returns-in-Err-read_link-clause-err

@@ -13,6 +13,7 @@ invariant-loop-link g l = record {
       (Until (InTurn IsUp IsReadOf (numbers_of l.fn.self.agenda.links)) l.fn.self.agenda (InTurn IsUp IsReadOf l.left) l.self.agenda);
   goes : Goes l.fn.session l.session l.fn.self.verdict.submissions;
   same : l.self.verdict.submissions ≡ l.fn.self.verdict.submissions;
+  claims : l.self.agenda.claimed ≡ l.fn.self.agenda.claimed;
 }
 
 abbrev pub decreases-loop-link : goal.decreases-loop-link
