@@ -71,6 +71,7 @@ pub mod Submit
 pub mod Asked
 pub mod Effects
 pub mod Renews
+pub mod RepeatsTold
 pub mod Rounds
 pub mod Passes
 pub mod Moved
