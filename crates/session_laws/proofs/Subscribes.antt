@@ -81,7 +81,7 @@ repeats_next g calls held = by_kind g.settings.automatic_resubscription
 
 -- before the first call nothing is
 pub nothing_first : (settings : ConnectionManagerConfig) (info : ConnectionInfo) (number : ℕ) → repeat_for (generations_at settings info number) ≡ again.Nothing
-unfolding resubscription
+unfolding resubscription held_after
 nothing_first settings info number = by_kind settings.automatic_resubscription
   where
     by_kind : (subscribes : Bool) → (if subscribes then repeat_after (generations_at settings info number).subscribed else again.Nothing) ≡ again.Nothing
