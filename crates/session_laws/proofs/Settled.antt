@@ -2,7 +2,7 @@
 use Rattle.mux_conn.specs.Turn.{written, early_wait, waits_for, flushed, fresh_each_shown, fresh_wait, is_from, moved_each_shown, moved_wait, wait_shown, waits_shown}
 use Rattle.std.proofs.Common.{Bool, List, None, Option, Some, [], ap, false, inl, inr, length, refl, subst, suc, sym, true, ℕ, ◌++◌, ◌+◌, ◌<◌, ◌∙◌, ◌∷◌, ◌≡◌, ◌≢◌, ◌⊎◌, arith}
 use Rattle.std.specs.Prelude.{if◌then◌else◌, ◌&&◌, is_some}
-use Rattle.containers.proofs.Choices.{by_test, both_left, both_right, chosen, le_test, left_if, not_both}
+use Rattle.containers.proofs.Choices.{by_test, both_left, both_right, chosen, le_test, left_if, not_both, taken_if}
 use Rattle.driver_model.specs.declared.action.Action.{Action}
 use Rattle.driver_model.specs.declared.action.WaitKind.{WaitKind}
 use Rattle.driver_model.specs.declared.action.WaitKind.TheVariants as wait

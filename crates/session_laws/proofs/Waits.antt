@@ -261,7 +261,7 @@ wanted_placed requests [] p other all i = absurd i
 wanted_placed requests (e ∷ es) p other all i = elim (in_either p (if e.awaited then e.id ∷ [] else []) (wanted es) i) [
   | inl j ↦ elim all.0 [
     | inl r ↦ subst (λ n. is_placed_at requests n ≡ true) (chosen_in e.awaited p e.id j) (r.placed_at (own e.awaited j))
-    | inr a ↦ absurd (other (sym (chosen_in e.awaited p e.id j) ∙ a.is))
+    | inr a ↦ absurd (not_both (is_own p) other (ap is_own (sym (chosen_in e.awaited p e.id j)) ∙ a.is))
   ]
   | inr j ↦ wanted_placed requests es p other all.1 j
 ]
