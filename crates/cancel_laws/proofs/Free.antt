@@ -30,7 +30,7 @@ use Rattle.mux_conn.specs.declared.request.Progress.TheVariants as progress
 use Rattle.mux_conn.specs.declared.request.Request.{Request}
 use Rattle.mux_conn.specs.declared.request.Waiting.{Waiting}
 use Rattle.mux_conn.specs.declared.renewal.Renewal.{Renewal}
-use Rattle.mux_conn.specs.Connection.{Work, with_link, has_no_permit, admits_none_at, admits_none, has_room, has_room_at, in_front, is_due, acted, is_ready, is_resting, is_used_up, work_with, is_outstanding, is_serving}
+use Rattle.mux_conn.specs.Connection.{Work, with_link, has_no_permit, admits_none_at, admits_none, has_room, has_room_at, in_front, is_due, acted, is_resting, is_used_up, work_with, is_outstanding, is_serving}
 use Rattle.mux_conn.specs.Requests.{if_there, is_waiting, is_waiting_at, name_at, permits_at, answered, waiting_of, asked, is_unbegun, is_unbegun_at, progressed}
 use Rattle.mux_conn.specs.Passes.{started, message_of, placed_at, told_at_place, seated, moved_up_all, put_behind, seated_or_behind, permits_taken, holding, let_in, admitted_at, admitted, still_waiting, still_admitted, admitted_each, admitted_all, passed, moved_all, round_begun, rounds_of, rounds_begun}
 use Rattle.mux_conn.specs.Turn.{written_at, written, flushed}

@@ -1,5 +1,5 @@
 -- A request has at most one message on its link.
-use Rattle.std.proofs.Common.{◌≡◌, ◌≢◌, ℕ, zero, suc, ◌+◌, ◌≤◌, ◌==◌, nat_lt, ◌&&◌, Bool, true, List, [], ◌∷◌, ◌++◌, length, Option, Some, None, slice_get, if◌then◌else◌, refl, sym, ap, ◌∙◌, subst, arith}
+use Rattle.std.proofs.Common.{◌≡◌, ℕ, zero, suc, ◌+◌, ◌≤◌, ◌==◌, nat_lt, ◌&&◌, Bool, true, List, [], ◌∷◌, ◌++◌, length, Option, Some, None, slice_get, if◌then◌else◌, refl, ap, subst, arith}
 use Rattle.std.proofs.Math.Bool.{and-false}
 use Rattle.containers.proofs.Choices.{by_test, chosen, taken_if, left_if, eq_from, ne_test}
 use Rattle.resp_value.specs.Data.{Data}
@@ -20,7 +20,6 @@ use Rattle.mux_conn.specs.declared.request.Request.{Request}
 use Rattle.mux_conn.specs.Requests.{is_waiting, is_admitted, is_waiting_at, is_admitted_at, permits_at, with_permits, at_progress}
 use Rattle.mux_conn.specs.Effects.{cancelled_in}
 use Rattle.mux_conn.specs.Passes.{message_of}
-use Rattle.mux_conn.specs.Renewals.{renewal_id}
 use Rattle.cancel_laws.proofs.Counts.{count_on, count_push}
 use Rattle.cancel_laws.proofs.Links.{NoneWanted}
 use Rattle.cancel_laws.proofs.Kept.{IsKept, IsKeptThere, There, kept_there, IsApart}
