@@ -1,5 +1,5 @@
 -- Messages of the driver's own that are settled: what all of them come to.
-use Rattle.std.proofs.Common.{◌≡◌, ℕ, ◌==◌, Bool, true, false, ◌&&◌, ◌||◌, if◌then◌else◌, List, [], ◌∷◌, ◌++◌, refl, sym, ap, ◌∙◌, subst, inl, inr}
+use Rattle.std.proofs.Common.{◌≡◌, ℕ, ◌==◌, Bool, true, false, ◌&&◌, ◌||◌, if◌then◌else◌, List, [], ◌∷◌, refl, sym, ap, ◌∙◌, subst, inl, inr}
 use Rattle.containers.proofs.Choices.{by_test, eq_from, eq_test, not_both, chosen}
 use Rattle.link_core.specs.declared.message.Settled.{Settled}
 use Rattle.mux_conn.specs.declared.act.LinkAct.{LinkAct}
@@ -16,7 +16,7 @@ use Rattle.mux_conn.specs.Repeats.{repeat_id, repeating}
 use Rattle.redis_error.specs.declared.redis_error.RedisError.{RedisError}
 use Rattle.link_laws.specs.Settles.{settled_ids}
 use Rattle.session_laws.proofs.Numbers.{IsIn, repeat_other}
-use Rattle.session_laws.proofs.Settle.{Leaves, own_each, own_one, replied_each}
+use Rattle.session_laws.proofs.Settle.{Leaves, own_each, replied_each}
 
 -- the reply to what is subscribed again is one of these
 abbrev pub has_repeat : List Settled → Bool

@@ -1,7 +1,7 @@
 -- New credentials are told before the queue, behind their timer.
 use Rattle.std.proofs.Common.{List, None, Option, Some, [], ap, arith, false, inl, inr, length, length-append, refl, subst, sym, true, ℕ, ◌+◌, ◌++◌, ◌≤◌, ◌∙◌, ◌∷◌, ◌≡◌, ◌≢◌}
 use Rattle.std.proofs.lemmas.List.{append-nil}
-use Rattle.std.specs.Prelude.{if◌then◌else◌, slice_get, ◌==◌, ◌&&◌}
+use Rattle.std.specs.Prelude.{if◌then◌else◌, slice_get, ◌&&◌}
 use Rattle.containers.proofs.Choices.{both_right, chosen, left_if, not_both, by_test, taken_if}
 use Rattle.containers.proofs.Places.{get_within}
 use Rattle.credentials.specs.Credentials.{Credentials}

@@ -3,7 +3,7 @@ use Rattle.std.proofs.Common.{List, None, Option, Some, [], ap, arith, false, in
 use Rattle.std.proofs.Math.Bool.{and-false}
 use Rattle.std.proofs.lemmas.List.{append-nil}
 use Rattle.std.specs.Prelude.{Bool, if◌then◌else◌, is_some, ◌&&◌}
-use Rattle.containers.proofs.Choices.{both_right, by_test, chosen, eq_test, left_if, not_both, taken_if}
+use Rattle.containers.proofs.Choices.{both_right, by_test, chosen, not_both}
 use Rattle.driver_model.specs.Hearing.{is_watching}
 use Rattle.driver_model.specs.Shape.{need_of}
 use Rattle.driver_model.specs.declared.action.Action.{Action}
@@ -40,10 +40,9 @@ use Rattle.session_laws.proofs.Kept.{mine_noted, others_kept, tied_by}
 use Rattle.session_laws.proofs.Names.{owner_of_repeat}
 use Rattle.session_laws.proofs.Numbers.{IsIn, Rising, repeat_is_own, requests_behind, requests_in, requests_in-append}
 use Rattle.session_laws.proofs.Renewals.{begins_renewed, renewal_alike}
-use Rattle.session_laws.proofs.Renews.{bound_fit, one_link, time_is_set, tries_told, wanted_told}
+use Rattle.session_laws.proofs.Renews.{one_link, tries_told, wanted_told}
 use Rattle.session_laws.proofs.Repeating.{HasRepeated, aims_repeated, due_here, repeats_timed as all_timed}
-use Rattle.session_laws.proofs.Repeats.{IsRepeatDue, IsRepeated, TiedRepeat, repeat_sent, repeat_timed as timed_due, repeat_untimed, to_start_is}
-use Rattle.session_laws.proofs.Server.{TiedRenewal}
+use Rattle.session_laws.proofs.Repeats.{IsRepeatDue, repeat_sent, repeat_timed as timed_due, repeat_untimed, to_start_is}
 use Rattle.session_laws.proofs.SetUp.{begun_open, set_up_begins, setups_begins}
 use Rattle.session_laws.proofs.Settle.{Holds, book_of_more, seen, sound_act, trace_of_acts}
 use Rattle.session_laws.proofs.Start.{not_setting, on_link}
