@@ -11,7 +11,8 @@ use Rattle.link_core.specs.Link.{LinkState, holds_back, started_each}
 use Rattle.link_laws.specs.Settles.{awaited_ids, wanted}
 use Rattle.link_core.specs.declared.message.Queued.{Queued}
 use Rattle.mux_conn.specs.Repeats.{is_to_start, repeat_asked, repeat_moved, repeated}
-use Rattle.session_laws.proofs.RepeatsTold.{repeated_on, said_alone}
+use Rattle.session_laws.proofs.RepeatsTold.{repeated_on}
+use Rattle.session_laws.proofs.SaysAlone.{said_alone}
 use Rattle.session_laws.proofs.Start.{with_queue}
 use Rattle.mux_conn.specs.Connection.{Work, at_life, is_serving, admits_none, admits_none_at, has_no_permit, with_link, in_front, is_due, is_ready, is_outstanding}
 use Rattle.mux_conn.specs.Effects.{failed_each, nobody_waits, waiting_failed}

@@ -15,17 +15,15 @@ use Rattle.link_core.specs.Link.{LinkState, begun, entry_of, holds_back}
 use Rattle.link_laws.proofs.TiedLink.{all_push, begun_tied, repeats_timed_tied}
 use Rattle.link_laws.specs.Settles.{awaited_ids}
 use Rattle.link_laws.specs.Starts.{start_from}
-use Rattle.credentials.specs.Credentials.{Credentials}
-use Rattle.mux_conn.specs.Connection.{Work, is_due, is_outstanding, is_ready}
-use Rattle.mux_conn.specs.Passes.{said}
-use Rattle.mux_conn.specs.Renewals.{asked_next, renewal_asked, renewal_id, renewal_moved, renewal_timed, renewal_told, renewed, renewing}
+use Rattle.mux_conn.specs.Connection.{Work, is_outstanding, is_ready}
+use Rattle.mux_conn.specs.Renewals.{renewal_id}
 use Rattle.mux_conn.specs.Repeats.{is_to_start, is_untimed, repeat_asked, repeat_id, repeat_moved, repeat_queued, repeat_timed, repeat_told, repeated, repeating, with_timer}
 use Rattle.mux_conn.specs.declared.act.LinkAct.TheVariants as act
 use Rattle.mux_conn.specs.declared.again.Again.{Again}
 use Rattle.mux_conn.specs.declared.again.Again.TheVariants as again
 use Rattle.mux_conn.specs.declared.life.Greeting.TheVariants as greet
 use Rattle.mux_conn.specs.declared.life.Life.{Life}
-use Rattle.mux_conn.specs.declared.life.Life.TheVariants.{Resting, Dialing, Wanting, SettingUp, Ready, Ended}
+use Rattle.mux_conn.specs.declared.life.Life.TheVariants.{Ready}
 use Rattle.shared_session.specs.declared.core_state.Core.{Core}
 use Rattle.shared_session.specs.Turn.{timers_of}
 use Rattle.legal_trace.specs.Book.{Book, book, entered, message_of}
@@ -321,7 +319,7 @@ pub record HasRepeatedOn (before : List Action) (f : Core) (v : Work) : Type 0 w
   pub repeated : HasRepeated v.conn.again v.conn.life
 
 -- it is to start, and its timer was asked for, or wasn't
-record HasTimedSo (before : List Action) (f : Core) (v : Work) (started : List ℕ) (link : LinkState) (packed : List ℕ) (of_shape : Shape) (timed : Bool) : Type 0 where
+record IsDueOn (before : List Action) (f : Core) (v : Work) (started : List ℕ) (link : LinkState) (packed : List ℕ) (of_shape : Shape) (timed : Bool) : Type 0 where
   life : v.conn.life ≡ Ready link
   due : v.conn.again ≡ again.Due packed of_shape timed
   holds : Holds before f v [] started
@@ -330,7 +328,7 @@ record HasTimedSo (before : List Action) (f : Core) (v : Work) (started : List �
   moved : v.conn.moved ≡ []
 
 -- so the session is
-was_due : (before : List Action) (f : Core) (v : Work) (started : List ℕ) (link : LinkState) (packed : List ℕ) (of_shape : Shape) (timed : Bool) → HasTimedSo before f v started link packed of_shape timed
+was_due : (before : List Action) (f : Core) (v : Work) (started : List ℕ) (link : LinkState) (packed : List ℕ) (of_shape : Shape) (timed : Bool) → IsDueOn before f v started link packed of_shape timed
     → Tied (book (trace_of_acts before f v.acts)) (due_on (seen f v.acts v.conn [] started) link packed of_shape timed)
 was_due before f v started link packed of_shape timed h =
     let b = book (trace_of_acts before f v.acts) in
@@ -338,8 +336,8 @@ was_due before f v started link packed of_shape timed h =
     subst (λ (x : Again). Tied b (record (on_link t link) { again = x })) h.due (subst (λ (x : Life). Tied b (record t { life = x })) h.life h.holds.tied)
 
 -- its timer is asked for, where it wasn't yet
-timed_now : (before : List Action) (f : Core) (w : Work) (started : List ℕ) (link : LinkState) (packed : List ℕ) (of_shape : Shape) (within : Option ℕ) → w.conn.renewal.within ≡ within → HasTimedSo before f w started link packed of_shape false
-    → HasTimedSo before f (repeat_timed (repeating w (again.Due packed of_shape true)) within) started link packed of_shape true
+timed_now : (before : List Action) (f : Core) (w : Work) (started : List ℕ) (link : LinkState) (packed : List ℕ) (of_shape : Shape) (within : Option ℕ) → w.conn.renewal.within ≡ within → IsDueOn before f w started link packed of_shape false
+    → IsDueOn before f (repeat_timed (repeating w (again.Due packed of_shape true)) within) started link packed of_shape true
 timed_now before f w started link packed of_shape None e h =
     let b = book (trace_of_acts before f w.acts) in
     let t = seen f w.acts w.conn [] started in
@@ -370,14 +368,14 @@ timed_now before f w started link packed of_shape (Some ms) e h =
     }
 
 -- it is once its timer is to be there
-due_asked : (before : List Action) (f : Core) (w : Work) (started : List ℕ) (link : LinkState) (packed : List ℕ) (of_shape : Shape) (timed : Bool) → HasTimedSo before f w started link packed of_shape timed → HasTimedSo before f (repeat_asked w) started link packed of_shape true
+due_asked : (before : List Action) (f : Core) (w : Work) (started : List ℕ) (link : LinkState) (packed : List ℕ) (of_shape : Shape) (timed : Bool) → IsDueOn before f w started link packed of_shape timed → IsDueOn before f (repeat_asked w) started link packed of_shape true
 due_asked before f w started link packed of_shape timed h =
-    subst (λ (a : Again). HasTimedSo before f (asked_with a) started link packed of_shape true) (sym h.due) (by_timed timed h)
+    subst (λ (a : Again). IsDueOn before f (asked_with a) started link packed of_shape true) (sym h.due) (by_timed timed h)
   where
     asked_with : Again → Work
     asked_with a = if is_untimed a then repeat_timed (repeating w (with_timer a)) w.conn.renewal.within else repeating w (with_timer a)
 
-    by_timed : (x : Bool) → HasTimedSo before f w started link packed of_shape x → HasTimedSo before f (asked_with (again.Due packed of_shape x)) started link packed of_shape true
+    by_timed : (x : Bool) → IsDueOn before f w started link packed of_shape x → IsDueOn before f (asked_with (again.Due packed of_shape x)) started link packed of_shape true
     by_timed false k = timed_now before f w started link packed of_shape w.conn.renewal.within refl k
     by_timed true k = record {
       life = k.life;
@@ -389,7 +387,7 @@ due_asked before f w started link packed of_shape timed h =
     }
 
 -- it starts, where nothing holds the link back
-due_moved : (before : List Action) (f : Core) (v : Work) (started : List ℕ) (link : LinkState) (packed : List ℕ) (of_shape : Shape) (was : Bool) → HasTimedSo before f v started link packed of_shape true → HasRepeatedOn before f (repeat_moved v (Ready link) (again.Due packed of_shape was))
+due_moved : (before : List Action) (f : Core) (v : Work) (started : List ℕ) (link : LinkState) (packed : List ℕ) (of_shape : Shape) (was : Bool) → IsDueOn before f v started link packed of_shape true → HasRepeatedOn before f (repeat_moved v (Ready link) (again.Due packed of_shape was))
 due_moved before f v started link packed of_shape was h =
     chosen (HasRepeatedOn before f) (holds_back link) v (repeat_told v link packed of_shape)
     (λ held. record {
@@ -442,85 +440,3 @@ repeated_on before f w started link life holds ended fit moved =
     by_again again.Nothing e start = cc
     by_again (again.Due packed of_shape timed) e start = due_moved before f (repeat_asked w) started link packed of_shape timed (due_asked before f w started link packed of_shape timed (record { life = life; due = e; holds = holds; ended = ended; fit = fit; moved = moved }))
     by_again again.Sent e start = cc
-
--- what the driver says itself
---
--- leaves those that wait for a place, and whether what is subscribed again is answered
-pub record SaysAlone (w v : Work) : Type 0 where
-  pub admitted : v.conn.admitted ≡ w.conn.admitted
-  pub goes : is_outstanding v.conn.again ≡ is_outstanding w.conn.again
-
--- nothing is said
-says_none : (w : Work) → SaysAlone w w
-says_none w = record { admitted = refl; goes = refl }
-
--- one after another
-pub says_on : (u v w : Work) → SaysAlone u v → SaysAlone v w → SaysAlone u w
-says_on u v w h k = record { admitted = k.admitted ∙ h.admitted; goes = k.goes ∙ h.goes }
-
--- a stage of what is subscribed again is as open as before its timer was asked for
-timer_goes : (a : Again) → is_outstanding (with_timer a) ≡ is_outstanding a
-timer_goes again.Nothing = refl
-timer_goes (again.Due packed of_shape timed) = refl
-timer_goes again.Sent = refl
-
--- its timer
-asked_alone : (w : Work) → SaysAlone w (repeat_asked w)
-asked_alone w =
-    let v = repeating w (with_timer w.conn.again) in
-    chosen (SaysAlone w) (is_untimed w.conn.again) (repeat_timed v w.conn.renewal.within) v (λ t. by_within w.conn.renewal.within) (λ f. record { admitted = refl; goes = timer_goes w.conn.again })
-  where
-    by_within : (within : Option ℕ) → SaysAlone w (repeat_timed (repeating w (with_timer w.conn.again)) within)
-    by_within None = record { admitted = refl; goes = timer_goes w.conn.again }
-    by_within (Some ms) = record { admitted = refl; goes = timer_goes w.conn.again }
-
--- its message
-told_alone : (v : Work) (life : Life) (a : Again) → is_outstanding v.conn.again ≡ is_outstanding a → SaysAlone v (repeat_moved v life a)
-told_alone v (Ready link) (again.Due packed of_shape timed) same = chosen (SaysAlone v) (holds_back link) v (repeat_told v link packed of_shape) (λ held. says_none v) (λ free. record { admitted = refl; goes = sym same })
-told_alone v (Ready link) again.Nothing same = says_none v
-told_alone v (Ready link) again.Sent same = says_none v
-told_alone v Resting a same = says_none v
-told_alone v Dialing a same = says_none v
-told_alone v (Wanting link) a same = says_none v
-told_alone v (SettingUp link greeting) a same = says_none v
-told_alone v (Ended e) a same = says_none v
-
--- so it is subscribed again
-pub repeated_alone : (w : Work) → SaysAlone w (repeated w)
-repeated_alone w =
-    let v = repeat_asked w in
-    let asked = asked_alone w in
-    chosen (SaysAlone w) (is_ready w.conn.life && is_to_start w.conn.again) (repeat_moved v w.conn.life w.conn.again) w
-    (λ t. says_on w v (repeat_moved v w.conn.life w.conn.again) asked (told_alone v w.conn.life w.conn.again asked.goes))
-    (λ n. says_none w)
-
--- and new credentials are told
-credentials_asked : (w : Work) → SaysAlone w (renewal_asked w)
-credentials_asked w =
-    let r = w.conn.renewal in
-    chosen (SaysAlone w) r.pending w (renewal_timed (renewing w (asked_next r)) r.asked r.within) (λ p. says_none w) (λ n. by_within r.within)
-  where
-    by_within : (within : Option ℕ) → SaysAlone w (renewal_timed (renewing w (asked_next w.conn.renewal)) w.conn.renewal.asked within)
-    by_within None = record { admitted = refl; goes = refl }
-    by_within (Some ms) = record { admitted = refl; goes = refl }
-
-credentials_told : (v : Work) (life : Life) (cs : List Credentials) → SaysAlone v (renewal_moved v life cs)
-credentials_told v (Ready link) (c ∷ cs) = chosen (SaysAlone v) (holds_back link) v (renewal_told v link c cs) (λ held. says_none v) (λ free. record { admitted = refl; goes = refl })
-credentials_told v (Ready link) [] = says_none v
-credentials_told v Resting cs = says_none v
-credentials_told v Dialing cs = says_none v
-credentials_told v (Wanting link) cs = says_none v
-credentials_told v (SettingUp link greeting) cs = says_none v
-credentials_told v (Ended e) cs = says_none v
-
-pub renewed_alone : (w : Work) → SaysAlone w (renewed w)
-renewed_alone w =
-    let v = renewal_asked w in
-    let cs = w.conn.renewal.waiting in
-    chosen (SaysAlone w) (is_ready w.conn.life && is_due w.conn.renewal) (renewal_moved v w.conn.life cs) w
-    (λ t. says_on w v (renewal_moved v w.conn.life cs) (credentials_asked w) (credentials_told v w.conn.life cs))
-    (λ n. says_none w)
-
--- all of it
-pub said_alone : (w : Work) → SaysAlone w (said w)
-said_alone w = says_on w (repeated w) (said w) (repeated_alone w) (renewed_alone (repeated w))
