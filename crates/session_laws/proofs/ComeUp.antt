@@ -46,7 +46,7 @@ use Rattle.session_laws.proofs.Said.{PushesOf, ending_setting, readied, setup_re
 use Rattle.session_laws.proofs.Entered.{all_stand-append, book_more, sound_more, book-append}
 use Rattle.session_laws.proofs.Settle.{Tells, seen, trace_of_acts}
 use Rattle.session_laws.proofs.InLine.{kept_ids}
-use Rattle.session_laws.proofs.Numbers.{IsIn, Rising, rising_right, requests_in}
+use Rattle.session_laws.proofs.Numbers.{IsIn, Rising, requests_in}
 use Rattle.session_laws.proofs.Announce.{IsNewsKind, comes_as, heard_book, heard_is, heard_starts, heard_tied, may_turn, turn_of, turned, ComesTo, heard_tied_by, others_heard, renews_hear, uses_asked, uses_more, protocol_still, heard_hearing, asked_hear}
 use Rattle.session_laws.proofs.Heard.{book_kind, book_news, fresh_applied, heard_by, none_ends, none_hears, hushed_there, going_awake}
 use Rattle.session_laws.proofs.Ahead.{waiting_open}

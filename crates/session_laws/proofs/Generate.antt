@@ -33,8 +33,6 @@ use Rattle.session_laws.proofs.Server.{AreSought, HasSaid, NoneRenewed, TiedRene
 use Rattle.session_laws.proofs.Tied.{AreLate, AreQueued, HasCourse, IsAside, IsPacked, Inner, TiedTries, carried, has_ended, whole_link, Tied, TiedLife, TiedLines, TiedManager, TiedPermits, TiedRounds, TiedStory, TiedWaits, no_link, link_in, waiting_ids}
 use Rattle.session_laws.proofs.Repeats.{serves}
 use Rattle.session_laws.proofs.Serving.{unready_serves}
-use Rattle.mux_conn.specs.declared.again.Again.{Again}
-use Rattle.mux_conn.specs.declared.again.Again.TheVariants as again
 use Rattle.legal_trace.specs.Story.{Story}
 use Rattle.mux_conn.specs.declared.request.Request.{Request}
 

@@ -1,5 +1,5 @@
 -- What is subscribed again, until its link is set up.
-use Rattle.std.proofs.Common.{◌≡◌, ℕ, Bool, true, false, ◌&&◌, not, List, Option, Some, None, refl, ap, sym, ◌∙◌}
+use Rattle.std.proofs.Common.{◌≡◌, ℕ, false, ◌&&◌, not, List, Option, Some, refl, ap, sym, ◌∙◌}
 use Rattle.containers.proofs.Choices.{by_test, not_both}
 use Rattle.redis_error.specs.declared.redis_error.RedisError.{RedisError}
 use Rattle.sub_tracker.specs.Subscribed.{Request as Call}

@@ -6,6 +6,7 @@ use Rattle.sub_tracker.specs.Held.{held_after}
 use Rattle.sub_tracker.specs.Subscribed.{Request}
 use Rattle.driver_model.specs.declared.action.Action.TheVariants as action
 use Rattle.driver_model.specs.declared.action.Cause.TheVariants as cause
+use Rattle.driver_model.specs.declared.action.Owner.TheVariants as owner
 use Rattle.driver_model.specs.declared.action.Purpose.{Purpose}
 use Rattle.driver_model.specs.declared.action.Purpose.TheVariants as purpose
 use Rattle.driver_model.specs.declared.action.WaitKind.{WaitKind}
@@ -100,9 +101,9 @@ act_asks : (b : Book) (l t c : ℕ) (a : LinkAct) (n : ℕ) → ((entered b (sho
 act_asks b l t c (act.Created e) n = refl
 act_asks b l t c (act.Round m) n = kept (m == n) (rounds (b.story n)) (b.story n) refl
 act_asks b l t c (act.Took m count) n = kept (m == n) (holds (b.story n) count) (b.story n) refl
-act_asks b l t c (act.Timer m ms) n = timer_asks b n t _
-act_asks b l t c (act.RenewalTimer k ms) n = timer_asks b n t _
-act_asks b l t c (act.RepeatTimer ms) n = timer_asks b n t _
+act_asks b l t c (act.Timer m ms) n = timer_asks b n t (purpose.Response (owner.Try m 0))
+act_asks b l t c (act.RenewalTimer k ms) n = timer_asks b n t (purpose.Renewal l k)
+act_asks b l t c (act.RepeatTimer ms) n = timer_asks b n t (purpose.Resubscription l)
 act_asks b l t c act.NeedCreds n = refl
 act_asks b l t c act.NeedRenewals n = refl
 act_asks b l t c (act.SetUp message need len) n = refl

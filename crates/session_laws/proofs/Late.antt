@@ -53,7 +53,7 @@ use Rattle.session_laws.proofs.Answer.{answer_apart, may_answer, owed_untold, no
 use Rattle.session_laws.proofs.Settle.{book_of_more, holds_more, seen, trace_of_acts}
 use Rattle.session_laws.proofs.Announce.{announced_sound, first_book, holds_first, turn_of, turned, uses_on, time_still}
 use Rattle.session_laws.proofs.Heard.{silent_applied, still_none, tame_between, hushed_still}
-use Rattle.session_laws.proofs.Cancel.{IsSilent, left_creds, left_fit, left_life, left_link, left_others, left_setup, none_more, queued_apart, silenced_wanted, silent_core, silent_ends, silent_numbers, silent_others, still_dials, still_tied, was_ready, was_setting, was_wanting, without_awaited, without_in, without_others, without_rises, apart_behind, rising_behind, left_renewal, ready_cancelled, left_course, left_notices, early_cancelled, left_stopped, resting_cancelled, still_rests, left_repeat, serves_cancelled}
+use Rattle.session_laws.proofs.Cancel.{IsSilent, left_creds, left_fit, left_life, left_link, left_others, left_setup, none_more, queued_apart, silenced_wanted, silent_core, silent_ends, silent_numbers, silent_others, still_dials, still_tied, was_ready, was_setting, was_wanting, without_awaited, without_in, without_others, without_rises, apart_behind, rising_behind, left_renewal, left_course, left_notices, early_cancelled, left_stopped, resting_cancelled, still_rests, left_repeat, serves_cancelled}
 use Rattle.driver_model.specs.declared.kind.SessionKind.{SessionKind}
 use Rattle.driver_model.specs.declared.kind.SessionKind.TheVariants as session
 use Rattle.driver_model.specs.Kind.{has_timeouts}

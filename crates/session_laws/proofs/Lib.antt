@@ -71,6 +71,8 @@ pub mod Submit
 pub mod Asked
 pub mod Effects
 pub mod Renews
+pub mod RepeatsTold
+pub mod SaysAlone
 pub mod Rounds
 pub mod Passes
 pub mod Moved

@@ -1,5 +1,5 @@
 -- How a link ends in a turn that doesn't shut everything down: in that turn. Where a fault ends it, it was ready until then.
-use Rattle.std.proofs.Common.{◌≡◌, ◌≢◌, ◌⊎◌, inl, inr, ℕ, ◌-◌, ◌==◌, Bool, true, false, ◌&&◌, ◌||◌, not, List, [], Option, Some, None, is_some, refl, sym, ◌∙◌, ap, subst, if◌then◌else◌}
+use Rattle.std.proofs.Common.{◌≡◌, ◌≢◌, ◌⊎◌, inl, inr, ℕ, ◌-◌, ◌==◌, Bool, true, false, ◌&&◌, not, List, [], Option, Some, None, is_some, refl, sym, ◌∙◌, ap, subst, if◌then◌else◌}
 use Rattle.containers.proofs.Choices.{chosen}
 use Rattle.redis_error.specs.declared.fault_kind.FaultKind.TheVariants as kind
 use Rattle.redis_error.specs.declared.redis_error.RedisError.{RedisError}

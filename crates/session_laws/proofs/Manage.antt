@@ -26,7 +26,7 @@ use Rattle.shared_session.specs.declared.generations.Comeback.{Comeback}
 use Rattle.shared_session.specs.declared.generations.Comeback.TheVariants as comeback
 use Rattle.shared_session.specs.declared.generations.Generations.{Generations}
 use Rattle.shared_session.specs.Generations as machine
-use Rattle.shared_session.specs.Generations.{came_back, comeback_of, comeback_shown, creation_fails, heeded, is_due, is_timer, rests, wakes}
+use Rattle.shared_session.specs.Generations.{came_back, comeback_of, comeback_shown, creation_fails, heeded, is_due, rests, wakes}
 use Rattle.shared_session.specs.Turn.{is_bad}
 use Rattle.legal_trace.specs.Book.{Book, book, entered, has_generations, rest_after, shuts}
 use Rattle.legal_trace.specs.Story.{is_open}

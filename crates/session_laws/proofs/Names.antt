@@ -1,5 +1,5 @@
 -- Requests by their numbers, and their names.
-use Rattle.std.proofs.Common.{◌≡◌, ◌≢◌, ◌⊎◌, inl, inr, ℕ, zero, suc, ◌^◌, ◌<◌, ◌==◌, nat_lt, if◌then◌else◌, Bool, true, false, List, [], ◌∷◌, ◌++◌, length, Option, Some, None, slice_get, slice_set, refl, sym, ap, ◌∙◌, subst, arith, length-set, ◌||◌}
+use Rattle.std.proofs.Common.{◌≡◌, ◌≢◌, ◌⊎◌, inl, inr, ℕ, zero, suc, ◌<◌, ◌==◌, nat_lt, if◌then◌else◌, Bool, true, false, List, [], ◌∷◌, ◌++◌, length, Option, Some, None, slice_get, slice_set, refl, sym, ap, ◌∙◌, subst, arith, length-set, ◌||◌}
 use Rattle.containers.proofs.Places.{get_set_same, get_set_other, get_within}
 use Rattle.std.proofs.lemmas.List.{length_push}
 use Rattle.containers.proofs.Choices.{by_test, chosen, taken_if, left_if, not_both, eq_from, ne_from, lt_from, not_lt_from, eq_test}

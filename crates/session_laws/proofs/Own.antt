@@ -1,5 +1,5 @@
 -- Messages of the driver's own that are settled: what all of them come to.
-use Rattle.std.proofs.Common.{◌≡◌, ℕ, ◌==◌, Bool, true, false, ◌&&◌, ◌||◌, if◌then◌else◌, List, [], ◌∷◌, ◌++◌, refl, sym, ap, ◌∙◌, subst, inl, inr}
+use Rattle.std.proofs.Common.{◌≡◌, ℕ, ◌==◌, Bool, true, false, ◌&&◌, ◌||◌, if◌then◌else◌, List, [], ◌∷◌, refl, sym, ap, ◌∙◌, subst, inl, inr}
 use Rattle.containers.proofs.Choices.{by_test, eq_from, eq_test, not_both, chosen}
 use Rattle.link_core.specs.declared.message.Settled.{Settled}
 use Rattle.mux_conn.specs.declared.act.LinkAct.{LinkAct}
@@ -16,7 +16,7 @@ use Rattle.mux_conn.specs.Repeats.{repeat_id, repeating}
 use Rattle.redis_error.specs.declared.redis_error.RedisError.{RedisError}
 use Rattle.link_laws.specs.Settles.{settled_ids}
 use Rattle.session_laws.proofs.Numbers.{IsIn, repeat_other}
-use Rattle.session_laws.proofs.Settle.{Leaves, own_each, own_one, replied_each}
+use Rattle.session_laws.proofs.Settle.{Leaves, own_each, replied_each}
 
 -- the reply to what is subscribed again is one of these
 abbrev pub has_repeat : List Settled → Bool
@@ -43,11 +43,13 @@ fresh_after goes waiting fresh ss = if goes && has_repeat ss then numbers_of wai
 
 -- so they all come to this
 abbrev pub own_done : Work → List Settled → Work
-own_done w ss = record w { conn = record w.conn {
-  renewal = replied_each w.conn.renewal ss;
-  again = again_after (is_repeating w.conn) w.conn.again ss;
-  fresh = fresh_after (is_repeating w.conn) w.conn.waiting w.conn.fresh ss;
-} }
+own_done w ss = record w {
+  conn = record w.conn {
+    renewal = replied_each w.conn.renewal ss;
+    again = again_after (is_repeating w.conn) w.conn.again ss;
+    fresh = fresh_after (is_repeating w.conn) w.conn.waiting w.conn.fresh ss;
+  };
+}
 
 -- a choice of what both are
 either_is : {X : Type 0} (b : Bool) (x : X) → (if b then x else x) ≡ x
@@ -73,11 +75,13 @@ behind_served w ss false done each =
 -- one of them comes first
 own_first : (w : Work) (r : Renewal) (ss : List Settled) (auth repeats : Bool) → (auth ≡ true → repeats ≡ false) → ((v : Work) → own_each v ss ≡ own_done v ss)
     → own_each (if auth then renewing w r else (if repeats then served w else w)) ss
-    ≡ record w { conn = record w.conn {
-      renewal = replied_each (if auth then r else w.conn.renewal) ss;
-      again = if is_repeating w.conn && (repeats || has_repeat ss) then again.Nothing else w.conn.again;
-      fresh = if is_repeating w.conn && (repeats || has_repeat ss) then numbers_of w.conn.waiting else w.conn.fresh;
-    } }
+    ≡ record w {
+      conn = record w.conn {
+        renewal = replied_each (if auth then r else w.conn.renewal) ss;
+        again = if is_repeating w.conn && (repeats || has_repeat ss) then again.Nothing else w.conn.again;
+        fresh = if is_repeating w.conn && (repeats || has_repeat ss) then numbers_of w.conn.waiting else w.conn.fresh;
+      };
+    }
 own_first w r ss true true apart each = absurd (let no : true ≡ false = apart refl in cc)
 own_first w r ss true false apart each = each (renewing w r)
 own_first w r ss false true apart each = behind_served w ss (is_repeating w.conn) refl each

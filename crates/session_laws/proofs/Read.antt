@@ -236,14 +236,11 @@ read_early b c started link piece h e =
 -- where no round has begun, no request's message is in a row
 none_wanted : (requests : List Request) (row : List Entry) → AllByRecursion (IsEntry requests) row → ((p : ℕ) → is_open_at requests p ≡ true → is_unbegun_at requests p ≡ true) → requests_in (wanted row) ≡ []
 none_wanted requests [] entries unbegun = refl
-none_wanted requests (e ∷ es) entries unbegun = by_awaited e.awaited refl
+none_wanted requests (e ∷ es) entries unbegun = by_awaited e.awaited refl (none_wanted requests es entries.1 unbegun)
   where
-    rest : requests_in (wanted es) ≡ []
-    rest = none_wanted requests es entries.1 unbegun
-
-    by_awaited : (x : Bool) → e.awaited ≡ x → requests_in ((if x then e.id ∷ [] else []) ++ wanted es) ≡ []
-    by_awaited false is = rest
-    by_awaited true is = elim entries.0 [
+    by_awaited : (x : Bool) → e.awaited ≡ x → requests_in (wanted es) ≡ [] → requests_in ((if x then e.id ∷ [] else []) ++ wanted es) ≡ []
+    by_awaited false is rest = rest
+    by_awaited true is rest = elim entries.0 [
       | inl r ↦ let at = r.placed_at is in absurd (not_both (is_unbegun_at requests e.id) (placed_begun requests e.id at) (unbegun e.id (placed_open requests e.id at)))
       | inr own ↦ requests_behind e.id (wanted es) own.is ∙ rest
     ]

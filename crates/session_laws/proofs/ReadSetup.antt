@@ -71,7 +71,7 @@ use Rattle.session_laws.proofs.Settle.{seen, trace_of_acts}
 use Rattle.session_laws.proofs.States.{Between, HasEffect, IsFit, IsFitIn}
 use Rattle.session_laws.proofs.Telling.{IsTelling, heard_readied, telling, told_holds, told_leaves}
 use Rattle.session_laws.proofs.Server.{IsGreeting, IsSetUp, IsSettingUp, IsSetupDue, IsSetupSent, IsWatchDue, IsWatchSent, IsWatching, TiedCreds, TiedSetup, greeting_at, watch_queued, hearing_there, on_link}
-use Rattle.session_laws.proofs.Tied.{AreQueued, TiedLife, TiedLines, TiedWaits, greeter, has_ended, inner, link_in, owner_of, AreEarly, HasCourse}
+use Rattle.session_laws.proofs.Tied.{AreQueued, TiedLife, TiedLines, TiedWaits, greeter, has_ended, inner, link_in, owner_of, HasCourse}
 use Rattle.session_laws.proofs.Told.{retells, well_told}
 use Rattle.driver_model.specs.declared.news.LinkFault.{LinkFault}
 use Rattle.session_laws.proofs.Serving.{unready_serves}

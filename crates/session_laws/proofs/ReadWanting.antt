@@ -26,7 +26,7 @@ use Rattle.legal_trace.specs.Book.{Book, book, hearing_in}
 use Rattle.legal_trace.proofs.Came.{Came, bytes_are}
 use Rattle.session_laws.proofs.Rounded.{rounds_down, early_on}
 use Rattle.session_laws.proofs.Server.{TiedCreds, TiedSetup, on_link}
-use Rattle.session_laws.proofs.Tied.{AreQueued, TiedLife, TiedLines, TiedWaits, has_ended, inner, link_in, AreEarly, HasCourse, Inner, Tied}
+use Rattle.session_laws.proofs.Tied.{AreQueued, TiedLife, TiedLines, TiedWaits, has_ended, inner, link_in, HasCourse, Inner, Tied}
 use Rattle.session_laws.proofs.Creds.{asked_sourced}
 use Rattle.session_laws.proofs.States.{Between, HasEffect}
 use Rattle.session_laws.proofs.Said.{PushesOf, ending_wanting}

@@ -1,8 +1,8 @@
 -- New credentials are told before the queue, behind their timer.
 use Rattle.std.proofs.Common.{List, None, Option, Some, [], ap, arith, false, inl, inr, length, length-append, refl, subst, sym, true, ℕ, ◌+◌, ◌++◌, ◌≤◌, ◌∙◌, ◌∷◌, ◌≡◌, ◌≢◌}
 use Rattle.std.proofs.lemmas.List.{append-nil}
-use Rattle.std.specs.Prelude.{if◌then◌else◌, slice_get, ◌==◌, ◌&&◌}
-use Rattle.containers.proofs.Choices.{both_right, chosen, left_if, not_both, by_test}
+use Rattle.std.specs.Prelude.{if◌then◌else◌, slice_get, ◌&&◌}
+use Rattle.containers.proofs.Choices.{both_right, chosen, left_if, not_both, by_test, taken_if}
 use Rattle.containers.proofs.Places.{get_within}
 use Rattle.credentials.specs.Credentials.{Credentials}
 use Rattle.credentials.specs.Message.{auth_bytes}
@@ -15,6 +15,7 @@ use Rattle.driver_model.specs.declared.action.Purpose.TheVariants as purpose
 use Rattle.driver_model.specs.declared.outcome.Shape.TheVariants.{Confirmation}
 use Rattle.link_core.specs.Link.{LinkState, begun, entry_of, holds_back}
 use Rattle.link_core.specs.declared.message.Entry.{Entry}
+use Rattle.link_core.specs.declared.message.Queued.{Queued}
 use Rattle.link_laws.proofs.Once.{wanted-append}
 use Rattle.link_laws.proofs.TiedLink.{all_push, begun_tied, timed_tied}
 use Rattle.link_laws.specs.Settles.{awaited_ids, wanted}
@@ -38,7 +39,7 @@ use Rattle.session_laws.proofs.Going.{HasRenewed, applied_up, none_ends_kept, no
 use Rattle.session_laws.proofs.InLine.{kept_ids}
 use Rattle.session_laws.proofs.Kept.{mine_noted, others_kept, tied_by}
 use Rattle.session_laws.proofs.Names.{get_more, owner_of_auth}
-use Rattle.session_laws.proofs.Numbers.{IsIn, Rising, in_left, requests_behind, requests_in, requests_in-append, auth_is_own}
+use Rattle.session_laws.proofs.Numbers.{IsIn, Rising, in_left, requests_behind, requests_in, requests_in-append, auth_is_own, is_own}
 use Rattle.session_laws.proofs.Renewals.{auth_renewed, asked_renewed, down_renewed_due, due_first, due_is, some_wait, timed_renewed}
 use Rattle.session_laws.proofs.SetUp.{set_up_begins, setups_begins}
 use Rattle.session_laws.proofs.Settle.{Holds, book_of_more, renewal_tied, seen, sound_act, trace_of_acts}

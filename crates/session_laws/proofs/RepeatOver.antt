@@ -1,10 +1,10 @@
 -- The time in which what is subscribed again was to be answered is over: the link takes requests.
-use Rattle.std.proofs.Common.{◌≡◌, ℕ, ◌+◌, Bool, true, false, ◌&&◌, not, List, [], ◌∷◌, ◌++◌, refl, sym, ap, ◌∙◌, subst, arith}
+use Rattle.std.proofs.Common.{◌≡◌, ℕ, Bool, true, false, ◌&&◌, not, List, [], ◌∷◌, ◌++◌, refl, sym, ap, ◌∙◌, subst, arith}
 use Rattle.containers.proofs.Choices.{by_test, left_if, not_both, taken_if}
 use Rattle.driver_model.specs.declared.action.Action.{Action}
 use Rattle.driver_model.specs.declared.action.Owner.{Owner}
 use Rattle.driver_model.specs.declared.event.EventKind.{EventKind}
-use Rattle.driver_model.specs.News.{News, news_of, unrepeated}
+use Rattle.driver_model.specs.News.{news_of, unrepeated}
 use Rattle.link_core.specs.Link.{LinkState}
 use Rattle.link_laws.proofs.TiedLink.{TiedLink}
 use Rattle.mux_conn.specs.declared.again.Again.TheVariants as again
@@ -16,7 +16,7 @@ use Rattle.mux_conn.specs.Effects.{all_fresh, numbers_of, served}
 use Rattle.mux_conn.specs.Repeats.{repeating}
 use Rattle.shared_session.specs.declared.core_state.Core.{Core}
 use Rattle.shared_session.specs.Turn.{is_bad, with_work}
-use Rattle.legal_trace.specs.Book.{Book, book, entered, has_generations}
+use Rattle.legal_trace.specs.Book.{Book, book, has_generations}
 use Rattle.legal_trace.specs.Ledger.{Ledger, ending, is_ready as is_ready_link, is_repeating, is_served, is_set_up, unrepeated_by}
 use Rattle.legal_trace.proofs.Setups.{ends_where_set}
 use Rattle.session_laws.proofs.Announce.{IsNewsKind, announced_sound, first_book, heard_book, heard_is, heard_tied_new, holds_first, quiet_still, turn_of, turned}

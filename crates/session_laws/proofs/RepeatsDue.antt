@@ -11,7 +11,7 @@ use Rattle.mux_conn.specs.declared.again.Again.TheVariants as again
 use Rattle.mux_conn.specs.declared.life.Life.{Life}
 use Rattle.mux_conn.specs.declared.life.Life.TheVariants.{Resting, Dialing, Wanting, SettingUp, Ready, Ended}
 use Rattle.legal_trace.specs.Book.{Book}
-use Rattle.legal_trace.specs.Ledger.{Ledger, again_due, is_set_up, lacks_credentials}
+use Rattle.legal_trace.specs.Ledger.{Ledger, again_due, is_set_up}
 use Rattle.legal_trace.specs.Legal.{RepeatsAreTimed, RepeatsAreStarted}
 use Rattle.legal_trace.proofs.Again.{again_is_set, again_is_up}
 use Rattle.session_laws.proofs.Ahead.{held_by}

@@ -1,5 +1,5 @@
 -- Replies to what is subscribed again: what bytes that come make of it.
-use Rattle.std.proofs.Common.{◌≡◌, inl, inr, ℕ, zero, suc, ◌+◌, ◌<◌, ◌≤◌, ◌==◌, Bool, true, false, ◌&&◌, ◌||◌, not, if◌then◌else◌, List, [], ◌∷◌, ◌++◌, length, take, Option, Some, None, slice_get, refl, sym, ap, ◌∙◌, subst, arith}
+use Rattle.std.proofs.Common.{◌≡◌, inl, inr, ℕ, suc, ◌+◌, ◌<◌, ◌≤◌, ◌==◌, Bool, true, false, ◌||◌, not, if◌then◌else◌, List, [], ◌∷◌, ◌++◌, length, take, Option, Some, None, slice_get, refl, sym, ap, ◌∙◌, subst, arith}
 use Rattle.std.specs.List.{AllByRecursion}
 use Rattle.containers.proofs.Choices.{by_test, taken_if, left_if, not_both, le_test, eq_from}
 use Rattle.containers.proofs.Places.{get_within}
@@ -9,7 +9,6 @@ use Rattle.sub_tracker.specs.Subscribed.{Request as Call}
 use Rattle.driver_model.specs.declared.action.Owner.{Owner}
 use Rattle.driver_model.specs.declared.action.Owner.TheVariants as owner
 use Rattle.driver_model.specs.declared.hearing.Hearing.{Hearing}
-use Rattle.driver_model.specs.declared.outcome.Shape.{Shape}
 use Rattle.driver_model.specs.News.{came}
 use Rattle.link_core.specs.declared.message.Settled.{Settled}
 use Rattle.link_core.specs.Dealing.{Dealing, dealing_with}
@@ -34,7 +33,7 @@ use Rattle.session_laws.proofs.New.{read_new}
 use Rattle.session_laws.proofs.Numbers.{IsIn, in_either, is_own, repeat_is_own}
 use Rattle.session_laws.proofs.Own.{again_after, has_repeat, repeat_in}
 use Rattle.session_laws.proofs.Owes.{wanted_entry}
-use Rattle.session_laws.proofs.Repeats.{IsRepeatDue, IsRepeatSent, IsRepeated, none_again, repeated_alike}
+use Rattle.session_laws.proofs.Repeats.{IsRepeatSent, IsRepeated, none_again, repeated_alike}
 use Rattle.session_laws.proofs.Replies.{entry_at, row_tied, wanted_at, with_items}
 use Rattle.session_laws.proofs.Tied.{IsEntry, owner_of}
 

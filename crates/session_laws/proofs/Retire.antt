@@ -1,5 +1,5 @@
 -- An attempt to open the connection's link has failed, and another one follows: the connection is without a link.
-use Rattle.std.proofs.Common.{◌≡◌, ◌≢◌, inl, inr, ℕ, ◌+◌, ◌-◌, ◌==◌, true, false, ◌||◌, List, [], ◌∷◌, ◌++◌, length, Option, Some, None, is_some, slice_get, refl, sym, ap, ◌∙◌, subst, arith}
+use Rattle.std.proofs.Common.{◌≡◌, ◌≢◌, inl, inr, ℕ, ◌+◌, ◌-◌, ◌==◌, true, false, ◌||◌, List, [], ◌∷◌, ◌++◌, length, Option, Some, None, is_some, refl, sym, ap, ◌∙◌, subst, arith}
 use Rattle.std.proofs.lemmas.List.{append-nil}
 use Rattle.containers.proofs.Choices.{by_test, both_left, eq_from, left_if, ne_from, not_both}
 use Rattle.redis_error.specs.declared.redis_error.RedisError.{RedisError}
@@ -14,13 +14,11 @@ use Rattle.driver_model.specs.News.{News, news_of, shut}
 use Rattle.link_core.specs.Link.{LinkState}
 use Rattle.mux_conn.specs.declared.act.LinkAct.{LinkAct}
 use Rattle.mux_conn.specs.declared.act.LinkAct.TheVariants as act
-use Rattle.mux_conn.specs.declared.request.Progress.{Progress}
-use Rattle.mux_conn.specs.declared.request.Progress.TheVariants as progress
 use Rattle.mux_conn.specs.declared.request.Request.{Request}
 use Rattle.mux_conn.specs.declared.request.Waiting.{Waiting}
 use Rattle.mux_conn.specs.Connection.{Work}
 use Rattle.mux_conn.specs.Effects.{afresh, given_up, opening_failed}
-use Rattle.mux_conn.specs.Requests.{is_open_at, is_unbegun_at, is_waiting_at, is_unbegun, is_waiting, if_there}
+use Rattle.mux_conn.specs.Requests.{is_open_at, is_unbegun_at, is_waiting_at}
 use Rattle.shared_session.specs.declared.core_state.Core.{Core}
 use Rattle.shared_session.specs.Turn.{is_bad, is_shutdown, numbered, sources_of, timers_of, with_work}
 use Rattle.legal_trace.specs.Book.{Book, blank_book, book, entered, hearing_in, if_mine}
@@ -47,6 +45,7 @@ use Rattle.session_laws.proofs.Owes.{get_behind, is_asked}
 use Rattle.session_laws.proofs.Said.{PushesOf}
 use Rattle.session_laws.proofs.Kept.{mine_noted, others_kept}
 use Rattle.session_laws.proofs.Serving.{unready_serves}
+use Rattle.session_laws.proofs.Rounded.{unbegun_waits}
 
 -- the ledger of a link whose opening has failed, where another attempt follows: nothing of it is still to be told
 pub record IsAttempted (l : Ledger) (heard : Hearing) : Type 0 where
@@ -122,21 +121,6 @@ attempt_shown b now c started l h none same config created own a others =
     down m = by_test (m == c.single.link) _
         (λ t. ap (λ i. (now.link i).up) (eq_from m c.single.link t) ∙ ap (λ (x : Ledger). x.up) own ∙ a.down)
         (λ o. (others m (ne_from m c.single.link o)).down)
-
--- who waits without a round waits
-unbegun_waits : (requests : List Request) (p : ℕ) → is_unbegun_at requests p ≡ true → is_waiting_at requests p ≡ true
-unbegun_waits requests p u = by_request (slice_get requests p) u
-  where
-    by_progress : (now : Progress) → is_unbegun now ≡ true → is_waiting now ≡ true
-    by_progress progress.Waiting e = refl
-    by_progress progress.Begun e = cc
-    by_progress progress.Admitted e = cc
-    by_progress progress.Placed e = cc
-    by_progress progress.Closed e = cc
-
-    by_request : (r : Option Request) → if_there is_unbegun r ≡ true → if_there is_waiting r ≡ true
-    by_request None e = cc
-    by_request (Some r) e = by_progress r.progress e
 
 -- the lines of those that wait alone
 alone_lines : (story : ℕ → Story) (requests : List Request) (link : LinkState) (waiting admitted : List Waiting) (started : List ℕ) → link ≡ no_link → admitted ≡ [] → started ≡ [] → TiedLines story requests link waiting admitted [] started → TiedLines story requests no_link waiting [] [] []

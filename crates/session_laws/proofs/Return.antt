@@ -125,7 +125,7 @@ dials_returned trace k g h is some awake failed informed rested runs harmless =
       sound = sound;
       ended = all.1;
       fit = record { wanting = λ link e. cc; setup = λ link u e. cc; link = λ link e. cc; none = λ no. h.nobody };
-      still = record { setup = λ link u e. cc; held = λ link e. cc; full = λ link e. cc; renewed = λ link e. cc; waiting = λ link e. cc; begun = λ shows up. cc up; none_waits = λ over. cc over };
+      still = record { setup = λ link u e. cc; held = λ link e. cc; full = λ link e. cc; repeated = λ link e due. cc; renewed = λ link e. cc; waiting = λ link e served. cc; begun = λ shows up. cc up; none_waits = λ over. cc over };
       seats = λ p i q. absurd q;
       hushed = λ down. absurd (not_both k.shut runs down);
       comes = live_comes (book (trace ++ shown)) (inner d []) sound.tied refl refl;

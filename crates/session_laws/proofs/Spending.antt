@@ -64,7 +64,7 @@ over_flushed k e over closed =
     let none_admitted : (p : ℕ) → is_admitted_at conn.requests p ≡ false = λ p. by_test (is_admitted_at conn.requests p) _ (λ a. absurd (closed p (admitted_open conn.requests p a).0)) (λ f. f) in
     let none_waits : (p : ℕ) → is_waiting_at conn.requests p ≡ false = λ p. by_test (is_waiting_at conn.requests p) _ (λ a. absurd (closed p (waiting_open conn.requests p a))) (λ f. f) in
     ap (λ (x : Life). waits_shown (written_at w x)) over
-    ∙ ap fresh_shown (unmoved v conn.moved (ap is_ready over) none_admitted)
+    ∙ ap fresh_shown (unmoved v conn.moved (ap (λ (x : Life). (link_in x).queue) over) none_admitted)
     ∙ none_fresh z conn.fresh none_waits
 
 -- and the session is tied without what was to be shown

@@ -1,5 +1,5 @@
 -- What is subscribed again on the next link of a session that comes back: the machine's message is the book's.
-use Rattle.std.proofs.Common.{◌≡◌, ◌≢◌, ℕ, zero, suc, ◌+◌, ◌<◌, ◌==◌, Bool, true, false, ◌&&◌, not, is_some, if◌then◌else◌, List, [], ◌∷◌, ◌++◌, length, Option, Some, None, refl, sym, ap, ◌∙◌, subst, arith, codes}
+use Rattle.std.proofs.Common.{◌≡◌, ◌≢◌, ℕ, ◌+◌, ◌<◌, ◌==◌, Bool, true, false, ◌&&◌, not, is_some, if◌then◌else◌, List, [], ◌∷◌, length, Option, Some, None, refl, sym, ap, ◌∙◌, subst, arith, codes}
 use Rattle.std.proofs.Math.Bool.{and-false}
 use Rattle.containers.proofs.Choices.{chosen, ne_from}
 use Rattle.connection_info.specs.declared.address.ConnectionInfo.{ConnectionInfo}
@@ -81,7 +81,7 @@ repeats_next g calls held = by_kind g.settings.automatic_resubscription
 
 -- before the first call nothing is
 pub nothing_first : (settings : ConnectionManagerConfig) (info : ConnectionInfo) (number : ℕ) → repeat_for (generations_at settings info number) ≡ again.Nothing
-unfolding resubscription
+unfolding resubscription held_after
 nothing_first settings info number = by_kind settings.automatic_resubscription
   where
     by_kind : (subscribes : Bool) → (if subscribes then repeat_after (generations_at settings info number).subscribed else again.Nothing) ≡ again.Nothing

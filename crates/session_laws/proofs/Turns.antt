@@ -18,7 +18,7 @@ use Rattle.shared_session.specs.declared.generations.Comeback.{Comeback}
 use Rattle.shared_session.specs.declared.generations.Comeback.TheVariants as comeback
 use Rattle.shared_session.specs.declared.generations.Generations.{Generations}
 use Rattle.shared_session.specs.Generations as machine
-use Rattle.shared_session.specs.Generations.{begun_with, came_back, comeback_of, comeback_shown, creation_fails, failed_behind, heeded, heeding, is_due, rests, wakes}
+use Rattle.shared_session.specs.Generations.{begun_with, came_back, comeback_shown, creation_fails, failed_behind, heeded, heeding, is_due, rests, wakes}
 use Rattle.shared_session.specs.Turn.{Turning, actions_of, come_back_behind, counted, effect, ended_apart, flushed_apart, is_bad, is_shutdown, next_turn, numbered, passed_by, shown_each, with_work, work_of}
 use Rattle.shared_session.proofs.Comebacks.{Suits, came_kept, suits_in}
 use Rattle.shared_session.proofs.Spent.{passed_same}
