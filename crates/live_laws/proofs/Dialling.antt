@@ -55,7 +55,7 @@ picks_nothing done ts asks h = subst (IsPicked (done ++ links_of ts)) (sym (appe
 noted_picks : (a : Agenda) (x : Action) (done asks : List ℕ) → Picks done a.dials asks → Picks done (noted a x).dials (asks ++ connects_by x)
 noted_picks a (action.Turn number c) done asks h = picks_nothing done a.dials asks h
 noted_picks a (action.Connect l host port) done asks h =
-    let t : Target = record { link = l; host = host; port = port } in
+    let t : Target = record { link = l; host = host; port = port; generation = a.generation } in
     let same : done ++ links_of (a.dials ++ t ∷ []) ≡ (done ++ links_of a.dials) ++ l ∷ [] = ap (λ (more : List ℕ). done ++ more) (links_last a.dials t) ∙ sym (append_assoc done (links_of a.dials) (l ∷ [])) in
     subst (λ (xs : List ℕ). IsPicked xs (asks ++ l ∷ [])) (sym same) (picked_last l (done ++ links_of a.dials) asks h)
 noted_picks a (action.Timer t ms what) done asks h = picks_nothing done a.dials asks h

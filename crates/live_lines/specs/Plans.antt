@@ -1,9 +1,7 @@
 -- What the words of a live run ask for.
 use Rattle.std.specs.Prelude.{ℕ, ◌-◌, nat_le, Bool, true, false, ◌&&◌, List, [], ◌∷◌, take, drop, Option, Some, None, option_map, bytes_eq, codes, if◌then◌else◌}
-use Rattle.driver_model.specs.Config.{first_fault, kind_of, wants_credentials}
+use Rattle.driver_model.specs.Config.{first_fault, wants_credentials}
 use Rattle.driver_model.specs.declared.config.Config.{Config}
-use Rattle.driver_model.specs.declared.kind.SessionKind.{SessionKind}
-use Rattle.driver_model.specs.declared.kind.SessionKind.TheVariants as kind
 use Rattle.redis_error.specs.declared.config_name.ConfigName.{ConfigName}
 use Rattle.redis_error.specs.declared.config_name.ConfigName.TheVariants as name
 use Rattle.script_text.specs.Lines.{config_of_parts}
@@ -43,13 +41,6 @@ abbrev pub or_else : Option ConfigName → Option ConfigName → Option ConfigNa
 or_else (Some name) other = Some name
 or_else None other = other
 
--- a session that comes back has no live runs yet
-abbrev pub kind_fault : SessionKind → Option ConfigName
-kind_fault (kind.Manager lazy) = Some name.Kind
-kind_fault kind.Single = None
-kind_fault kind.PubSub = None
-kind_fault kind.Monitor = None
-
--- what is refused first of a plan: what is of its configuration, that credentials are to come of a source, and then its kind
+-- what is refused first of a plan: what is of its configuration, and then that credentials are to come of a source
 abbrev pub refused_of : Plan → Option ConfigName
-refused_of plan = or_else (first_fault plan.config) (or_else (creds_fault (wants_credentials plan.config)) (kind_fault (kind_of plan.config)))
+refused_of plan = or_else (first_fault plan.config) (creds_fault (wants_credentials plan.config))

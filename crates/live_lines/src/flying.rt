@@ -7,7 +7,7 @@ ghost use Rattle.live_run.specs.Claims.{HasClaimed};
 ghost use Rattle.shared_session.specs.Replay.{IsSound, trace_of};
 ghost use Rattle.live_lines.specs.Flights.{AreSubmitted, IsBare, IsFlight, IsNoFlight, RanOut};
 
-use crate::planning::{Plan, kind_fault};
+use crate::planning::Plan;
 use caller_threads::{OpenGate, submit_lines};
 use driver_model::{Action, Submission};
 use live_run::{Ending, drive};
@@ -113,7 +113,6 @@ fn submitted<R: Threads + Wait + Sync>(
 {
     let Plan { callers, config } = plan;
     let wanted = config.wants_credentials();
-    let unserved = kind_fault(config.kind());
     let (shared, first) = match SharedSession::new(alloc, config, word, actions) {
         Ok(made) => made,
         Err(MakeError::Config { name }) => return Err(FlightError::Config(name)),
@@ -121,9 +120,6 @@ fn submitted<R: Threads + Wait + Sync>(
     };
     if wanted {
         return Err(FlightError::Config(ConfigName::Creds));
-    }
-    if let Some(name) = unserved {
-        return Err(FlightError::Config(name));
     }
     let Ok(mut callers) = join_all(rt, alloc, &shared, first, callers) else {
         return Err(FlightError::NoMemory);

@@ -1,9 +1,8 @@
 ghost use Rattle.std.specs.Prelude.{◌≡◌, IfOk};
 ghost use Rattle.script_text.specs.Lines.{texts};
-ghost use Rattle.live_lines.specs.Plans.{callers_of, digit_count, kind_fault, plan_of, without_callers};
+ghost use Rattle.live_lines.specs.Plans.{callers_of, digit_count, plan_of, without_callers};
 
-use driver_model::{Config, SessionKind};
-use redis_error::ConfigName;
+use driver_model::Config;
 use script_text::read_config;
 use std::alloc::{AllocError, Global};
 
@@ -13,16 +12,6 @@ pub struct Plan {
     /// How many callers submit its lines: 1 to 8.
     pub callers: u32,
     pub config: Config,
-}
-
-/// What is refused of a session's kind: one that comes back has no live runs yet.
-pub(crate) fn kind_fault(kind: SessionKind) -> Option<ConfigName>
-    ensures { result ≡ kind_fault kind }
-{
-    match kind {
-        SessionKind::Manager { lazy: _ } => Some(ConfigName::Kind),
-        SessionKind::Single | SessionKind::PubSub | SessionKind::Monitor => None,
-    }
 }
 
 /// The number from 1 to 8 that a value is.

@@ -63,7 +63,7 @@ noted_known a b (action.Connect l host port) quiet may h =
     let c = entered b (action.Connect l host port) in
     let k = known_grown (action_grows b (action.Connect l host port) tt may) h in
     let less : l < b.links + 1 = omega (arith, may.next) in
-    record { dials = each_last (λ (t : Target). t.link < c.links) a.dials (record { link = l; host = host; port = port }) k.dials less; links = k.links; single = k.single; timers = k.timers }
+    record { dials = each_last (λ (t : Target). t.link < c.links) a.dials (record { link = l; host = host; port = port; generation = a.generation }) k.dials less; links = k.links; single = k.single; timers = k.timers }
 noted_known a b (action.Timer t ms what) quiet may h =
     let c = entered b (action.Timer t ms what) in
     let k = known_grown (action_grows b (action.Timer t ms what) tt may) h in

@@ -8,6 +8,7 @@ use Rattle.driver_model.specs.declared.event.EventKind.TheVariants as event
 use Rattle.outside.specs.World.{Adds}
 use Rattle.outside.specs.declared.world.Call.{Call}
 use Rattle.outside.specs.declared.world.Call.TheVariants as call
+use Rattle.session_callers.specs.Calls.{Known}
 use Rattle.shared_session.specs.History.{History}
 use Rattle.shared_session.specs.declared.errors.StepError.{StepError}
 use Rattle.live_run.specs.declared.agenda.Agenda.{Agenda}
@@ -15,12 +16,13 @@ use Rattle.live_run.specs.declared.ending.Ending.{Ending}
 use Rattle.live_run.specs.declared.ending.Ending.TheVariants.{Answered, Idle, Full}
 use Rattle.live_run.specs.declared.running.Next.TheVariants as next
 use Rattle.live_run.specs.Agenda.{agenda_of}
+use Rattle.live_run.specs.Claims.{HasClaimed}
 use Rattle.live_run.specs.Closing.{close_calls, downs, times, ups}
 use Rattle.live_run.specs.Deeds.{Deed, did, fired, Does, Broke, Told, AllMay, after_each, events_in, events_of, answer_of, made, of_end}
 use Rattle.live_run.specs.Passes.{Pass, IsQuiet, IsIdle, IsRound, EachRound, EndsIdle, Each, joined}
 use Rattle.live_run.specs.Endings.{Goes, Over}
 use Rattle.live_run.specs.Rounds.{IsNext}
-use Rattle.live_run.specs.Driven.{Driven, Ends, Ran}
+use Rattle.live_run.specs.Driven.{Driven, DrivenWith, Ends, Ran}
 use Rattle.live_run.specs.Steps.{IsEnd, Refused, Stepped}
 use Rattle.live_run.proofs.Balance.{even_after, held, times_more, told_closes}
 use Rattle.live_run.proofs.Going.{going_events}
@@ -191,3 +193,10 @@ driven {last = last} {b = b} early run goes end_of = record {
   answers = answers_each (agenda_of early) run.deeds run.may;
   words = words_each (agenda_of early) run.deeds run.may;
 }
+
+-- and with what is claimed behind it
+pub driven_with : {old mid new : Option (List Call)} {before last after : History} {count : ℕ} {b : Agenda} {ending : Ending} (early : List Action) (keeper : Known)
+    → Does old mid before last (agenda_of early) b (Ran ending last count (agenda_of early)) → Goes before last count → IsEnd mid new last after (b.closes ++ b.unclosed) → HasClaimed b.claimed keeper
+    → DrivenWith keeper early old new before after count ending
+unfolding driven
+driven_with early keeper run goes end_of claims = record { run = driven early run goes end_of; claims = subst (λ (a : Agenda). HasClaimed a.claimed keeper) run.leads claims }

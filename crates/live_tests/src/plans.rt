@@ -241,7 +241,12 @@ const FAULTS: [(&[&str], &[u8], u8, &[u8]); 13] = [
         1,
         USAGE,
     ),
-    (&["manager", URL, "lib=off"], LINES, 3, b"config kind\n"),
+    (
+        &["manager", URL, "lib=off", "base=2/0"],
+        LINES,
+        3,
+        b"config base\n",
+    ),
     (&["lazy", URL, "creds=on"], LINES, 3, b"config creds\n"),
 ];
 
@@ -259,6 +264,16 @@ fn a_link_of_publish_and_subscribe_is_pinged(rt: HostRuntime) -> Result<(), Allo
     let lines = b"submit ping\nsubmit ping a\nend\n".as_slice();
     let wanted = b"outcome s0 ok +x%0D%0A\noutcome s1 ok +y%0D%0A\n".as_slice();
     assert!(rt; gives(&rt, rt.alloc(), &words, lines, &BOTH, (0, wanted))?);
+    Ok(())
+}
+
+#[test]
+fn a_session_that_comes_back_is_answered(rt: HostRuntime) -> Result<(), AllocError> {
+    for kind in ["manager", "lazy"] {
+        let words = [kind, URL, "response=none", "lib=off", "connect=none"];
+        let wanted = b"outcome s0 ok +x%0D%0A\noutcome s1 ok +y%0D%0A\n".as_slice();
+        assert!(rt; gives(&rt, rt.alloc(), &words, LINES, &BOTH, (0, wanted))?);
+    }
     Ok(())
 }
 

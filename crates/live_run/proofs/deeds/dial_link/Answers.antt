@@ -1,6 +1,9 @@
-use Rattle.live_run.proofs.Runs.{broke_call}
+use Rattle.live_run.proofs.Runs.{broke_call, broke_nothing}
 use Rattle.live_run.proofs.Turns.{dialled_one, dial_broken}
 use Rattle.live_run.proofs.deeds.dial_link.Goals as goal
+
+pub returns-then-not-claim_up_to-clause-err : goal.returns-then-not-claim_up_to-clause-err
+returns-then-not-claim_up_to-clause-err g c = broke_nothing
 
 pub returns-in-Err-clause-err : goal.returns-in-Err-clause-err
 returns-in-Err-clause-err g c = broke_call _ c.dial-answer.ensures.tells

@@ -1,6 +1,5 @@
-use Rattle.live_run.proofs.Claiming.{claimed_by}
 use Rattle.live_run.proofs.Runs.{broke_more, broke_nothing}
-use Rattle.live_run.proofs.Whole.{driven}
+use Rattle.live_run.proofs.Whole.{driven_with}
 use Rattle.live_run.proofs.running.drive.Goals as goal
 
 pub returns-in-Err-clause-err : goal.returns-in-Err-clause-err
@@ -8,11 +7,8 @@ returns-in-Err-clause-err g c = broke_nothing
 
 pub returns-in-Ok-end-clause-driven : goal.returns-in-Ok-end-clause-driven
 returns-in-Ok-end-clause-driven g c =
-    let did = rw (c.new-driver.ensures.count, c.new-driver.ensures.agenda) at c.in-Ok-run.ensures.did in
-    record {
-      run = driven c.args.actions.items did (rw c.new-driver.ensures.count at c.in-Ok-run.ensures.goes) c.in-Ok-end.ensures.did;
-      claims = claimed_by c.args.actions.items c.run.new.driver.agenda did.deeds c.run.new.keeper did.leads c.in-Ok-run.ensures.claims;
-    }
+    driven_with c.args.actions.items c.run.new.keeper (rw (c.new-driver.ensures.count, c.new-driver.ensures.agenda) at c.in-Ok-run.ensures.did) (rw c.new-driver.ensures.count at c.in-Ok-run.ensures.goes) c.in-Ok-end.ensures.did
+    c.in-Ok-run.ensures.claims
 
 pub returns-clause-err : goal.returns-clause-err
 returns-clause-err g c = broke_more (rw c.new-driver.ensures.agenda at c.in-Ok-run.ensures.did) c.in-Err-end.ensures.err
