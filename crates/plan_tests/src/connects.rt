@@ -1,8 +1,14 @@
-use crate::answers::{Told, answer_of, is_asked};
-use crate::nodes::{are_entries, node_at, nodes_at};
-use cluster_plan::{Ask, ConnState, InitialConnects, InitialEnd, Part, Request};
+use crate::nodes::{are_entries, is_node, node_at, nodes_at};
+use cluster_plan::{Answer, Ask, ConnState, InitialConnects, InitialEnd, Part, Request};
 use redis_error::{FaultKind, RedisError};
 use std::alloc::{AllocError, Global};
+
+/// What a connect is answered: by a link of that number, or by a fault.
+#[derive(Clone, Copy)]
+enum Told {
+    Link(u32),
+    Fault(FaultKind),
+}
 
 /// A port whose connect is answered so, and the ports whose connects have no answer then.
 type Step = (u16, Told, &'static [u16]);
@@ -83,13 +89,18 @@ const CASES: [Case; 7] = [
     },
 ];
 
+fn is_connect(ask: &Ask, port: u16) -> bool {
+    matches!((ask.part, ask.request), (Part::Initial, Request::Connect))
+        && is_node(&ask.address, port)
+}
+
 /// Whether these are the connects of those ports.
 fn are_connects(asks: &[Ask], ports: &[u16]) -> bool {
     if asks.len() != ports.len() {
         return false;
     }
     for (ask, port) in asks.iter().zip(ports) {
-        if !is_asked(ask, &(Part::Initial, *port, Request::Connect)) {
+        if !is_connect(ask, *port) {
             return false;
         }
     }
@@ -103,6 +114,13 @@ fn awaits(alloc: Global, connects: &InitialConnects, ports: &[u16]) -> Result<bo
     Ok(are_connects(asks.as_slice(), ports) && is_over == ports.is_empty())
 }
 
+fn answer_of(told: Told) -> Answer {
+    match told {
+        Told::Link(link) => Answer::Connected(link),
+        Told::Fault(fault) => Answer::Failed(RedisError::Io { fault }),
+    }
+}
+
 /// Whether the connects await at first and after each answer what they are to await.
 fn goes_on(alloc: Global, connects: &mut InitialConnects, case: &Case) -> Result<bool, AllocError> {
     if !awaits(alloc, connects, case.ports)? {
@@ -110,8 +128,7 @@ fn goes_on(alloc: Global, connects: &mut InitialConnects, case: &Case) -> Result
     }
     for step in case.steps {
         let address = node_at(alloc, step.0)?;
-        let told = answer_of(alloc, step.1)?;
-        connects.answer(&address, told);
+        connects.answer(&address, answer_of(step.1));
         if !awaits(alloc, connects, step.2)? {
             return Ok(false);
         }
