@@ -1,6 +1,7 @@
 mod Allowed
 mod Dealt
 mod Does
+mod Flown
 mod Orders
 mod RunningOut
 mod Sources

@@ -1,3 +1,5 @@
+use Rattle.std.proofs.Common.{arith, ◌≡◌, length}
+use Rattle.live_lines.proofs.Flown.{flown}
 use Rattle.live_lines.proofs.RunningOut.{broke_out}
 use Rattle.live_lines.proofs.Unbroken.{none_broke}
 use Rattle.live_lines.proofs.flying.fly.Goals as goal
@@ -11,3 +13,9 @@ pub refused-requires : goal.refused-requires
 refused-requires g c =
     none_broke c.args.plan c.word-word.result c.args.lines.items c.in-Ok-submitted.made.1.items c.submitted.new.actions.items c.in-Err-drive.error c.in-Ok-submitted.made.0 c.drive.new.session
     c.in-Ok-submitted.ensures.sound c.in-Ok-submitted.ensures.submitted c.in-Ok-submitted.ensures.asked c.in-Err-drive.ensures.err
+
+pub returns-in-Ok-drive-clause-flight : goal.returns-in-Ok-drive-clause-flight
+returns-in-Ok-drive-clause-flight g c =
+    let s = c.in-Ok-submitted.ensures in
+    let counted : c.in-Ok.count ≡ length c.args.lines.items = omega (arith, c.in-Ok.ensures, c.len.ensures) in
+    flown c.args.plan c.args.lines.items _ c.word-word.result c.in-Ok.count c.submitted.new.actions.items c.in-Ok-submitted.made.0 s.sound s.bare c.word-word.ensures.tells s.submitted s.asked counted c.in-Ok-drive.ensures.driven
