@@ -7,6 +7,6 @@ abbrev pub numbers_to : ℕ → List ℕ
 numbers_to zero = []
 numbers_to (suc n) = numbers_to n ++ suc n ∷ []
 
--- just these numbers are claimed
+-- just the numbers up to this one are claimed
 abbrev pub HasClaimed : ℕ → Known → Type 0
 HasClaimed n k = (k.view.dial ≡ n) × (k.view.claims ≡ numbers_to n)
