@@ -1,5 +1,3 @@
-use Rattle.std.proofs.Common.{◌≡◌, true}
-use Rattle.mux_conn.specs.Connection.{Work}
 use Rattle.mux_conn.proofs.Spent.{spent_repeated}
 use Rattle.mux_conn.proofs.connection.MultiplexedConnection.say.Goals as goal
 
