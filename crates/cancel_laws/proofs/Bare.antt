@@ -1,5 +1,5 @@
 -- A connection does the same where one request's outcome is looked away from, once its message has left the queue.
-use Rattle.std.proofs.Common.{◌≡◌, ◌≢◌, inl, ℕ, ◌==◌, ◌&&◌, ◌||◌, Bool, true, false, List, [], ◌∷◌, ◌++◌, if◌then◌else◌, refl, sym, ap, ◌∙◌, append_assoc, Option, Some, arith}
+use Rattle.std.proofs.Common.{◌≡◌, ◌≢◌, inl, ℕ, ◌==◌, ◌&&◌, ◌||◌, Bool, true, false, List, [], ◌∷◌, ◌++◌, if◌then◌else◌, refl, sym, ap, ◌∙◌, append_assoc, Option, Some, arith, inr}
 use Rattle.std.specs.Prelude.{◌+◌, min, unwrap_or}
 use Rattle.std.proofs.lemmas.List.{append-nil}
 use Rattle.containers.proofs.Choices.{by_test, chosen, either, either_by, taken_if, left_if, eq_from, ne_from, eq_test, ne_test}
@@ -32,23 +32,25 @@ use Rattle.link_laws.proofs.Alike.{same_awaiting}
 use Rattle.link_laws.proofs.Cancels.{bytes_alike, close_alike, fault_alike}
 use Rattle.mux_conn.specs.declared.act.LinkAct.{LinkAct}
 use Rattle.mux_conn.specs.declared.act.LinkAct.TheVariants as act
+use Rattle.mux_conn.specs.declared.again.Again.TheVariants as again
 use Rattle.mux_conn.specs.declared.connection.MultiplexedConnection.{MultiplexedConnection}
 use Rattle.mux_conn.specs.declared.life.Life.{Life}
 use Rattle.mux_conn.specs.declared.life.Life.TheVariants.{Resting, Dialing, Wanting, SettingUp, Ready, Ended}
 use Rattle.mux_conn.specs.declared.request.Progress.TheVariants as progress
 use Rattle.mux_conn.specs.declared.request.Request.{Request}
 use Rattle.mux_conn.specs.declared.request.Waiting.{Waiting}
-use Rattle.mux_conn.specs.Connection.{Work, acted, at_life, with_link, is_ready}
+use Rattle.mux_conn.specs.Connection.{Work, acted, at_life, with_link, is_ready, is_outstanding, is_repeating}
 use Rattle.mux_conn.specs.Requests.{is_open, is_open_at, name_at, permits_at, with_permits, given_back, closed, answered}
-use Rattle.mux_conn.specs.Effects.{afresh, creation_told, given_up, settled_one, settled_each, failed_each, nobody_waits, waiting_failed, notice_act, noticed, noticed_each, told_each, greeting_error, dropped_at, dropped_by, cut_short, all_answered, ended, parted, opening_failed, authorized_at, connected_at, unauthorized_at, refused_at, overdue_at, taken_at, failed_at, broken_at, read_to, read_at, shut_at, applied}
+use Rattle.mux_conn.specs.Effects.{afresh, creation_told, given_up, settled_one, settled_each, failed_each, nobody_waits, waiting_failed, notice_act, noticed, noticed_each, told_each, greeting_error, dropped_at, dropped_by, cut_short, all_answered, ended, parted, opening_failed, authorized_at, connected_at, unauthorized_at, refused_at, overdue_at, taken_at, failed_at, broken_at, read_to, read_at, shut_at, applied, all_fresh, served, settled_other}
 use Rattle.mux_conn.specs.Renewals.{renewing, with_renewal, expecting, expected, takes_more, late_for, is_unanswered, is_done, replied, renewal_id}
 use Rattle.cancel_laws.specs.ButFor.{hushed_each, hushed_link, hushed_life}
 use Rattle.cancel_laws.proofs.Requests.{names, name_stays, progress_twice, progress_apart, permits_other, permits_own, own_closed, closed_set, test_other}
 use Rattle.cancel_laws.proofs.Names.{IsOwn, own_name, other_name}
 use Rattle.cancel_laws.proofs.Links.{alike_hushed, hushed_came}
-use Rattle.cancel_laws.proofs.Kept.{creation_kept, other_act, IsPlain, notice_plain, At, There, answered_kept, settled_one_kept, settled_kept, telling_kept, failed_each_kept, over_kept, parted_kept}
+use Rattle.cancel_laws.proofs.Kept.{creation_kept, other_act, IsPlain, notice_plain, At, There, answered_kept, settled_one_kept, settled_kept, telling_kept, failed_each_kept, over_kept, parted_kept, IsApart}
 use Rattle.cancel_laws.proofs.Values.{by_value, told_of, value_told, value_read, values_read, came_by_values, same_by_value}
 use Rattle.cancel_laws.proofs.Gone.{NoneQueued, IsGone, gone_kept}
+use Rattle.mux_conn.specs.Repeats.{repeating, repeat_id}
 
 -- the acts of a turn, but for the outcomes of submission n
 abbrev pub other_acts : ℕ → List LinkAct → List LinkAct
@@ -168,12 +170,31 @@ bare_answered n p w q o h =
     ap (λ (k : ℕ). bare n p (answered w k o)) e ∙ answered_own n p w o h.own ∙ sym (closed_stays (bare n p w) p o (own_closed w.conn.requests p)) ∙ ap (λ (k : ℕ). answered (bare n p w) k o) (sym e))
     (λ f. answered_other n p w q o h.own (ne_from q p f))
 
+-- whether a link is set up doesn't depend on its row
+pub ready_same : (p : ℕ) (life : Life) → is_ready life ≡ is_ready (hushed_life p life)
+ready_same p Resting = refl
+ready_same p Dialing = refl
+ready_same p (Wanting l) = refl
+ready_same p (SettingUp l greeting) = refl
+ready_same p (Ready l) = refl
+ready_same p (Ended e) = refl
+
+-- nor whether it goes on that something is subscribed again
+pub repeating_same : (p : ℕ) (c : MultiplexedConnection) → is_repeating c ≡ is_repeating (bare_conn p c)
+repeating_same p c = ap (λ (b : Bool). b && is_outstanding c.again) (ready_same p c.life)
+
+-- what is subscribed again is answered, or the time for it is over
+bare_served : (n p : ℕ) (w : Work) → bare n p (served w) ≡ served (bare n p w)
+bare_served n p w =
+    either_by (bare n p) (is_repeating w.conn) (is_repeating (bare_conn p w.conn)) (all_fresh (repeating w again.Nothing)) w (all_fresh (repeating (bare n p w) again.Nothing)) (bare n p w) (repeating_same p w.conn) (λ t. refl) (λ f. refl)
+
 -- a message that the link settled
 bare_settled_one : (n p : ℕ) (w : Work) (s : Settled) → At (There (IsGone n p)) w → bare n p (settled_one w s) ≡ settled_one (bare n p w) s
 bare_settled_one n p w s h =
     let r = replied w.conn.renewal (is_done s.verdict) in
     let o = outcome_of s.verdict in
-    either (bare n p) (s.id == renewal_id) (renewing w r) (answered w s.id o) (renewing (bare n p w) r) (answered (bare n p w) s.id o) (λ t. refl) (λ f. bare_answered n p w s.id o h)
+    either (bare n p) (s.id == renewal_id) (renewing w r) (settled_other w s) (renewing (bare n p w) r) (settled_other (bare n p w) s) (λ t. refl)
+    (λ f. either (bare n p) (s.id == repeat_id) (served w) (answered w s.id o) (served (bare n p w)) (answered (bare n p w) s.id o) (λ t. bare_served n p w) (λ g. bare_answered n p w s.id o h))
 
 -- what the link settled
 bare_settled : (n p : ℕ) (w : Work) (ss : List Settled) → At (There (IsGone n p)) w → bare n p (settled_each w ss) ≡ settled_each (bare n p w) ss
@@ -192,16 +213,20 @@ closed_still w p q o f =
 settled_still : (w : Work) (p : ℕ) (s : Settled) → is_open_at w.conn.requests p ≡ false → is_open_at (settled_one w s).conn.requests p ≡ false
 settled_still w p s f =
     let o = outcome_of s.verdict in
-    chosen (λ (x : Work). is_open_at x.conn.requests p ≡ false) (s.id == renewal_id) (renewing w (replied w.conn.renewal (is_done s.verdict))) (answered w s.id o) (λ t. f) (λ g. closed_still w p s.id o f)
+    chosen (λ (x : Work). is_open_at x.conn.requests p ≡ false) (s.id == renewal_id) (renewing w (replied w.conn.renewal (is_done s.verdict))) (settled_other w s) (λ t. f)
+    (λ g. chosen (λ (x : Work). is_open_at x.conn.requests p ≡ false) (s.id == repeat_id) (served w) (answered w s.id o)
+    (λ t. chosen (λ (x : Work). is_open_at x.conn.requests p ≡ false) (is_repeating w.conn) (all_fresh (repeating w again.Nothing)) w (λ u. f) (λ u. f))
+    (λ u. closed_still w p s.id o f))
 
 -- and what it settled for that request alone changes nothing
-own_settled : (w : Work) (p : ℕ) (s : Settled) → renewal_id ≢ p → s.id ≡ p → is_open_at w.conn.requests p ≡ false → settled_one w s ≡ w
+own_settled : (w : Work) (p : ℕ) (s : Settled) → IsApart p → s.id ≡ p → is_open_at w.conn.requests p ≡ false → settled_one w s ≡ w
 own_settled w p s apart e f =
     let o = outcome_of s.verdict in
-    left_if (s.id == renewal_id) _ (answered w s.id o) (ne_test s.id renewal_id (λ is. apart (sym is ∙ e))) ∙ closed_stays w s.id o (ap (is_open_at w.conn.requests) e ∙ f)
+    left_if (s.id == renewal_id) _ (settled_other w s) (ne_test s.id renewal_id (λ is. apart s.id (inl is) e))
+    ∙ left_if (s.id == repeat_id) (served w) (answered w s.id o) (ne_test s.id repeat_id (λ is. apart s.id (inr is) e)) ∙ closed_stays w s.id o (ap (is_open_at w.conn.requests) e ∙ f)
 
 -- and so for all
-others_settled : (w : Work) (p : ℕ) (ss : List Settled) → renewal_id ≢ p → is_open_at w.conn.requests p ≡ false → settled_each w (others p ss) ≡ settled_each w ss
+others_settled : (w : Work) (p : ℕ) (ss : List Settled) → IsApart p → is_open_at w.conn.requests p ≡ false → settled_each w (others p ss) ≡ settled_each w ss
 others_settled w p [] apart f = refl
 others_settled w p (s ∷ ss) apart f =
     by_test (s.id == p) _
@@ -302,15 +327,6 @@ bare_given_up n p w e h = bare_opening n p (acted w act.Close) e h ∙ ap (λ (x
 
 -- news
 --
--- whether a link is set up doesn't depend on its row
-pub ready_same : (p : ℕ) (life : Life) → is_ready life ≡ is_ready (hushed_life p life)
-ready_same p Resting = refl
-ready_same p Dialing = refl
-ready_same p (Wanting l) = refl
-ready_same p (SettingUp l greeting) = refl
-ready_same p (Ready l) = refl
-ready_same p (Ended e) = refl
-
 -- a fault of the link
 bare_failed : (n p : ℕ) (w : Work) (f : LinkFault) (life : Life) → At (There (IsGone n p)) w → bare n p (failed_at w f life) ≡ failed_at (bare n p w) f (hushed_life p life)
 bare_failed n p w f (Ready l) h = bare_faulted n p w _ _ h (fault_alike p (felt w.conn.hears f) l (hushed_link p l) [] [] (alike_hushed p l) refl).out
@@ -484,6 +500,6 @@ bare_applied n p w deserted h = bare_unauthorized n p w (error.AuthFailed []) w.
 bare_applied n p w (renewed c) h = ap (λ (x : MultiplexedConnection). record (bare n p w) { conn = x }) (bare_expecting p w.conn c)
 bare_applied n p w unrenewed h = refl
 bare_applied n p w (late k) h = ap (λ (x : MultiplexedConnection). record (bare n p w) { conn = x }) (bare_late_for p w.conn k)
-bare_applied n p w unrepeated h = refl
+bare_applied n p w unrepeated h = bare_served n p w
 bare_applied n p w dropped h = bare_dropped n p w h
 bare_applied n p w shut h = bare_shut n p w w.conn.life h

@@ -1,5 +1,5 @@
 -- Over whole histories, the cancel of a started request changes nothing but its own outcome.
-use Rattle.std.proofs.Common.{◌≡◌, ◌≢◌, ℕ, ◌+◌, ◌<◌, nat_le, ◌||◌, Bool, true, false, List, [], ◌∷◌, ◌++◌, length, Option, Some, slice_get, refl, sym, ap, ◌∙◌, subst, append_assoc, arith, ◌==◌, ◌&&◌, is_some, None}
+use Rattle.std.proofs.Common.{◌≡◌, ◌≢◌, ℕ, ◌+◌, ◌<◌, nat_le, ◌||◌, Bool, true, false, List, [], ◌∷◌, ◌++◌, length, Option, Some, slice_get, refl, sym, ap, ◌∙◌, subst, append_assoc, arith, ◌==◌, ◌&&◌, is_some, None, inl, inr}
 use Rattle.std.proofs.Math.Bool.{or-false}
 use Rattle.std.proofs.lemmas.List.{append-nil}
 use Rattle.containers.proofs.Choices.{chosen, not_le_test, not_both}
@@ -20,7 +20,6 @@ use Rattle.mux_conn.specs.declared.request.Pending.{Pending}
 use Rattle.mux_conn.specs.Requests.{if_there, is_open, is_waiting, is_admitted, is_open_at}
 use Rattle.mux_conn.specs.Connection.{Work}
 use Rattle.mux_conn.specs.Effects.{cancelled_in, left}
-use Rattle.mux_conn.specs.Renewals.{renewal_id}
 use Rattle.shared_session.specs.declared.core_state.Core.{Core}
 use Rattle.shared_session.specs.Turn.{Turning, work_of, with_work, heard, left_by, counted, moved_on, numbered, exceeds_offer, is_bad, shown_each, actions_of, next_turn, effect}
 use Rattle.shared_session.specs.Replay.{opening_core, opening_actions, run_on, state_after, turns_on, trace_of, told_each, outcomes_in, outcome_at, is_bad_after}
@@ -33,7 +32,7 @@ use Rattle.cancel_laws.specs.Laws.{HasNoLimit}
 use Rattle.cancel_laws.proofs.Requests.{names_count, own_closed}
 use Rattle.cancel_laws.proofs.Names.{own_of}
 use Rattle.cancel_laws.proofs.Links.{none_from}
-use Rattle.cancel_laws.proofs.Kept.{At, There, Unlimited}
+use Rattle.cancel_laws.proofs.Kept.{At, There, Unlimited, IsApart}
 use Rattle.cancel_laws.proofs.KeptTurns.{AtCore, left_by_kept, turn_kept}
 use Rattle.cancel_laws.proofs.Gone.{NoneQueued, NoneInRow, NoneIs, IsAway, away_kept, IsHushed, hushed_kept, hushed_asks, quiet_life}
 use Rattle.cancel_laws.proofs.Moved.{own_left}
@@ -62,11 +61,14 @@ cancel_turn c n p unlimited r there none =
     ∙ ap (λ (w : Work). numbered (with_work d w)) (nothing_moves (work_of d) (left_idle c.single.connection p.number unlimited none r.idle))
     ∙ (λ i. record { core = record c { turns = c.turns + 1; shut = shut i; timers = timers i; sources = sources i; single = record c.single { connection = left c.single.connection p.number } }; acts = [] })
 
--- a request has another number than the message that tells new credentials
-started_apart : (n : ℕ) (c : Core) (h : HasStarted n c) → IsNamed c → renewal_id ≢ h.pending.number
+-- a request has another number than the messages of the driver's own
+started_apart : (n : ℕ) (c : Core) (h : HasStarted n c) → IsNamed c → IsApart h.pending.number
 started_apart n c h r =
     let there = get_within c.single.connection.requests h.pending.number h.request h.known in
-    λ e. omega (arith, e, there, r.named.fewer, names_count c.single.connection.requests, h.numbered)
+    λ q own e. elim own [
+      | inl is ↦ omega (arith, e, is, there, r.named.fewer, names_count c.single.connection.requests, h.numbered)
+      | inr is ↦ omega (arith, e, is, there, r.named.fewer, names_count c.single.connection.requests, h.numbered)
+    ]
 
 -- a started request is gone from the queue
 started_none : (n : ℕ) (c : Core) (h : HasStarted n c) → NoneQueued h.pending.number c.single.connection.life

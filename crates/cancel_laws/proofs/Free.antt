@@ -30,7 +30,7 @@ use Rattle.mux_conn.specs.declared.request.Progress.TheVariants as progress
 use Rattle.mux_conn.specs.declared.request.Request.{Request}
 use Rattle.mux_conn.specs.declared.request.Waiting.{Waiting}
 use Rattle.mux_conn.specs.declared.renewal.Renewal.{Renewal}
-use Rattle.mux_conn.specs.Connection.{Work, with_link, has_no_permit, admits_none_at, admits_none, has_room, has_room_at, in_front, is_due, acted, is_ready, is_resting, is_used_up, work_with}
+use Rattle.mux_conn.specs.Connection.{Work, with_link, has_no_permit, admits_none_at, admits_none, has_room, has_room_at, in_front, is_due, acted, is_resting, is_used_up, work_with, is_outstanding, is_serving}
 use Rattle.mux_conn.specs.Requests.{if_there, is_waiting, is_waiting_at, name_at, permits_at, answered, waiting_of, asked, is_unbegun, is_unbegun_at, progressed}
 use Rattle.mux_conn.specs.Passes.{started, message_of, placed_at, told_at_place, seated, moved_up_all, put_behind, seated_or_behind, permits_taken, holding, let_in, admitted_at, admitted, still_waiting, still_admitted, admitted_each, admitted_all, passed, moved_all, round_begun, rounds_of, rounds_begun}
 use Rattle.mux_conn.specs.Turn.{written_at, written, flushed}
@@ -38,14 +38,14 @@ use Rattle.shared_session.specs.declared.core_state.Core.{Core}
 use Rattle.shared_session.specs.declared.generations.Comeback.{Comeback}
 use Rattle.shared_session.specs.declared.generations.Comeback.TheVariants as comeback
 use Rattle.shared_session.specs.declared.generations.Generations.{Generations}
-use Rattle.shared_session.specs.Generations.{came_back, comeback_in, has_cause, has_ended, heeding, is_caused, rests, wakes_in}
+use Rattle.shared_session.specs.Generations.{came_back, comeback_in, has_cause, has_ended, heeding, is_caused, rests, wakes_in, took_requests}
 use Rattle.shared_session.specs.Generations.{is_due as is_due_of}
 use Rattle.shared_session.specs.Turn.{Turning, pending, work_of, with_work, heard, refused_with, counted, moved_on, numbered, flushed_on, flushed_apart, ended_apart, ended_as, own_part, next_turn}
 use Rattle.shared_session.specs.Replay.{state_after}
 use Rattle.cancel_laws.specs.Cancels.{handed_in_at, IsFree, HasStarted}
 use Rattle.cancel_laws.proofs.Kept.{let_in_conn}
 use Rattle.cancel_laws.proofs.Requests.{other_test}
-use Rattle.cancel_laws.proofs.Rest.{IsThrough, IsStartedOn, IsIdle, conn_shown, renewed_stays, started_stays, none_moved_up, waits_conn}
+use Rattle.cancel_laws.proofs.Rest.{IsThrough, IsStartedOn, IsIdle, conn_shown, started_stays, none_moved_up, waits_conn, said_stays}
 use Rattle.cancel_laws.proofs.Ready.{IsNamed}
 use Rattle.cancel_laws.proofs.Cancels.{state_split, named_after}
 
@@ -196,7 +196,7 @@ rounds_started p w (m ∷ ms) h = rounds_started p (round_begun w m) ms (round_s
 
 -- and those of all that go on waiting
 all_rounds_started : (p : ℕ) (w : Work) → IsStarted p w.conn → IsStarted p (rounds_begun w).conn
-all_rounds_started p w h = chosen (λ (x : Work). IsStarted p x.conn) (w.conn.rounds && is_ready w.conn.life) (rounds_of w w.conn.fresh) w (λ t. rounds_started p w w.conn.fresh h) (λ f. h)
+all_rounds_started p w h = chosen (λ (x : Work). IsStarted p x.conn) (w.conn.rounds && is_serving w.conn) (rounds_of w w.conn.fresh) w (λ t. rounds_started p w w.conn.fresh h) (λ f. h)
 
 -- nor do rounds that begin change who waits
 rounds_waiting : (w : Work) (ms : List ℕ) → (rounds_of w ms).conn.waiting ≡ w.conn.waiting
@@ -206,16 +206,16 @@ rounds_waiting w (m ∷ ms) =
     ∙ chosen (λ (x : Work). x.conn.waiting ≡ w.conn.waiting) (w.conn.rounds && is_unbegun_at w.conn.requests m) (acted (progressed w m progress.Begun) (act.Round (name_at w.conn.requests m))) w (λ t. refl) (λ f. refl)
 
 all_rounds_waiting : (w : Work) → (rounds_begun w).conn.waiting ≡ w.conn.waiting
-all_rounds_waiting w = chosen (λ (x : Work). x.conn.waiting ≡ w.conn.waiting) (w.conn.rounds && is_ready w.conn.life) (rounds_of w w.conn.fresh) w (λ t. rounds_waiting w w.conn.fresh) (λ f. refl)
+all_rounds_waiting w = chosen (λ (x : Work). x.conn.waiting ≡ w.conn.waiting) (w.conn.rounds && is_serving w.conn) (rounds_of w w.conn.fresh) w (λ t. rounds_waiting w w.conn.fresh) (λ f. refl)
 
 -- it has started, and nobody waits
 abbrev HasEmptied : ℕ → MultiplexedConnection → Type 0
 HasEmptied p c = IsStarted p c × (c.waiting ≡ [])
 
 -- so has one that comes where nobody waits
-asked_starts : (c : MultiplexedConnection) (name : ℕ) (packed : List ℕ) (shape : Shape) (timeout : Option ℕ) (l : LinkState) → IsIdle c → c.life ≡ Ready l → holds_back l ≡ false → is_full l ≡ false → has_no_permit c.limit c.free ≡ false
+asked_starts : (c : MultiplexedConnection) (name : ℕ) (packed : List ℕ) (shape : Shape) (timeout : Option ℕ) (l : LinkState) → IsIdle c → c.life ≡ Ready l → holds_back l ≡ false → is_full l ≡ false → is_outstanding c.again ≡ false → has_no_permit c.limit c.free ≡ false
     → HasEmptied (length c.requests) (passed (record { conn = asked c name packed shape true timeout; acts = [] })).conn
-asked_starts c name packed shape timeout l idle up goes room permit =
+asked_starts c name packed shape timeout l idle up goes room serves permit =
     let p = length c.requests in
     let x : Request = record { name = name; progress = progress.Waiting; permits = 0 } in
     let q = waiting_of p packed shape true timeout in
@@ -223,10 +223,10 @@ asked_starts c name packed shape timeout l idle up goes room permit =
     let v = still_waiting w [] in
     let m = idle.written.moved in
     let known : slice_get w.conn.requests p ≡ Some x = get_last c.requests x in
-    let through : IsStartedOn c.renewal (Ready l) = subst (IsStartedOn c.renewal) up m.seated.through in
+    let through : IsStartedOn c.renewal c.again (Ready l) = subst (IsStartedOn c.renewal c.again) up m.seated.through in
     let none : l.queue ≡ [] = queue_empty l through.queue goes in
     let undue : is_due c.renewal ≡ false = none_due (is_due c.renewal) (λ t. not_both (holds_back l) goes (through.renewed t).1) in
-    let moves : admits_none c ≡ false = ap (λ (life : Life). admits_none_at life (has_no_permit c.limit c.free)) up ∙ permit in
+    let moves : admits_none c ≡ false = ap (λ (life : Life). admits_none_at life (is_outstanding c.again || has_no_permit c.limit c.free)) up ∙ (λ i. serves i || permit i) in
     let alone : IsStarted p (admitted v q).conn =
     if_true (λ (z : Work). IsStarted p z.conn) (is_waiting_at w.conn.requests p) (admitted_at v q v.conn.life) v (ap (if_there is_waiting) known) (admitted_starts v q l x known up none goes room undue refl) in
     let last : IsStarted p (still_waiting (admitted v q) []).conn = record { request = alone.request; known = alone.known; placed = alone.placed; link = alone.link; up = alone.up; gone = alone.gone } in
@@ -234,7 +234,7 @@ asked_starts c name packed shape timeout l idle up goes room permit =
     let all : HasEmptied p (admitted_all w).conn = subst (λ (qs : List Waiting). HasEmptied p (admitted_each v (qs ++ q ∷ [])).conn) (sym (m.waiting moves)) one in
     let moved : HasEmptied p (moved_all w).conn =
     subst (λ (z : Work). HasEmptied p z.conn)
-    (sym (ap (λ (z : Work). admitted_all (moved_up_all (started z))) (renewed_stays w m.seated.through.renewed)
+    (sym (ap (λ (z : Work). admitted_all (moved_up_all (started z))) (said_stays w m.seated.through.repeated m.seated.through.renewed)
     ∙ ap (λ (z : Work). admitted_all (moved_up_all z)) (started_stays w c.life refl m.seated.through.queue) ∙ ap admitted_all (none_moved_up (still_admitted w []) c.admitted m.seated.admitted))) all in
     (all_rounds_started p (moved_all w) moved.0, all_rounds_waiting (moved_all w) ∙ moved.1)
   where
@@ -254,7 +254,7 @@ none_due g over c acts l up none =
     ap (λ (b : Bool). not g.halted && b)
     (chosen (λ (b : Bool). b ≡ false) (g.number == 0) (not (length c.waiting == 0)) (is_caused over c acts)
     (λ z. ap (λ (ws : List Waiting). not (length ws == 0)) none)
-    (λ n. ap (λ (life : Life). has_ended life && (((not over && c.opened) && is_resp3 c.info.protocol) || has_cause c.opened acts)) up))
+    (λ n. ap (λ (life : Life). has_ended life && (((not over && took_requests c) && is_resp3 c.info.protocol) || has_cause c.opened acts)) up))
     ∙ never (not g.halted)
   where
     never : (p : Bool) → (p && false) ≡ false
@@ -287,7 +287,7 @@ turn_starts c s some awaited ready free spoken =
       core = record t.core { table = c.table ++ Some (pending p) ∷ []; single = record c.single { connection = asked conn n (packed_bytes s) (shape_of s) b c.timeout } };
     } in
     let ends : Turning → Turning = λ x. ended_as (is_some c.manager) (with_work x (passed (work_of x))) over (event.Submit s) in
-    let sits = asked_starts conn n (packed_bytes s) (shape_of s) c.timeout free.link ready.idle free.ready free.goes free.room free.permit in
+    let sits = asked_starts conn n (packed_bytes s) (shape_of s) c.timeout free.link ready.idle free.ready free.goes free.room free.serves free.permit in
     let few : length (c.table ++ Some (pending p) ∷ []) ≤ 2 ^ 32 = omega (arith, free.numbered, length-append c.table (Some (pending p) ∷ [])) in
     let there = get_last c.table (Some (pending p)) in
     let m = numbered (with_work (asks true) (passed (work_of (asks true)))) in

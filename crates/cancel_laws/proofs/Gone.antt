@@ -11,12 +11,11 @@ use Rattle.mux_conn.specs.declared.request.Request.{Request}
 use Rattle.mux_conn.specs.Requests.{is_waiting, is_admitted, is_waiting_at, is_admitted_at, permits_at, with_permits}
 use Rattle.mux_conn.specs.Effects.{cancelled_in}
 use Rattle.mux_conn.specs.Passes.{message_of}
-use Rattle.mux_conn.specs.Renewals.{renewal_id}
 use Rattle.cancel_laws.specs.ButFor.{hushed_life}
 use Rattle.cancel_laws.proofs.Requests.{names, names_stay, names_push, progress_count, past_set, test_other, test_push, other_test, unbegun_waits}
 use Rattle.cancel_laws.proofs.Names.{IsOwn, own_push}
 use Rattle.cancel_laws.proofs.Links.{NoneOf, NoneWanted, none_push, none_without, none_started, none_came, quiet_behind, quiet_starts, quiet_came, quiet_silenced, quiet_stays}
-use Rattle.cancel_laws.proofs.Kept.{IsKept, IsKeptThere, There, kept_there}
+use Rattle.cancel_laws.proofs.Kept.{IsKept, IsKeptThere, There, kept_there, IsApart}
 use Rattle.cancel_laws.proofs.KeptTurns.{CanAsk}
 
 -- the link has been set up, and nobody awaits message p in its queue; or there is none
@@ -42,7 +41,7 @@ NoneInRow p (Ended e) = Unit {0}
 pub record IsGone (n p : ℕ) (r : List Request) (life : Life) : Type 0 where
   pub there : p < length r
   pub own : IsOwn n p (names r)
-  pub apart : renewal_id ≢ p
+  pub apart : IsApart p
   pub past : is_waiting_at r p ≡ false
   pub seated : is_admitted_at r p ≡ false
   pub none : NoneQueued p life
@@ -114,7 +113,7 @@ gone_there n p = record {
     none = none_push p l.queue (message_of q) h.none (not_awaited p q.number q.awaited (other_test is_admitted r q.number p t h.seated));
   };
   start = λ r l h. record { there = h.there; own = h.own; apart = h.apart; past = h.past; seated = h.seated; none = none_started p (record { link = l; out = [] }) l.queue h.none };
-  renew = λ r l q own h. record { there = h.there; own = h.own; apart = h.apart; past = h.past; seated = h.seated; none = h.none };
+  say = λ r l q own h. record { there = h.there; own = h.own; apart = h.apart; past = h.past; seated = h.seated; none = h.none };
   offer = λ r l h. record { there = h.there; own = h.own; apart = h.apart; past = h.past; seated = h.seated; none = h.none };
   write = λ r l k h. record { there = h.there; own = h.own; apart = h.apart; past = h.past; seated = h.seated; none = h.none };
   come = λ r l what piece h. record { there = h.there; own = h.own; apart = h.apart; past = h.past; seated = h.seated; none = none_came p what l piece h.none };
@@ -174,7 +173,7 @@ away_kept n p = record {
   note = λ lim r life ms xs q t h. record { gone = h.gone; unmoved = none_is_push p ms q (other_test is_admitted r q p t h.gone.seated) h.unmoved };
   place = λ lim r l ms xs q t h. record { gone = (gone_there n p).place r l q t h.gone; unmoved = h.unmoved };
   start = λ lim r l ms xs h. record { gone = (gone_there n p).start r l h.gone; unmoved = h.unmoved };
-  renew = λ lim r l ms xs q own h. record { gone = (gone_there n p).renew r l q own h.gone; unmoved = h.unmoved };
+  say = λ lim r l ms xs q own h. record { gone = (gone_there n p).say r l q own h.gone; unmoved = h.unmoved };
   offer = λ lim r l ms xs h. record { gone = (gone_there n p).offer r l h.gone; unmoved = h.unmoved };
   write = λ lim r l ms xs k h. record { gone = (gone_there n p).write r l k h.gone; unmoved = h.unmoved };
   come = λ lim r l ms xs what piece h. record { gone = (gone_there n p).come r l what piece h.gone; unmoved = h.unmoved };
@@ -223,9 +222,9 @@ hushed_there n p = record {
   admit = λ r life q count t h. record { gone = (gone_there n p).admit r life q count t h.gone; quiet = h.quiet };
   place = λ r l q t h. record { gone = (gone_there n p).place r l q t h.gone; quiet = h.quiet };
   start = λ r l h. record { gone = (gone_there n p).start r l h.gone; quiet = quiet_starts p (record { link = l; out = [] }) l.queue h.gone.none h.quiet };
-  renew = λ r l q own h. record {
-    gone = (gone_there n p).renew r l q own h.gone;
-    quiet = quiet_behind p l.row q (not_awaited p q.id q.awaited (λ e. h.gone.apart (sym own ∙ e))) h.quiet;
+  say = λ r l q own h. record {
+    gone = (gone_there n p).say r l q own h.gone;
+    quiet = quiet_behind p l.row q (not_awaited p q.id q.awaited (h.gone.apart q.id own)) h.quiet;
   };
   offer = λ r l h. record { gone = (gone_there n p).offer r l h.gone; quiet = h.quiet };
   write = λ r l k h. record { gone = (gone_there n p).write r l k h.gone; quiet = h.quiet };

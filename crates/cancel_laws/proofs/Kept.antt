@@ -1,5 +1,5 @@
 -- What each part of a turn keeps: a fact of the limit of permits, of the requests, of the link's life, of those that were moved, and of what the turn has shown.
-use Rattle.std.proofs.Common.{ℕ, true, false, Bool, List, [], length, Option, Some, None, refl, ap, arith, nat_le, ◌≡◌, ◌+◌, ◌≤◌, ◌==◌, ◌&&◌, ◌||◌, ◌∷◌, ◌++◌, ◌∙◌, if◌then◌else◌}
+use Rattle.std.proofs.Common.{ℕ, true, false, Bool, List, [], length, Option, Some, None, refl, ap, arith, nat_le, ◌≡◌, ◌+◌, ◌≤◌, ◌==◌, ◌&&◌, ◌||◌, ◌∷◌, ◌++◌, ◌∙◌, if◌then◌else◌, ◌⊎◌, inl, inr, ◌≢◌}
 use Rattle.containers.proofs.Choices.{chosen, both_right}
 use Rattle.redis_error.specs.declared.redis_error.RedisError.TheVariants as error
 use Rattle.redis_error.specs.declared.fault_kind.FaultKind.TheVariants as kinds
@@ -25,6 +25,8 @@ use Rattle.link_core.specs.Link.{LinkState, Reading, fresh, enqueued, begun, sta
 use Rattle.link_core.specs.Outbox.{can_offer}
 use Rattle.mux_conn.specs.declared.act.LinkAct.{LinkAct}
 use Rattle.mux_conn.specs.declared.act.LinkAct.TheVariants as act
+use Rattle.mux_conn.specs.declared.again.Again.{Again}
+use Rattle.mux_conn.specs.declared.again.Again.TheVariants as again
 use Rattle.mux_conn.specs.declared.connection.MultiplexedConnection.{MultiplexedConnection}
 use Rattle.mux_conn.specs.declared.life.Greeting.{Greeting}
 use Rattle.mux_conn.specs.declared.life.Life.{Life}
@@ -32,12 +34,12 @@ use Rattle.mux_conn.specs.declared.life.Life.TheVariants.{Resting, Dialing, Want
 use Rattle.mux_conn.specs.declared.request.Progress.TheVariants as progress
 use Rattle.mux_conn.specs.declared.request.Request.{Request}
 use Rattle.mux_conn.specs.declared.request.Waiting.{Waiting}
-use Rattle.mux_conn.specs.Connection.{Work, acted, opened_on, at_life, with_link, with_setup, with_wanting, has_room, admits_none, is_ready, is_due}
+use Rattle.mux_conn.specs.Connection.{Work, acted, opened_on, at_life, with_link, with_setup, with_wanting, has_room, admits_none, is_ready, is_due, is_repeating, is_serving}
 use Rattle.mux_conn.specs.Requests.{is_open_at, is_waiting_at, is_admitted_at, name_at, with_permits, at_progress, answered, is_unbegun_at, permits_at, progressed}
-use Rattle.mux_conn.specs.Effects.{afresh, creation_told, given_up, new_link, settled_one, settled_each, failed_each, nobody_waits, waiting_failed, ended, opening_failed, authorized_at, come_up, comes_to_want, connected_at, unauthorized_at, with_credentials, refused_at, overdue_at, taken_at, failed_at, broken_at, read_to, read_at, shut_at, all_fresh, made_ready, steps_of, greeting_queued, greeting_error, greeted, greeted_by, is_unreadable, dropped_at, dropped_by, sets_up, judged_by, set_up_by, answered_setup, applied, cancelled_in, all_answered, behind_first, cut_short, heard_on, notice_act, noticed, noticed_each, parted, told_each}
+use Rattle.mux_conn.specs.Effects.{afresh, creation_told, given_up, new_link, settled_one, settled_each, failed_each, nobody_waits, waiting_failed, ended, opening_failed, authorized_at, come_up, comes_to_want, connected_at, unauthorized_at, with_credentials, refused_at, overdue_at, taken_at, failed_at, broken_at, read_to, read_at, shut_at, all_fresh, made_ready, steps_of, greeting_queued, greeting_error, greeted, greeted_by, is_unreadable, dropped_at, dropped_by, sets_up, judged_by, set_up_by, answered_setup, applied, cancelled_in, all_answered, behind_first, cut_short, heard_on, notice_act, noticed, noticed_each, parted, told_each, served, settled_other}
 use Rattle.mux_conn.specs.Renewals as renewals
 use Rattle.mux_conn.specs.Renewals.{renewing, expecting, takes_more, late_for, is_unanswered, renewal_id, renewal_queued, asked_next, renewal_act, renewal_timed, renewal_asked, renewal_told, renewal_moved}
-use Rattle.mux_conn.specs.Passes.{shown_each, greeting_act, greeted_each, started_at, started, message_of, placed_at, told_at_place, seated, still_admitted, moved_up, moved_up_each, moved_up_all, put_behind, seated_or_behind, permits_taken, holding, took_shown, took as holds, timer_asked, let_in, admitted_at, admitted, still_waiting, admitted_each, passed, round_begun, rounds_of, rounds_begun, moved_all}
+use Rattle.mux_conn.specs.Passes.{shown_each, greeting_act, greeted_each, started_at, started, message_of, placed_at, told_at_place, seated, still_admitted, moved_up, moved_up_each, moved_up_all, put_behind, seated_or_behind, permits_taken, holding, took_shown, took as holds, timer_asked, let_in, admitted_at, admitted, still_waiting, admitted_each, passed, round_begun, rounds_of, rounds_begun, moved_all, said}
 use Rattle.mux_conn.specs.Turn.{written_at, written, moved_wait, fresh_wait, wait_shown, moved_each_shown, moved_shown, fresh_each_shown, flushed}
 use Rattle.cancel_laws.proofs.Counts.{count_on, count_started, count_came}
 use Rattle.cancel_laws.proofs.Requests.{admitted_now, begun_waits}
@@ -49,6 +51,7 @@ use Rattle.driver_model.specs.declared.hearing.Notice.TheVariants as notice
 use Rattle.link_core.specs.declared.message.NoticeAt.{NoticeAt}
 use Rattle.mux_conn.specs.declared.life.Greeting.TheVariants as greet
 use Rattle.resp_value.specs.declared.push_kind.PushKind.TheVariants.{Disconnection}
+use Rattle.mux_conn.specs.Repeats.{is_to_start, is_untimed, with_timer, repeating, repeat_id, repeat_queued, repeat_timed, repeat_asked, repeat_act, repeat_told, repeat_moved, repeated}
 
 -- what an act shows, if it is not the outcome of submission n
 abbrev pub other_act : ℕ → LinkAct → List LinkAct
@@ -57,6 +60,7 @@ other_act n (act.Round m) = act.Round m ∷ []
 other_act n (act.Took m count) = act.Took m count ∷ []
 other_act n (act.Timer m ms) = act.Timer m ms ∷ []
 other_act n (act.RenewalTimer k ms) = act.RenewalTimer k ms ∷ []
+other_act n (act.RepeatTimer ms) = act.RepeatTimer ms ∷ []
 other_act n (act.Push info) = act.Push info ∷ []
 other_act n (act.Message m) = act.Message m ∷ []
 other_act n (act.Monitor v) = act.Monitor v ∷ []
@@ -68,12 +72,21 @@ other_act n (act.Wait m kind) = act.Wait m kind ∷ []
 other_act n (act.Start message m need len) = act.Start message m need len ∷ []
 other_act n (act.SetUp message need len) = act.SetUp message need len ∷ []
 other_act n (act.Renewed message need len) = act.Renewed message need len ∷ []
+other_act n (act.Repeated message need len) = act.Repeated message need len ∷ []
 other_act n (act.Watch message need len) = act.Watch message need len ∷ []
 other_act n (act.Outcome m o) = if m == n then [] else act.Outcome m o ∷ []
 
 -- an act that answers nobody
 abbrev pub IsPlain : LinkAct → Type 0
 IsPlain a = (n : ℕ) → other_act n a ≡ a ∷ []
+
+-- the number of a message of the driver's own on a link that is set up: of new credentials, or of what is subscribed again
+abbrev pub IsOwnMessage : ℕ → Type 0
+IsOwnMessage n = (n ≡ renewal_id) ⊎ (n ≡ repeat_id)
+
+-- no request has it
+abbrev pub IsApart : ℕ → Type 0
+IsApart p = (q : ℕ) → IsOwnMessage q → q ≢ p
 
 -- a fact of the limit of permits, of the requests, of the link's life, of those that were moved in a turn, and of its acts, that each single change keeps
 pub record IsKept (P : Option ℕ → List Request → Life → List ℕ → List LinkAct → Type 0) : Type 0 where
@@ -92,7 +105,7 @@ pub record IsKept (P : Option ℕ → List Request → Life → List ℕ → Lis
   pub note : (lim : Option ℕ) (r : List Request) (life : Life) (ms : List ℕ) (xs : List LinkAct) (q : ℕ) → is_admitted_at r q ≡ true → P lim r life ms xs → P lim r life (ms ++ q ∷ []) xs
   pub place : (lim : Option ℕ) (r : List Request) (l : LinkState) (ms : List ℕ) (xs : List LinkAct) (q : Waiting) → is_admitted_at r q.number ≡ true → P lim r (Ready l) ms xs → P lim (at_progress r q.number progress.Placed) (Ready (enqueued l (message_of q))) ms xs
   pub start : (lim : Option ℕ) (r : List Request) (l : LinkState) (ms : List ℕ) (xs : List LinkAct) → P lim r (Ready l) ms xs → P lim r (Ready (started_all (record { link = l; out = [] })).link) ms xs
-  pub renew : (lim : Option ℕ) (r : List Request) (l : LinkState) (ms : List ℕ) (xs : List LinkAct) (q : Queued) → q.id ≡ renewal_id → P lim r (Ready l) ms xs → P lim r (Ready (begun l q)) ms xs
+  pub say : (lim : Option ℕ) (r : List Request) (l : LinkState) (ms : List ℕ) (xs : List LinkAct) (q : Queued) → IsOwnMessage q.id → P lim r (Ready l) ms xs → P lim r (Ready (begun l q)) ms xs
   pub offer : (lim : Option ℕ) (r : List Request) (l : LinkState) (ms : List ℕ) (xs : List LinkAct) → P lim r (Ready l) ms xs → P lim r (Ready (offered_of l)) ms xs
   pub write : (lim : Option ℕ) (r : List Request) (l : LinkState) (ms : List ℕ) (xs : List LinkAct) (k : ℕ) → P lim r (Ready l) ms xs → P lim r (Ready (wrote_of l k)) ms xs
   pub come : (lim : Option ℕ) (r : List Request) (l : LinkState) (ms : List ℕ) (xs : List LinkAct) (h : Hearing) (piece : List ℕ) → P lim r (Ready l) ms xs → P lim r (Ready (piece_read h true l piece).link) ms xs
@@ -116,7 +129,7 @@ pub record IsKeptThere (P : List Request → Life → Type 0) : Type 0 where
   pub admit : (r : List Request) (life : Life) (q count : ℕ) → is_waiting_at r q ≡ true → P r life → P (with_permits r q progress.Admitted count) life
   pub place : (r : List Request) (l : LinkState) (q : Waiting) → is_admitted_at r q.number ≡ true → P r (Ready l) → P (at_progress r q.number progress.Placed) (Ready (enqueued l (message_of q)))
   pub start : (r : List Request) (l : LinkState) → P r (Ready l) → P r (Ready (started_all (record { link = l; out = [] })).link)
-  pub renew : (r : List Request) (l : LinkState) (q : Queued) → q.id ≡ renewal_id → P r (Ready l) → P r (Ready (begun l q))
+  pub say : (r : List Request) (l : LinkState) (q : Queued) → IsOwnMessage q.id → P r (Ready l) → P r (Ready (begun l q))
   pub offer : (r : List Request) (l : LinkState) → P r (Ready l) → P r (Ready (offered_of l))
   pub write : (r : List Request) (l : LinkState) (k : ℕ) → P r (Ready l) → P r (Ready (wrote_of l k))
   pub come : (r : List Request) (l : LinkState) (h : Hearing) (piece : List ℕ) → P r (Ready l) → P r (Ready (piece_read h true l piece).link)
@@ -145,7 +158,7 @@ kept_there k = record {
   note = λ lim r life ms xs q t h. h;
   place = λ lim r l ms xs q t h. k.place r l q t h;
   start = λ lim r l ms xs h. k.start r l h;
-  renew = λ lim r l ms xs q own h. k.renew r l q own h;
+  say = λ lim r l ms xs q own h. k.say r l q own h;
   offer = λ lim r l ms xs h. k.offer r l h;
   write = λ lim r l ms xs n h. k.write r l n h;
   come = λ lim r l ms xs what piece h. k.come r l what piece h;
@@ -177,7 +190,7 @@ unlimited_kept = record {
   note = λ lim r life ms xs q t h. h;
   place = λ lim r l ms xs q t h. h;
   start = λ lim r l ms xs h. h;
-  renew = λ lim r l ms xs q own h. h;
+  say = λ lim r l ms xs q own h. h;
   offer = λ lim r l ms xs h. h;
   write = λ lim r l ms xs n h. h;
   come = λ lim r l ms xs what piece h. h;
@@ -197,9 +210,14 @@ At P w = P w.conn.limit w.conn.requests w.conn.life w.conn.moved w.acts
 pub answered_kept : {P : Option ℕ → List Request → Life → List ℕ → List LinkAct → Type 0} → IsKept P → (w : Work) (q : ℕ) (o : Outcome) → At P w → At P (answered w q o)
 answered_kept {P = P} k w q o h = chosen (At P) (is_open_at w.conn.requests q) _ w (λ t. k.answer w.conn.limit w.conn.requests w.conn.life w.conn.moved w.acts q o t h) (λ f. h)
 
--- a message that the link has settled: it is a request's, or that of new credentials
+-- what is subscribed again is answered, or the time for it is over
+pub served_kept : {P : Option ℕ → List Request → Life → List ℕ → List LinkAct → Type 0} → IsKept P → (w : Work) → At P w → At P (served w)
+served_kept {P = P} k w h = chosen (At P) (is_repeating w.conn) (all_fresh (repeating w again.Nothing)) w (λ t. h) (λ f. h)
+
+-- a message that the link has settled: it is a request's, or that of new credentials, or the one that subscribes again
 pub settled_one_kept : {P : Option ℕ → List Request → Life → List ℕ → List LinkAct → Type 0} → IsKept P → (w : Work) (s : Settled) → At P w → At P (settled_one w s)
-settled_one_kept {P = P} k w s h = chosen (At P) (s.id == renewal_id) _ (answered w s.id (outcome_of s.verdict)) (λ t. h) (λ f. answered_kept k w s.id (outcome_of s.verdict) h)
+settled_one_kept {P = P} k w s h = chosen (At P) (s.id == renewal_id) _ (settled_other w s) (λ t. h)
+    (λ f. chosen (At P) (s.id == repeat_id) (served w) (answered w s.id (outcome_of s.verdict)) (λ t. served_kept k w h) (λ g. answered_kept k w s.id (outcome_of s.verdict) h))
 
 -- what the link settled
 pub settled_kept : {P : Option ℕ → List Request → Life → List ℕ → List LinkAct → Type 0} → IsKept P → (w : Work) (ss : List Settled) → At P w → At P (settled_each w ss)
@@ -469,7 +487,7 @@ applied_kept k w deserted h = unauthorized_kept k w (error.AuthFailed []) w.conn
 applied_kept k w (renewed c) h = expecting_kept k w c h
 applied_kept k w unrenewed h = h
 applied_kept k w (late n) h = late_for_kept k w n h
-applied_kept k w unrepeated h = h
+applied_kept k w unrepeated h = served_kept k w h
 applied_kept k w dropped h = dropped_kept k w h
 applied_kept k w shut h = shut_kept k w w.conn.life h
 
@@ -512,6 +530,41 @@ started_at_kept k w (Ended e) g h = h
 pub started_kept : {P : Option ℕ → List Request → Life → List ℕ → List LinkAct → Type 0} → IsKept P → (w : Work) → At P w → At P (started w)
 started_kept k w h = started_at_kept k w w.conn.life h h
 
+-- what is subscribed again is
+--
+-- its message starts before all others
+repeat_moved_kept : {P : Option ℕ → List Request → Life → List ℕ → List LinkAct → Type 0} → IsKept P → (w : Work) (life : Life) (a : Again) → P w.conn.limit w.conn.requests life w.conn.moved w.acts → At P w → At P (repeat_moved w life a)
+repeat_moved_kept {P = P} k w (Ready l) (again.Due packed of_shape timed) g h =
+    let q = repeat_queued packed of_shape in
+    chosen (At P) (holds_back l) w (repeat_told w l packed of_shape) (λ t. h)
+    (λ f. k.show w.conn.limit w.conn.requests (Ready (begun l q)) w.conn.moved w.acts (repeat_act (start_of l.started q)) (λ n. refl) (k.say w.conn.limit w.conn.requests l w.conn.moved w.acts q (inr refl) g))
+repeat_moved_kept k w (Ready l) again.Nothing g h = h
+repeat_moved_kept k w (Ready l) again.Sent g h = h
+repeat_moved_kept k w Resting a g h = h
+repeat_moved_kept k w Dialing a g h = h
+repeat_moved_kept k w (Wanting l) a g h = h
+repeat_moved_kept k w (SettingUp l greeting) a g h = h
+repeat_moved_kept k w (Ended e) a g h = h
+
+-- behind its timer, where it is to be answered within a time
+repeat_timed_kept : {P : Option ℕ → List Request → Life → List ℕ → List LinkAct → Type 0} → IsKept P → (w : Work) (within : Option ℕ) (a : Again) → At P w → At P (repeat_moved (repeat_timed w within) w.conn.life a)
+repeat_timed_kept k w None a h = repeat_moved_kept k w w.conn.life a h h
+repeat_timed_kept k w (Some ms) a h =
+    let x = act.RepeatTimer ms in
+    let g = k.show w.conn.limit w.conn.requests w.conn.life w.conn.moved w.acts x (λ n. refl) h in
+    repeat_moved_kept k (acted w x) w.conn.life a g g
+
+-- which is asked for once
+pub repeated_kept : {P : Option ℕ → List Request → Life → List ℕ → List LinkAct → Type 0} → IsKept P → (w : Work) → At P w → At P (repeated w)
+repeated_kept {P = P} k w h =
+    let a = w.conn.again in
+    let d = repeating w (with_timer a) in
+    chosen (At P) (is_ready w.conn.life && is_to_start a) (repeat_moved (repeat_asked w) w.conn.life a) w
+    (λ t. chosen (λ (x : Work). At P (repeat_moved x w.conn.life a)) (is_untimed a) (repeat_timed d w.conn.renewal.within) d
+    (λ u. repeat_timed_kept k d w.conn.renewal.within a h)
+    (λ u. repeat_moved_kept k d w.conn.life a h h))
+    (λ f. h)
+
 -- new credentials are told
 --
 -- their message starts before the queue
@@ -519,7 +572,7 @@ renewal_moved_kept : {P : Option ℕ → List Request → Life → List ℕ → 
 renewal_moved_kept {P = P} k w (Ready l) (c ∷ cs) g h =
     let q = renewal_queued c in
     chosen (At P) (holds_back l) w (renewal_told w l c cs) (λ t. h)
-    (λ f. k.show w.conn.limit w.conn.requests (Ready (begun l q)) w.conn.moved w.acts (renewal_act (start_of l.started q)) (λ n. refl) (k.renew w.conn.limit w.conn.requests l w.conn.moved w.acts q refl g))
+    (λ f. k.show w.conn.limit w.conn.requests (Ready (begun l q)) w.conn.moved w.acts (renewal_act (start_of l.started q)) (λ n. refl) (k.say w.conn.limit w.conn.requests l w.conn.moved w.acts q (inl refl) g))
 renewal_moved_kept k w (Ready l) [] g h = h
 renewal_moved_kept k w Resting cs g h = h
 renewal_moved_kept k w Dialing cs g h = h
@@ -545,6 +598,10 @@ renewed_kept {P = P} k w h =
     (λ u. renewal_moved_kept k w w.conn.life r.waiting h h)
     (λ u. renewal_timed_kept k d r.asked r.within r.waiting h))
     (λ f. h)
+
+-- so is all that the driver says itself
+pub said_kept : {P : Option ℕ → List Request → Life → List ℕ → List LinkAct → Type 0} → IsKept P → (w : Work) → At P w → At P (said w)
+said_kept k w h = renewed_kept k (repeated w) (repeated_kept k w h)
 
 -- an answer at its place
 pub told_kept : {P : Option ℕ → List Request → Life → List ℕ → List LinkAct → Type 0} → IsKept P → (w : Work) (q : Waiting) → At P w → At P (told_at_place w q)
@@ -611,7 +668,7 @@ rounds_of_kept k w (q ∷ qs) h = rounds_of_kept k (round_begun w q) qs (round_k
 
 -- and those of all that go on waiting
 rounds_kept : {P : Option ℕ → List Request → Life → List ℕ → List LinkAct → Type 0} → IsKept P → (w : Work) → At P w → At P (rounds_begun w)
-rounds_kept {P = P} k w h = chosen (At P) (w.conn.rounds && is_ready w.conn.life) (rounds_of w w.conn.fresh) w (λ t. rounds_of_kept k w w.conn.fresh h) (λ f. h)
+rounds_kept {P = P} k w h = chosen (At P) (w.conn.rounds && is_serving w.conn) (rounds_of w w.conn.fresh) w (λ t. rounds_of_kept k w w.conn.fresh h) (λ f. h)
 
 -- permits
 --
@@ -679,9 +736,9 @@ admitted_each_kept {P = P} k w (q ∷ qs) h = chosen (At P) (admits_none w.conn)
 -- what a turn moves
 pub moved_all_kept : {P : Option ℕ → List Request → Life → List ℕ → List LinkAct → Type 0} → IsKept P → (w : Work) → At P w → At P (moved_all w)
 moved_all_kept k w h =
-    let v = renewals.renewed w in
+    let v = said w in
     let d = moved_up_all (started v) in
-    admitted_each_kept k (still_waiting d []) d.conn.waiting (moved_up_all_kept k (started v) (started_kept k v (renewed_kept k w h)))
+    admitted_each_kept k (still_waiting d []) d.conn.waiting (moved_up_all_kept k (started v) (started_kept k v (said_kept k w h)))
 
 -- and the rounds that begin behind that
 pub passed_kept : {P : Option ℕ → List Request → Life → List ℕ → List LinkAct → Type 0} → IsKept P → (w : Work) → At P w → At P (passed w)

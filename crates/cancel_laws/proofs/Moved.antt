@@ -1,6 +1,6 @@
 -- A connection moves its requests, and tells new credentials, the same where one request's outcome is looked away from, once its
 -- message has left the queue.
-use Rattle.std.proofs.Common.{◌≡◌, ◌≢◌, ℕ, ◌-◌, ◌<◌, ◌==◌, ◌&&◌, Bool, true, false, List, [], ◌∷◌, ◌++◌, length, if◌then◌else◌, refl, sym, ap, ◌∙◌, Option, Some, None, arith}
+use Rattle.std.proofs.Common.{◌≡◌, ◌≢◌, ℕ, ◌-◌, ◌<◌, ◌==◌, ◌&&◌, Bool, true, false, List, [], ◌∷◌, ◌++◌, length, if◌then◌else◌, refl, sym, ap, ◌∙◌, Option, Some, None, arith, inl, inr, ◌||◌, not}
 use Rattle.containers.proofs.Choices.{by_test, chosen, either, either_by, left_if, eq_from, ne_from, both_right}
 use Rattle.redis_error.specs.declared.fault_kind.FaultKind.TheVariants as kinds
 use Rattle.redis_error.specs.declared.redis_error.RedisError.TheVariants as error
@@ -15,26 +15,29 @@ use Rattle.link_core.specs.Link.{LinkState, enqueued, begun, start_of, holds_bac
 use Rattle.link_core.specs.Outbox.{can_offer}
 use Rattle.link_laws.proofs.Cancels.{start_alike}
 use Rattle.mux_conn.specs.declared.act.LinkAct.TheVariants as act
+use Rattle.mux_conn.specs.declared.again.Again.{Again}
+use Rattle.mux_conn.specs.declared.again.Again.TheVariants as again
 use Rattle.mux_conn.specs.declared.connection.MultiplexedConnection.{MultiplexedConnection}
 use Rattle.mux_conn.specs.declared.life.Life.{Life}
 use Rattle.mux_conn.specs.declared.life.Life.TheVariants.{Resting, Dialing, Wanting, SettingUp, Ready, Ended}
 use Rattle.mux_conn.specs.declared.request.Progress.TheVariants as progress
 use Rattle.mux_conn.specs.declared.request.Request.{Request}
 use Rattle.mux_conn.specs.declared.request.Waiting.{Waiting}
-use Rattle.mux_conn.specs.Connection.{Work, acted, at_life, with_link, with_setup, has_no_permit, admits_none_at, admits_none, has_room, has_room_at, in_front, is_due, is_ready, first_queued}
+use Rattle.mux_conn.specs.Connection.{Work, acted, at_life, with_link, with_setup, has_no_permit, admits_none_at, admits_none, has_room, has_room_at, in_front, is_due, is_ready, first_queued, is_outstanding, is_serving}
 use Rattle.mux_conn.specs.Requests.{is_waiting, is_admitted, is_placed, is_open_at, is_waiting_at, is_admitted_at, is_placed_at, name_at, permits_at, with_permits, given_back, closed, answered, waiting_of, asked, is_unbegun, is_unbegun_at, progressed}
 use Rattle.mux_conn.specs.Effects.{cancelled_in, left, timed_out}
 use Rattle.mux_conn.specs.Renewals as renewals
 use Rattle.mux_conn.specs.Renewals.{renewing, renewal_id, renewal_queued, asked_next, told_next, renewal_act, renewal_timed, renewal_asked, renewal_told, renewal_moved}
-use Rattle.mux_conn.specs.Passes.{shown_each, starts_with, started_at, started, message_of, placed_at, told_at_place, seated, still_admitted, moved_up, moved_up_each, moved_up_all, put_behind, seated_or_behind, permits_taken, holding, took_shown, took as holds, timer_asked, let_in, admitted_at, admitted, still_waiting, admitted_each, admitted_all, passed, round_begun, rounds_of, rounds_begun, moved_all}
+use Rattle.mux_conn.specs.Passes.{shown_each, starts_with, started_at, started, message_of, placed_at, told_at_place, seated, still_admitted, moved_up, moved_up_each, moved_up_all, put_behind, seated_or_behind, permits_taken, holding, took_shown, took as holds, timer_asked, let_in, admitted_at, admitted, still_waiting, admitted_each, admitted_all, passed, round_begun, rounds_of, rounds_begun, moved_all, said}
 use Rattle.mux_conn.specs.Turn.{written_at, written, is_from, moved_wait, early_wait, fresh_wait, wait_shown, moved_each_shown, moved_shown, fresh_each_shown, fresh_shown, waits_shown, flushed}
 use Rattle.cancel_laws.specs.ButFor.{hushed_link, hushed_life}
 use Rattle.cancel_laws.proofs.Requests.{names, name_stays, progress_apart, progress_push, progress_count, permits_other, permits_push, goes_apart, own_closed, test_other, same_test, other_test, unbegun_waits, unbegun_not}
 use Rattle.cancel_laws.proofs.Names.{IsOwn}
 use Rattle.cancel_laws.proofs.Links.{alike_hushed, none_leaves, hushed_begun, hushed_started, hushed_cancelled, own_cancelled}
-use Rattle.cancel_laws.proofs.Kept.{At, There, renewed_kept, started_kept, told_kept, moved_up_kept, moved_up_all_kept, let_in_admitted, let_in_kept, admitted_kept, unlimited_kept, written_kept, wait_kept, moved_shown_kept, round_kept, round_waits, moved_all_kept}
+use Rattle.cancel_laws.proofs.Kept.{At, There, started_kept, told_kept, moved_up_kept, moved_up_all_kept, let_in_admitted, let_in_kept, admitted_kept, unlimited_kept, written_kept, wait_kept, moved_shown_kept, round_kept, round_waits, moved_all_kept, repeated_kept, said_kept}
 use Rattle.cancel_laws.proofs.Gone.{NoneQueued, NoneIs, IsGone, gone_kept, IsAway, away_kept}
-use Rattle.cancel_laws.proofs.Bare.{bare_conn, bare, bare_acted, open_same, closed_stays, closed_twice, closed_apart, answered_own, answered_other, bare_answered, ready_same}
+use Rattle.cancel_laws.proofs.Bare.{bare_conn, bare, bare_acted, open_same, closed_stays, closed_twice, closed_apart, answered_own, answered_other, bare_answered, ready_same, repeating_same}
+use Rattle.mux_conn.specs.Repeats.{is_to_start, is_untimed, with_timer, repeating, repeat_id, repeat_queued, repeat_timed, repeat_asked, repeat_act, repeat_told, repeat_moved, repeated}
 
 -- requests
 --
@@ -164,6 +167,45 @@ bare_started_at n p w (Ended e) none = refl
 bare_started : (n p : ℕ) (w : Work) → At (There (IsGone n p)) w → bare n p (started w) ≡ started (bare n p w)
 bare_started n p w h = bare_started_at n p w w.conn.life h.none
 
+-- what is subscribed again is
+--
+-- its message starts before all others
+bare_repeat_moved : (n p : ℕ) (w : Work) (life : Life) (x : Again) → repeat_id ≢ p → bare n p (repeat_moved w life x) ≡ repeat_moved (bare n p w) (hushed_life p life) x
+bare_repeat_moved n p w (Ready l) (again.Due packed of_shape timed) apart =
+    let q = repeat_queued packed of_shape in
+    let a = repeat_act (start_of l.started q) in
+    let d = with_link (repeating w again.Sent) (begun l q) in
+    either (bare n p) (holds_back l) w (repeat_told w l packed of_shape) (bare n p w) (repeat_told (bare n p w) (hushed_link p l) packed of_shape) (λ t. refl)
+    (λ f. bare_acted n p d a (λ m. refl) ∙ ap (λ (k : LinkState). acted (with_link (repeating (bare n p w) again.Sent) k) a) (hushed_begun p l q apart))
+bare_repeat_moved n p w (Ready l) again.Nothing apart = refl
+bare_repeat_moved n p w (Ready l) again.Sent apart = refl
+bare_repeat_moved n p w Resting x apart = refl
+bare_repeat_moved n p w Dialing x apart = refl
+bare_repeat_moved n p w (Wanting l) x apart = refl
+bare_repeat_moved n p w (SettingUp l greeting) x apart = refl
+bare_repeat_moved n p w (Ended e) x apart = refl
+
+-- its timer
+bare_repeat_timed : (n p : ℕ) (w : Work) (within : Option ℕ) → bare n p (repeat_timed w within) ≡ repeat_timed (bare n p w) within
+bare_repeat_timed n p w None = refl
+bare_repeat_timed n p w (Some ms) = bare_acted n p w (act.RepeatTimer ms) (λ m. refl)
+
+-- which is asked for once
+bare_repeat_asked : (n p : ℕ) (w : Work) → bare n p (repeat_asked w) ≡ repeat_asked (bare n p w)
+bare_repeat_asked n p w =
+    let a = w.conn.again in
+    let d = repeating w (with_timer a) in
+    either (bare n p) (is_untimed a) (repeat_timed d w.conn.renewal.within) d (repeat_timed (bare n p d) w.conn.renewal.within) (bare n p d) (λ t. bare_repeat_timed n p d w.conn.renewal.within) (λ f. refl)
+
+-- so all of it
+bare_repeated : (n p : ℕ) (w : Work) → At (There (IsGone n p)) w → bare n p (repeated w) ≡ repeated (bare n p w)
+bare_repeated n p w h =
+    let a = w.conn.again in
+    either_by (bare n p) (is_ready w.conn.life && is_to_start a) (is_ready (hushed_life p w.conn.life) && is_to_start a) (repeat_moved (repeat_asked w) w.conn.life a) w
+    (repeat_moved (repeat_asked (bare n p w)) (hushed_life p w.conn.life) a) (bare n p w) (ap (λ (b : Bool). b && is_to_start a) (ready_same p w.conn.life))
+    (λ t. bare_repeat_moved n p (repeat_asked w) w.conn.life a (h.apart repeat_id (inr refl)) ∙ ap (λ (x : Work). repeat_moved x (hushed_life p w.conn.life) a) (bare_repeat_asked n p w))
+    (λ f. refl)
+
 -- new credentials are told
 --
 -- their message starts before the queue
@@ -199,8 +241,12 @@ bare_renewed n p w h =
     let r = w.conn.renewal in
     either_by (bare n p) (is_ready w.conn.life && is_due r) (is_ready (hushed_life p w.conn.life) && is_due r) (renewal_moved (renewal_asked w) w.conn.life r.waiting) w
     (renewal_moved (renewal_asked (bare n p w)) (hushed_life p w.conn.life) r.waiting) (bare n p w) (ap (λ (b : Bool). b && is_due r) (ready_same p w.conn.life))
-    (λ t. bare_renewal_moved n p (renewal_asked w) w.conn.life r.waiting h.apart ∙ ap (λ (x : Work). renewal_moved x (hushed_life p w.conn.life) r.waiting) (bare_renewal_asked n p w))
+    (λ t. bare_renewal_moved n p (renewal_asked w) w.conn.life r.waiting (h.apart renewal_id (inl refl)) ∙ ap (λ (x : Work). renewal_moved x (hushed_life p w.conn.life) r.waiting) (bare_renewal_asked n p w))
     (λ f. refl)
+
+-- and all that the driver says itself
+bare_said : (n p : ℕ) (w : Work) → At (There (IsGone n p)) w → bare n p (said w) ≡ said (bare n p w)
+bare_said n p w h = bare_renewed n p (repeated w) (repeated_kept (gone_kept n p) w h) ∙ ap renewals.renewed (bare_repeated n p w h)
 
 -- requests take places
 --
@@ -296,8 +342,8 @@ bare_rounds_of n p w (q ∷ qs) h = bare_rounds_of n p (round_begun w q) qs (rou
 -- and those of all that go on waiting
 bare_rounds : (n p : ℕ) (w : Work) → At (There (IsGone n p)) w → bare n p (rounds_begun w) ≡ rounds_begun (bare n p w)
 bare_rounds n p w h =
-    either_by (bare n p) (w.conn.rounds && is_ready w.conn.life) (w.conn.rounds && is_ready (hushed_life p w.conn.life)) (rounds_of w w.conn.fresh) w (rounds_of (bare n p w) w.conn.fresh) (bare n p w)
-    (ap (λ (b : Bool). w.conn.rounds && b) (ready_same p w.conn.life)) (λ t. bare_rounds_of n p w w.conn.fresh h) (λ f. refl)
+    either_by (bare n p) (w.conn.rounds && is_serving w.conn) (w.conn.rounds && is_serving (bare_conn p w.conn)) (rounds_of w w.conn.fresh) w (rounds_of (bare n p w) w.conn.fresh) (bare n p w)
+    (ap (λ (b : Bool). w.conn.rounds && (b && not (is_outstanding w.conn.again))) (ready_same p w.conn.life)) (λ t. bare_rounds_of n p w w.conn.fresh h) (λ f. refl)
 
 -- permits
 --
@@ -373,36 +419,36 @@ bare_admitted n p w q none h =
     (λ f. refl)
 
 -- where permits aren't counted, whether requests can be moved at all depends neither on the row nor on permits
-stuck_same : (p : ℕ) (life : Life) (lim : Option ℕ) (j k : ℕ) → lim ≡ None → admits_none_at life (has_no_permit lim j) ≡ admits_none_at (hushed_life p life) (has_no_permit lim k)
-stuck_same p Resting lim j k none = refl
-stuck_same p Dialing lim j k none = refl
-stuck_same p (Wanting l) lim j k none = refl
-stuck_same p (SettingUp l greeting) lim j k none = refl
-stuck_same p (Ready l) None j k none = refl
-stuck_same p (Ready l) (Some most) j k none = cc
-stuck_same p (Ended e) lim j k none = refl
+stuck_same : (p : ℕ) (life : Life) (x : Bool) (lim : Option ℕ) (j k : ℕ) → lim ≡ None → admits_none_at life (x || has_no_permit lim j) ≡ admits_none_at (hushed_life p life) (x || has_no_permit lim k)
+stuck_same p Resting x lim j k none = refl
+stuck_same p Dialing x lim j k none = refl
+stuck_same p (Wanting l) x lim j k none = refl
+stuck_same p (SettingUp l greeting) x lim j k none = refl
+stuck_same p (Ready l) x None j k none = refl
+stuck_same p (Ready l) x (Some most) j k none = cc
+stuck_same p (Ended e) x lim j k none = refl
 
 -- all that wait for the connection are moved
 bare_admitted_each : (n p : ℕ) (w : Work) (qs : List Waiting) → w.conn.limit ≡ None → At (There (IsGone n p)) w → bare n p (admitted_each w qs) ≡ admitted_each (bare n p w) qs
 bare_admitted_each n p w [] none h = refl
 bare_admitted_each n p w (q ∷ qs) none h =
-    either_by (bare n p) (admits_none w.conn) (admits_none (bare_conn p w.conn)) _ _ _ _ (stuck_same p w.conn.life w.conn.limit w.conn.free (bare_conn p w.conn).free none) (λ t. refl)
+    either_by (bare n p) (admits_none w.conn) (admits_none (bare_conn p w.conn)) _ _ _ _ (stuck_same p w.conn.life (is_outstanding w.conn.again) w.conn.limit w.conn.free (bare_conn p w.conn).free none) (λ t. refl)
     (λ f. bare_admitted_each n p (admitted w q) qs (admitted_kept unlimited_kept w q none) (admitted_kept (gone_kept n p) w q h)
     ∙ ap (λ (x : Work). admitted_each x qs) (bare_admitted n p w q none h))
 
 -- what a turn moves, where permits aren't counted
 bare_moved_all : (n p : ℕ) (w : Work) → w.conn.limit ≡ None → At (There (IsGone n p)) w → bare n p (moved_all w) ≡ moved_all (bare n p w)
 bare_moved_all n p w none h =
-    let v = renewals.renewed w in
+    let v = said w in
     let d = started v in
     let e = moved_up_all d in
-    let g : At (There (IsGone n p)) v = renewed_kept (gone_kept n p) w h in
-    let free = started_kept unlimited_kept v (renewed_kept unlimited_kept w none) in
+    let g : At (There (IsGone n p)) v = said_kept (gone_kept n p) w h in
+    let free = started_kept unlimited_kept v (said_kept unlimited_kept w none) in
     let k : At (There (IsGone n p)) d = started_kept (gone_kept n p) v g in
     bare_admitted_each n p (still_waiting e []) e.conn.waiting (moved_up_all_kept unlimited_kept d free) (moved_up_all_kept (gone_kept n p) d k)
     ∙ ap admitted_all (bare_moved_up_each n p (still_admitted d []) d.conn.admitted k)
     ∙ ap (λ (x : Work). admitted_all (moved_up_all x)) (bare_started n p v g)
-    ∙ ap (λ (x : Work). admitted_all (moved_up_all (started x))) (bare_renewed n p w h)
+    ∙ ap (λ (x : Work). admitted_all (moved_up_all (started x))) (bare_said n p w h)
 
 -- and the rounds that begin behind that
 pub bare_passed : (n p : ℕ) (w : Work) → w.conn.limit ≡ None → At (There (IsGone n p)) w → bare n p (passed w) ≡ passed (bare n p w)
@@ -458,8 +504,9 @@ moved_wait_same n p c q o h =
 fresh_wait_same : (n p : ℕ) (c : MultiplexedConnection) (q : ℕ) → IsGone n p c.requests c.life → fresh_wait c q ≡ fresh_wait (bare_conn p c) q
 fresh_wait_same n p c q h =
     let a = same_test is_waiting c.requests p q refl h.past in
+    let g = repeating_same p c in
     let d = early_same p c.life in
-    λ i. if a i then Some (d i) else None
+    λ i. if a i then Some (if g i then wait.Resubscribe else d i) else None
 
 -- all waits of those that were moved
 bare_moved_each_shown : (n p : ℕ) (w : Work) (qs : List ℕ) → NoneIs p qs → At (There (IsGone n p)) w → bare n p (moved_each_shown w qs) ≡ moved_each_shown (bare n p w) qs

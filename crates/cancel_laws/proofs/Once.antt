@@ -1,5 +1,5 @@
 -- A request has at most one message on its link.
-use Rattle.std.proofs.Common.{◌≡◌, ◌≢◌, ℕ, zero, suc, ◌+◌, ◌≤◌, ◌==◌, nat_lt, ◌&&◌, Bool, true, List, [], ◌∷◌, ◌++◌, length, Option, Some, None, slice_get, if◌then◌else◌, refl, sym, ap, ◌∙◌, subst, arith}
+use Rattle.std.proofs.Common.{◌≡◌, ℕ, zero, suc, ◌+◌, ◌≤◌, ◌==◌, nat_lt, ◌&&◌, Bool, true, List, [], ◌∷◌, ◌++◌, length, Option, Some, None, slice_get, if◌then◌else◌, refl, ap, subst, arith}
 use Rattle.std.proofs.Math.Bool.{and-false}
 use Rattle.containers.proofs.Choices.{by_test, chosen, taken_if, left_if, eq_from, ne_test}
 use Rattle.resp_value.specs.Data.{Data}
@@ -20,10 +20,9 @@ use Rattle.mux_conn.specs.declared.request.Request.{Request}
 use Rattle.mux_conn.specs.Requests.{is_waiting, is_admitted, is_waiting_at, is_admitted_at, permits_at, with_permits, at_progress}
 use Rattle.mux_conn.specs.Effects.{cancelled_in}
 use Rattle.mux_conn.specs.Passes.{message_of}
-use Rattle.mux_conn.specs.Renewals.{renewal_id}
 use Rattle.cancel_laws.proofs.Counts.{count_on, count_push}
 use Rattle.cancel_laws.proofs.Links.{NoneWanted}
-use Rattle.cancel_laws.proofs.Kept.{IsKept, IsKeptThere, There, kept_there}
+use Rattle.cancel_laws.proofs.Kept.{IsKept, IsKeptThere, There, kept_there, IsApart}
 use Rattle.cancel_laws.proofs.Requests.{unbegun_waits}
 use Rattle.cancel_laws.proofs.KeptTurns.{CanAsk}
 
@@ -226,7 +225,7 @@ placed_once p q r before t l =
     (λ f. let z : one p q ≡ 0 = left_if (q == p) 1 0 f in omega (arith, share_set r p q progress.Placed (permits_at r q) refl))
 
 -- each single change keeps that, of a number that requests have
-once_there : (p : ℕ) → renewal_id ≢ p → IsKeptThere (IsOnce p)
+once_there : (p : ℕ) → IsApart p → IsKeptThere (IsOnce p)
 once_there p apart = record {
   answer = λ r life q h. record { within = omega (arith, h.within, share_set r p q progress.Closed 0 refl); alone = h.alone };
   hush = λ r life q h. record { within = omega (arith, h.within, cancelled_once p q life); alone = cancelled_alone q life h.alone };
@@ -241,8 +240,8 @@ once_there p apart = record {
   admit = λ r life q count t h. record { within = omega (arith, h.within, share_admit r p q progress.Admitted count t); alone = h.alone };
   place = λ r l q t h. record { within = omega (arith, placed_once p q.number r (all_of p (Ready l)) t h.within, places_push p l.queue (message_of q)); alone = tt };
   start = λ r l h. record { within = omega (arith, h.within, starts_same p (record { link = l; out = [] }) l.queue); alone = tt };
-  renew = λ r l q own h.
-      let other : one p q.id ≡ 0 = left_if (q.id == p) 1 0 (ne_test q.id p (λ e. apart (sym own ∙ e))) in
+  say = λ r l q own h.
+      let other : one p q.id ≡ 0 = left_if (q.id == p) 1 0 (ne_test q.id p (apart q.id own)) in
       record { within = omega (arith, h.within, times_push p l.row (entry_of q), other); alone = tt };
   offer = λ r l h. record { within = h.within; alone = tt };
   write = λ r l k h. record { within = h.within; alone = tt };
@@ -253,7 +252,7 @@ once_there p apart = record {
 }
 
 -- so each part of a turn does
-pub once_kept : (p : ℕ) → renewal_id ≢ p → IsKept (There (IsOnce p))
+pub once_kept : (p : ℕ) → IsApart p → IsKept (There (IsOnce p))
 once_kept p apart = kept_there (once_there p apart)
 
 -- and one more submission does

@@ -1,5 +1,5 @@
 -- What is true of a session after each history.
-use Rattle.std.proofs.Common.{◌≡◌, ◌≢◌, ℕ, ◌==◌, List, [], ◌∷◌, ◌++◌, length, Option, Some, None, slice_get, refl, sym, ◌∙◌, subst, arith, false, is_some, Bool, true, ap}
+use Rattle.std.proofs.Common.{◌≡◌, ℕ, ◌==◌, List, [], ◌∷◌, ◌++◌, length, Option, Some, None, slice_get, refl, sym, ◌∙◌, subst, arith, false, is_some, Bool, true, ap}
 use Rattle.containers.proofs.Choices.{chosen}
 use Rattle.driver_model.specs.declared.action.Owner.TheVariants as owner
 use Rattle.driver_model.specs.declared.action.Purpose.{Purpose}
@@ -19,7 +19,6 @@ use Rattle.mux_conn.specs.declared.request.Progress.TheVariants as progress
 use Rattle.mux_conn.specs.declared.request.Request.{Request}
 use Rattle.mux_conn.specs.Requests.{permits_at}
 use Rattle.mux_conn.specs.Passes.{passed}
-use Rattle.mux_conn.specs.Renewals.{renewal_id}
 use Rattle.shared_session.specs.declared.core_state.Core.{Core}
 use Rattle.shared_session.specs.Turn.{Turning, work_of, heard, left_by, late_by, fired_by, requested, effect, counted, moved_on, next_turn}
 use Rattle.shared_session.specs.Replay.{opening_core, run_on, state_after, single_core, as_managed}
@@ -27,7 +26,7 @@ use Rattle.shared_session.proofs.Plain.{plain_after, plain_opening, plain_turn}
 use Rattle.shared_session.proofs.Stays.{turn_plain}
 use Rattle.cancel_laws.proofs.Requests.{names, names_stay, names_push, names_count}
 use Rattle.cancel_laws.proofs.Names.{AreNamed, named_refused, named_asked}
-use Rattle.cancel_laws.proofs.Kept.{IsKept, IsKeptThere, There, kept_there, Unlimited, passed_kept, flushed_kept}
+use Rattle.cancel_laws.proofs.Kept.{IsKept, IsKeptThere, There, kept_there, Unlimited, passed_kept, flushed_kept, IsApart}
 use Rattle.cancel_laws.proofs.KeptTurns.{AtCore, heard_kept, left_by_kept, fired_kept, turn_kept}
 use Rattle.cancel_laws.proofs.Once.{IsOnce, once_kept, once_asks}
 use Rattle.cancel_laws.proofs.Rest.{IsIdle}
@@ -56,7 +55,7 @@ names_there ns = record {
   admit = λ r life q count t h. names_stay r q progress.Admitted count ∙ h;
   place = λ r l q t h. names_stay r q.number progress.Placed (permits_at r q.number) ∙ h;
   start = λ r l h. h;
-  renew = λ r l q own h. h;
+  say = λ r l q own h. h;
   offer = λ r l h. h;
   write = λ r l k h. h;
   come = λ r l what piece h. h;
@@ -169,10 +168,10 @@ named_on c (e ∷ es) h = named_on (next_turn c e.kind).core es (named_turn c e.
 
 -- and of any opening
 named_as : (m : Option ConnectionManagerConfig) (at : Option ConnectionInfo) (lazy : Bool) (config : Config) → IsNamed (as_managed m at lazy (single_core config))
-named_as None at lazy config = record { named = record { to = λ n p e. cc; back = λ q n e. cc; fewer = omega arith }; idle = record { written = record { moved = record { seated = record { through = record { queue = tt; renewed = λ t. cc }; admitted = λ t. refl }; waiting = λ f. refl }; offered = tt }; calm = refl; fresh = refl } }
-named_as (Some settings) None lazy config = record { named = record { to = λ n p e. cc; back = λ q n e. cc; fewer = omega arith }; idle = record { written = record { moved = record { seated = record { through = record { queue = tt; renewed = λ t. cc }; admitted = λ t. refl }; waiting = λ f. refl }; offered = tt }; calm = refl; fresh = refl } }
-named_as (Some settings) (Some info) false config = record { named = record { to = λ n p e. cc; back = λ q n e. cc; fewer = omega arith }; idle = record { written = record { moved = record { seated = record { through = record { queue = tt; renewed = λ t. cc }; admitted = λ t. refl }; waiting = λ f. refl }; offered = tt }; calm = refl; fresh = refl } }
-named_as (Some settings) (Some info) true config = record { named = record { to = λ n p e. cc; back = λ q n e. cc; fewer = omega arith }; idle = record { written = record { moved = record { seated = record { through = record { queue = tt; renewed = λ t. cc }; admitted = λ t. refl }; waiting = λ f. refl }; offered = tt }; calm = refl; fresh = refl } }
+named_as None at lazy config = record { named = record { to = λ n p e. cc; back = λ q n e. cc; fewer = omega arith }; idle = record { written = record { moved = record { seated = record { through = record { queue = tt; repeated = λ t. cc; renewed = λ t. cc }; admitted = λ t. refl }; waiting = λ f. refl }; offered = tt }; calm = refl; fresh = refl } }
+named_as (Some settings) None lazy config = record { named = record { to = λ n p e. cc; back = λ q n e. cc; fewer = omega arith }; idle = record { written = record { moved = record { seated = record { through = record { queue = tt; repeated = λ t. cc; renewed = λ t. cc }; admitted = λ t. refl }; waiting = λ f. refl }; offered = tt }; calm = refl; fresh = refl } }
+named_as (Some settings) (Some info) false config = record { named = record { to = λ n p e. cc; back = λ q n e. cc; fewer = omega arith }; idle = record { written = record { moved = record { seated = record { through = record { queue = tt; repeated = λ t. cc; renewed = λ t. cc }; admitted = λ t. refl }; waiting = λ f. refl }; offered = tt }; calm = refl; fresh = refl } }
+named_as (Some settings) (Some info) true config = record { named = record { to = λ n p e. cc; back = λ q n e. cc; fewer = omega arith }; idle = record { written = record { moved = record { seated = record { through = record { queue = tt; repeated = λ t. cc; renewed = λ t. cc }; admitted = λ t. refl }; waiting = λ f. refl }; offered = tt }; calm = refl; fresh = refl } }
 
 pub opening_named : (config : Config) (word : ℕ) → IsNamed (opening_core config word)
 opening_named config word = named_as (manager_of config) (address config) (is_lazy config) config
@@ -180,7 +179,7 @@ opening_named config word = named_as (manager_of config) (address config) (is_la
 -- nothing is left to do, requests have one message at most and names of their own, and the session doesn't come back
 pub record IsReady (c : Core) : Type 0 where
   pub idle : IsIdle c.single.connection
-  pub once : (p : ℕ) → renewal_id ≢ p → IsOnce p c.single.connection.requests c.single.connection.life
+  pub once : (p : ℕ) → IsApart p → IsOnce p c.single.connection.requests c.single.connection.life
   pub named : AreNamed c.table (names c.single.connection.requests)
   pub plain : is_some c.manager ≡ false
 
@@ -209,7 +208,7 @@ ready_on c (e ∷ es) h = ready_on (next_turn c e.kind).core es (ready_turn c e.
 single_ready : (config : Config) → IsReady (single_core config)
 single_ready config = record {
   idle = record {
-    written = record { moved = record { seated = record { through = record { queue = tt; renewed = λ t. cc }; admitted = λ t. refl }; waiting = λ f. refl }; offered = tt };
+    written = record { moved = record { seated = record { through = record { queue = tt; repeated = λ t. cc; renewed = λ t. cc }; admitted = λ t. refl }; waiting = λ f. refl }; offered = tt };
     calm = refl;
     fresh = refl;
   };

@@ -10,6 +10,8 @@ use Rattle.link_core.specs.Link.{LinkState, Starting, holds_back, offered_of, st
 use Rattle.link_core.specs.Outbox.{can_offer}
 use Rattle.credentials.specs.Credentials.{Credentials}
 use Rattle.mux_conn.specs.declared.act.LinkAct.TheVariants as act
+use Rattle.mux_conn.specs.declared.again.Again.{Again}
+use Rattle.mux_conn.specs.declared.again.Again.TheVariants as again
 use Rattle.mux_conn.specs.declared.connection.MultiplexedConnection.{MultiplexedConnection}
 use Rattle.mux_conn.specs.declared.life.Greeting.{Greeting}
 use Rattle.mux_conn.specs.declared.life.Life.{Life}
@@ -17,16 +19,17 @@ use Rattle.mux_conn.specs.declared.life.Life.TheVariants.{Resting, Dialing, Want
 use Rattle.mux_conn.specs.declared.request.Progress.TheVariants as progress
 use Rattle.mux_conn.specs.declared.request.Waiting.{Waiting}
 use Rattle.mux_conn.specs.declared.renewal.Renewal.{Renewal}
-use Rattle.mux_conn.specs.Connection.{Work, acted, at_life, with_link, with_setup, has_no_permit, admits_none_at, admits_none, has_room, has_room_at, in_front, is_due, is_held_back, is_ready, are_some}
+use Rattle.mux_conn.specs.Connection.{Work, acted, at_life, with_link, with_setup, has_no_permit, admits_none_at, admits_none, has_room, has_room_at, in_front, is_due, is_held_back, is_ready, are_some, is_outstanding, is_serving}
 use Rattle.mux_conn.specs.Renewals as renewals
 use Rattle.mux_conn.specs.Renewals.{renewing, asked_next, renewal_timed, renewal_asked, renewal_told, renewal_moved}
 use Rattle.mux_conn.specs.Requests.{is_open_at, is_waiting_at, is_admitted_at, name_at, closed, answered, is_unbegun_at, progressed}
 use Rattle.mux_conn.specs.Effects.{cancelled_in, left}
-use Rattle.mux_conn.specs.Passes.{shown_each, starts_with, greeting_act, greeted_each, greets_with, started_at, started, placed_at, told_at_place, seated, still_admitted, moved_up, moved_up_each, moved_up_all, put_behind, seated_or_behind, let_in, admitted_at, admitted, still_waiting, admitted_each, admitted_all, passed, moved_all, round_begun, rounds_of, rounds_begun}
+use Rattle.mux_conn.specs.Passes.{shown_each, starts_with, greeting_act, greeted_each, greets_with, started_at, started, placed_at, told_at_place, seated, still_admitted, moved_up, moved_up_each, moved_up_all, put_behind, seated_or_behind, let_in, admitted_at, admitted, still_waiting, admitted_each, admitted_all, passed, moved_all, round_begun, rounds_of, rounds_begun, said}
 use Rattle.mux_conn.specs.Turn.{written_at, written, moved_wait, fresh_wait, wait_shown, moved_each_shown, moved_shown, fresh_each_shown, fresh_shown, waits_shown, flushed}
 use Rattle.cancel_laws.proofs.Links.{none_leaves}
 use Rattle.cancel_laws.proofs.Kept.{let_in_conn}
 use Rattle.cancel_laws.proofs.Gone.{NoneQueued}
+use Rattle.mux_conn.specs.Repeats.{is_to_start, is_untimed, with_timer, repeating, repeat_timed, repeat_asked, repeat_told, repeat_moved, repeated}
 
 -- nothing left to do
 --
@@ -56,14 +59,19 @@ HasOffered (Ended e) = Unit {0}
 abbrev pub HasRenewed : Renewal → Life → Type 0
 HasRenewed r life = (is_ready life && is_due r) ≡ true → (r.pending ≡ true) × (is_held_back life ≡ true)
 
--- all messages have started that may: those of requests, and those of new credentials
-pub record IsStartedOn (r : Renewal) (life : Life) : Type 0 where
+-- where something is to be subscribed again on such a link, its timer was asked for, and the link is held back
+abbrev pub HasRepeated : Again → Life → Type 0
+HasRepeated a life = (is_ready life && is_to_start a) ≡ true → (is_untimed a ≡ false) × (is_held_back life ≡ true)
+
+-- all messages have started that may: those of requests, what is subscribed again, and those of new credentials
+pub record IsStartedOn (r : Renewal) (a : Again) (life : Life) : Type 0 where
   pub queue : HasStartedAll life
+  pub repeated : HasRepeated a life
   pub renewed : HasRenewed r life
 
 -- so it is on a connection's link, and nobody waits for a place where there is one
 pub record IsSeated (c : MultiplexedConnection) : Type 0 where
-  pub through : IsStartedOn c.renewal c.life
+  pub through : IsStartedOn c.renewal c.again c.life
   pub admitted : has_room c ≡ true → c.admitted ≡ []
 
 -- nor does anybody wait for the connection or for a permit, where requests can be moved
@@ -86,11 +94,19 @@ pub record IsIdle (c : MultiplexedConnection) : Type 0 where
 --
 -- all messages of a connection have started that may
 abbrev Through : MultiplexedConnection → Type 0
-Through c = IsStartedOn c.renewal c.life
+Through c = IsStartedOn c.renewal c.again c.life
+
+-- what is to be subscribed again is, where that may be
+abbrev HasRepeatedIn : Work → Type 0
+HasRepeatedIn w = HasRepeated w.conn.again w.conn.life
 
 -- and all new credentials are told that may be
 abbrev HasRenewedIn : Work → Type 0
 HasRenewedIn w = HasRenewed w.conn.renewal w.conn.life
+
+-- both
+abbrev HasSaid : Work → Type 0
+HasSaid w = HasRepeatedIn w × HasRenewedIn w
 
 -- the first of both
 both_left : (a b : Bool) → (a && b) ≡ true → a ≡ true
@@ -127,22 +143,63 @@ setup_shown w greeting [] = refl
 setup_shown w greeting (s ∷ ss) = setup_shown (acted w (greeting_act greeting s)) greeting ss
 
 -- a function of the life that a connection has is looked at with a life that is known to be it
-started_from : (w : Work) (life : Life) → w.conn.life ≡ life → HasRenewed w.conn.renewal life → Through (started_at w life).conn
+started_from : (w : Work) (life : Life) → w.conn.life ≡ life → HasRepeated w.conn.again life × HasRenewed w.conn.renewal life → Through (started_at w life).conn
 started_from w (Ready l) e h =
     let s = started_all (record { link = l; out = [] }) in
     subst Through (sym (conn_shown (with_link w s.link) s.out))
-    (record { queue = queue_starts (record { link = l; out = [] }) l.queue; renewed = λ t. let k = h t in (k.0, held_starts (record { link = l; out = [] }) l.queue k.1) })
+    (record {
+      queue = queue_starts (record { link = l; out = [] }) l.queue;
+      repeated = λ t. let k = h.0 t in (k.0, held_starts (record { link = l; out = [] }) l.queue k.1);
+      renewed = λ t. let k = h.1 t in (k.0, held_starts (record { link = l; out = [] }) l.queue k.1);
+    })
 started_from w (SettingUp l greeting) e h =
     let s = started_all (record { link = l; out = [] }) in
-    subst Through (sym (setup_shown (with_setup w s.link greeting) greeting s.out)) (record { queue = queue_starts (record { link = l; out = [] }) l.queue; renewed = λ t. cc })
-started_from w (Wanting l) e h = subst (IsStartedOn w.conn.renewal) (sym e) (record { queue = tt; renewed = h })
-started_from w Resting e h = subst (IsStartedOn w.conn.renewal) (sym e) (record { queue = tt; renewed = h })
-started_from w Dialing e h = subst (IsStartedOn w.conn.renewal) (sym e) (record { queue = tt; renewed = h })
-started_from w (Ended x) e h = subst (IsStartedOn w.conn.renewal) (sym e) (record { queue = tt; renewed = h })
+    subst Through (sym (setup_shown (with_setup w s.link greeting) greeting s.out)) (record { queue = queue_starts (record { link = l; out = [] }) l.queue; repeated = λ t. cc; renewed = λ t. cc })
+started_from w (Wanting l) e h = subst (IsStartedOn w.conn.renewal w.conn.again) (sym e) (record { queue = tt; repeated = h.0; renewed = h.1 })
+started_from w Resting e h = subst (IsStartedOn w.conn.renewal w.conn.again) (sym e) (record { queue = tt; repeated = h.0; renewed = h.1 })
+started_from w Dialing e h = subst (IsStartedOn w.conn.renewal w.conn.again) (sym e) (record { queue = tt; repeated = h.0; renewed = h.1 })
+started_from w (Ended x) e h = subst (IsStartedOn w.conn.renewal w.conn.again) (sym e) (record { queue = tt; repeated = h.0; renewed = h.1 })
 
 -- all messages start on the link that the connection has
-all_started : (w : Work) → HasRenewed w.conn.renewal w.conn.life → Through (started w).conn
+all_started : (w : Work) → HasSaid w → Through (started w).conn
 all_started w h = started_from w w.conn.life refl h
+
+-- what is subscribed again
+--
+-- its message starts where the link isn't held back, and else it has its timer
+kept_repeated : (w : Work) (life : Life) (a : Again) → w.conn.life ≡ life → w.conn.again ≡ with_timer a → HasRepeatedIn (repeat_moved w life a)
+kept_repeated w (Ready l) (again.Due packed of_shape timed) e is =
+    chosen HasRepeatedIn (holds_back l) w (repeat_told w l packed of_shape) (λ held. λ t. (ap is_untimed is, ap is_held_back e ∙ held)) (λ f. λ t. cc)
+kept_repeated w (Ready l) again.Nothing e is = λ t. absurd (not_both (is_to_start w.conn.again) (ap is_to_start is) (both_right (is_ready w.conn.life) (is_to_start w.conn.again) t))
+kept_repeated w (Ready l) again.Sent e is = λ t. absurd (not_both (is_to_start w.conn.again) (ap is_to_start is) (both_right (is_ready w.conn.life) (is_to_start w.conn.again) t))
+kept_repeated w Resting a e is = λ t. absurd (not_both (is_ready w.conn.life) (ap is_ready e) (both_left (is_ready w.conn.life) (is_to_start w.conn.again) t))
+kept_repeated w Dialing a e is = λ t. absurd (not_both (is_ready w.conn.life) (ap is_ready e) (both_left (is_ready w.conn.life) (is_to_start w.conn.again) t))
+kept_repeated w (Wanting l) a e is = λ t. absurd (not_both (is_ready w.conn.life) (ap is_ready e) (both_left (is_ready w.conn.life) (is_to_start w.conn.again) t))
+kept_repeated w (SettingUp l greeting) a e is = λ t. absurd (not_both (is_ready w.conn.life) (ap is_ready e) (both_left (is_ready w.conn.life) (is_to_start w.conn.again) t))
+kept_repeated w (Ended x) a e is = λ t. absurd (not_both (is_ready w.conn.life) (ap is_ready e) (both_left (is_ready w.conn.life) (is_to_start w.conn.again) t))
+
+-- where its timer was asked for, asking for it changes nothing
+same_again : (a : Again) → is_untimed a ≡ false → with_timer a ≡ a
+same_again again.Nothing timed = refl
+same_again (again.Due packed of_shape true) timed = refl
+same_again (again.Due packed of_shape false) timed = cc
+same_again again.Sent timed = refl
+
+-- behind its timer its message starts as it was to
+timed_repeated : (w : Work) (within : Option ℕ) (life : Life) (a : Again) → w.conn.life ≡ life → w.conn.again ≡ with_timer a → HasRepeatedIn (repeat_moved (repeat_timed w within) life a)
+timed_repeated w None life a e is = kept_repeated w life a e is
+timed_repeated w (Some ms) life a e is = kept_repeated (acted w (act.RepeatTimer ms)) life a e is
+
+-- so all is subscribed again that may be
+all_repeated : (w : Work) → HasRepeatedIn (repeated w)
+all_repeated w =
+    let a = w.conn.again in
+    let d = repeating w (with_timer a) in
+    chosen HasRepeatedIn (is_ready w.conn.life && is_to_start a) (repeat_moved (repeat_asked w) w.conn.life a) w
+    (λ t. chosen (λ (x : Work). HasRepeatedIn (repeat_moved x w.conn.life a)) (is_untimed a) (repeat_timed d w.conn.renewal.within) d
+    (λ u. timed_repeated d w.conn.renewal.within w.conn.life a refl refl)
+    (λ u. kept_repeated d w.conn.life a refl refl))
+    (λ f. λ t. absurd (not_both (is_ready w.conn.life && is_to_start a) f t))
 
 -- new credentials
 --
@@ -171,6 +228,35 @@ all_renewed w =
     (λ u. moved_renewed w w.conn.life r.waiting refl u refl)
     (λ u. timed_renewed (renewing w (asked_next r)) r.asked r.within refl))
     (λ f. λ t. absurd (not_both (is_ready w.conn.life && is_due r) f t))
+
+-- new credentials leave what is subscribed again, and hold back what was held back
+moved_keeps : (w : Work) (life : Life) (cs : List Credentials) → w.conn.life ≡ life → HasRepeatedIn w → HasRepeatedIn (renewal_moved w life cs)
+moved_keeps w (Ready l) (c ∷ cs) e h =
+    chosen HasRepeatedIn (holds_back l) w (renewal_told w l c cs) (λ held. h)
+    (λ f. λ t. let k = subst (HasRepeated w.conn.again) e h t in absurd (not_both (holds_back l) f k.1))
+moved_keeps w (Ready l) [] e h = h
+moved_keeps w Resting cs e h = h
+moved_keeps w Dialing cs e h = h
+moved_keeps w (Wanting l) cs e h = h
+moved_keeps w (SettingUp l greeting) cs e h = h
+moved_keeps w (Ended x) cs e h = h
+
+timed_keeps : (w : Work) (number : ℕ) (within : Option ℕ) (cs : List Credentials) → HasRepeatedIn w → HasRepeatedIn (renewal_moved (renewal_timed w number within) w.conn.life cs)
+timed_keeps w number None cs h = moved_keeps w w.conn.life cs refl h
+timed_keeps w number (Some ms) cs h = moved_keeps (acted w (act.RenewalTimer number ms)) w.conn.life cs refl h
+
+renewed_keeps : (w : Work) → HasRepeatedIn w → HasRepeatedIn (renewals.renewed w)
+renewed_keeps w h =
+    let r = w.conn.renewal in
+    chosen HasRepeatedIn (is_ready w.conn.life && is_due r) (renewal_moved (renewal_asked w) w.conn.life r.waiting) w
+    (λ t. chosen (λ (x : Work). HasRepeatedIn (renewal_moved x w.conn.life r.waiting)) r.pending w (renewal_timed (renewing w (asked_next r)) r.asked r.within)
+    (λ u. moved_keeps w w.conn.life r.waiting refl h)
+    (λ u. timed_keeps (renewing w (asked_next r)) r.asked r.within r.waiting h))
+    (λ f. h)
+
+-- so all that the driver says itself is said that may be
+all_said : (w : Work) → HasSaid (said w)
+all_said w = (renewed_keeps (repeated w) (all_repeated w), all_renewed (repeated w))
 
 -- starts leave those that wait for a place
 admitted_started : (w : Work) (life : Life) → (started_at w life).conn.admitted ≡ w.conn.admitted
@@ -210,28 +296,28 @@ admitted_seated w q =
 -- those that wait for a place
 --
 -- a request that takes its place starts nothing
-renewed_placed : (w : Work) (q : Waiting) (life : Life) → w.conn.life ≡ life → HasRenewedIn w → HasRenewedIn (placed_at w q life)
-renewed_placed w q (Ready l) e h = subst (HasRenewed w.conn.renewal) e h
-renewed_placed w q Resting e h = h
-renewed_placed w q Dialing e h = h
-renewed_placed w q (Wanting l) e h = h
-renewed_placed w q (SettingUp l greeting) e h = h
-renewed_placed w q (Ended x) e h = h
+said_placed : (w : Work) (q : Waiting) (life : Life) → w.conn.life ≡ life → HasSaid w → HasSaid (placed_at w q life)
+said_placed w q (Ready l) e h = (subst (HasRepeated w.conn.again) e h.0, subst (HasRenewed w.conn.renewal) e h.1)
+said_placed w q Resting e h = h
+said_placed w q Dialing e h = h
+said_placed w q (Wanting l) e h = h
+said_placed w q (SettingUp l greeting) e h = h
+said_placed w q (Ended x) e h = h
 
 -- nor does its answer
-renewed_told : (w : Work) (q : Waiting) → HasRenewedIn w → HasRenewedIn (told_at_place w q)
-renewed_told w q h =
-    chosen HasRenewedIn q.awaited w (answered w q.number (outcome.One Nil)) (λ t. h) (λ f. chosen HasRenewedIn (is_open_at w.conn.requests q.number) _ w (λ t. h) (λ g. h))
+said_told : (w : Work) (q : Waiting) → HasSaid w → HasSaid (told_at_place w q)
+said_told w q h =
+    chosen HasSaid q.awaited w (answered w q.number (outcome.One Nil)) (λ t. h) (λ f. chosen HasSaid (is_open_at w.conn.requests q.number) _ w (λ t. h) (λ g. h))
 
 -- so all messages have started that may where one took a place
-one_seated : (w : Work) (q : Waiting) → HasRenewedIn w → Through (seated w q).conn
+one_seated : (w : Work) (q : Waiting) → HasSaid w → Through (seated w q).conn
 one_seated w q h =
     let d = placed_at w q w.conn.life in
-    all_started (told_at_place d q) (renewed_told d q (renewed_placed w q w.conn.life refl h))
+    all_started (told_at_place d q) (said_told d q (said_placed w q w.conn.life refl h))
 
 -- or waits for one
 one_moved_up : (w : Work) (q : Waiting) → Through w.conn → Through (moved_up w q).conn
-one_moved_up w q h = chosen (λ (x : Work). Through x.conn) (is_admitted_at w.conn.requests q.number) (seated w q) w (λ t. one_seated w q h.renewed) (λ f. h)
+one_moved_up w q h = chosen (λ (x : Work). Through x.conn) (is_admitted_at w.conn.requests q.number) (seated w q) w (λ t. one_seated w q (h.repeated, h.renewed)) (λ f. h)
 
 -- and where all do that may, nobody waits where there is a place
 each_moved_up : (w : Work) (qs : List Waiting) → Through w.conn → IsSeated (moved_up_each w qs).conn
@@ -246,7 +332,7 @@ each_moved_up w (q ∷ qs) h =
 one_or_behind : (w : Work) (q : Waiting) → IsSeated w.conn → IsSeated (seated_or_behind w q).conn
 one_or_behind w q h =
     chosen (λ (x : Work). IsSeated x.conn) (has_room w.conn) (seated w q) (put_behind w q)
-    (λ t. record { through = one_seated w q h.through.renewed; admitted = λ u. admitted_seated w q ∙ h.admitted t })
+    (λ t. record { through = one_seated w q (h.through.repeated, h.through.renewed); admitted = λ u. admitted_seated w q ∙ h.admitted t })
     (λ f. record { through = h.through; admitted = λ t. absurd (not_both (has_room w.conn) f t) })
 
 -- a round that begins leaves that
@@ -291,17 +377,17 @@ rounds_moved w (q ∷ qs) h =
 -- what a turn moves
 moved_before : (w : Work) → IsMoved (moved_all w).conn
 moved_before w =
-    let v = renewals.renewed w in
+    let v = said w in
     let d = started v in
     let e = moved_up_all d in
-    let s = each_moved_up (still_admitted d []) d.conn.admitted (all_started v (all_renewed w)) in
+    let s = each_moved_up (still_admitted d []) d.conn.admitted (all_started v (all_said w)) in
     each_admitted (still_waiting e []) e.conn.waiting (record { through = s.through; admitted = s.admitted })
 
 -- and the rounds that begin behind that
 pub all_moved : (w : Work) → IsMoved (passed w).conn
 all_moved w =
     let v = moved_all w in
-    chosen (λ (x : Work). IsMoved x.conn) (v.conn.rounds && is_ready v.conn.life) (rounds_of v v.conn.fresh) v (λ t. rounds_moved v v.conn.fresh (moved_before w)) (λ f. moved_before w)
+    chosen (λ (x : Work). IsMoved x.conn) (v.conn.rounds && is_serving v.conn) (rounds_of v v.conn.fresh) v (λ t. rounds_moved v v.conn.fresh (moved_before w)) (λ f. moved_before w)
 
 -- where all is offered, there is nothing more to offer
 offered_none : (b : Bool) → (not b && b) ≡ false
@@ -314,12 +400,12 @@ queue_offered l (inl none) = inl none
 queue_offered l (inr held) = inr held
 
 -- whatever there is to start
-through_offered : {r : Renewal} → (l : LinkState) → IsStartedOn r (Ready l) → IsStartedOn r (Ready (offered_of l))
-through_offered l h = record { queue = queue_offered l h.queue; renewed = h.renewed }
+through_offered : {r : Renewal} {a : Again} → (l : LinkState) → IsStartedOn r a (Ready l) → IsStartedOn r a (Ready (offered_of l))
+through_offered l h = record { queue = queue_offered l h.queue; repeated = h.repeated; renewed = h.renewed }
 
 -- also while it is set up
-setup_offered_through : {r : Renewal} → (l : LinkState) (greeting : Greeting) → IsStartedOn r (SettingUp l greeting) → IsStartedOn r (SettingUp (offered_of l) greeting)
-setup_offered_through l greeting h = record { queue = queue_offered l h.queue; renewed = h.renewed }
+setup_offered_through : {r : Renewal} {a : Again} → (l : LinkState) (greeting : Greeting) → IsStartedOn r a (SettingUp l greeting) → IsStartedOn r a (SettingUp (offered_of l) greeting)
+setup_offered_through l greeting h = record { queue = queue_offered l h.queue; repeated = h.repeated; renewed = h.renewed }
 
 -- bytes are offered
 written_from : (w : Work) (life : Life) → w.conn.life ≡ life → IsMoved w.conn → IsWritten (written_at w life).conn
@@ -327,8 +413,8 @@ written_from w (Ready l) e h =
     chosen (λ (x : Work). IsWritten x.conn) (can_offer l.outbox) _ w
     (λ t. record {
       moved = record {
-        seated = record { through = through_offered l (subst (IsStartedOn w.conn.renewal) e h.seated.through); admitted = λ u. h.seated.admitted (ap (λ (x : Life). has_room_at x (in_front w.conn.renewal)) e ∙ u) };
-        waiting = λ f. h.waiting (ap (λ (x : Life). admits_none_at x (has_no_permit w.conn.limit w.conn.free)) e ∙ f);
+        seated = record { through = through_offered l (subst (IsStartedOn w.conn.renewal w.conn.again) e h.seated.through); admitted = λ u. h.seated.admitted (ap (λ (x : Life). has_room_at x (in_front w.conn.renewal)) e ∙ u) };
+        waiting = λ f. h.waiting (ap (λ (x : Life). admits_none_at x (is_outstanding w.conn.again || has_no_permit w.conn.limit w.conn.free)) e ∙ f);
       };
       offered = offered_none (length l.outbox.unwritten == 0);
     })
@@ -338,8 +424,8 @@ written_from w (SettingUp l greeting) e h =
     chosen (λ (x : Work). IsWritten x.conn) (can_offer l.outbox) _ w
     (λ t. record {
       moved = record {
-        seated = record { through = setup_offered_through l greeting (subst (IsStartedOn w.conn.renewal) e h.seated.through); admitted = λ u. h.seated.admitted (ap (λ (x : Life). has_room_at x (in_front w.conn.renewal)) e ∙ u) };
-        waiting = λ f. h.waiting (ap (λ (x : Life). admits_none_at x (has_no_permit w.conn.limit w.conn.free)) e ∙ f);
+        seated = record { through = setup_offered_through l greeting (subst (IsStartedOn w.conn.renewal w.conn.again) e h.seated.through); admitted = λ u. h.seated.admitted (ap (λ (x : Life). has_room_at x (in_front w.conn.renewal)) e ∙ u) };
+        waiting = λ f. h.waiting (ap (λ (x : Life). admits_none_at x (is_outstanding w.conn.again || has_no_permit w.conn.limit w.conn.free)) e ∙ f);
       };
       offered = offered_none (length l.outbox.unwritten == 0);
     })
@@ -448,7 +534,28 @@ moved_stays_held w (Wanting l) cs held = refl
 moved_stays_held w (SettingUp l greeting) cs held = refl
 moved_stays_held w (Ended e) cs held = refl
 
--- so none are
+-- nor is anything subscribed again
+repeat_stays_held : (w : Work) (life : Life) (a : Again) → is_held_back life ≡ true → repeat_moved w life a ≡ w
+repeat_stays_held w (Ready l) (again.Due packed of_shape timed) held = taken_if (holds_back l) w _ held
+repeat_stays_held w (Ready l) again.Nothing held = refl
+repeat_stays_held w (Ready l) again.Sent held = refl
+repeat_stays_held w Resting a held = refl
+repeat_stays_held w Dialing a held = refl
+repeat_stays_held w (Wanting l) a held = refl
+repeat_stays_held w (SettingUp l greeting) a held = refl
+repeat_stays_held w (Ended e) a held = refl
+
+-- so nothing is
+pub repeated_stays : (w : Work) → HasRepeated w.conn.again w.conn.life → repeated w ≡ w
+repeated_stays w h =
+    let a = w.conn.again in
+    chosen (λ (x : Work). x ≡ w) (is_ready w.conn.life && is_to_start a) (repeat_moved (repeat_asked w) w.conn.life a) w
+    (λ t. let k = h t in
+    ap (λ (x : Work). repeat_moved x w.conn.life a) (left_if (is_untimed a) (repeat_timed (repeating w (with_timer a)) w.conn.renewal.within) (repeating w (with_timer a)) k.0 ∙ ap (repeating w) (same_again a k.0))
+    ∙ repeat_stays_held w w.conn.life a k.1)
+    (λ f. refl)
+
+-- and no new credentials are
 pub renewed_stays : (w : Work) → HasRenewed w.conn.renewal w.conn.life → renewals.renewed w ≡ w
 renewed_stays w h =
     let r = w.conn.renewal in
@@ -456,15 +563,19 @@ renewed_stays w h =
     (λ t. let k = h t in ap (λ (x : Work). renewal_moved x w.conn.life r.waiting) (taken_if r.pending w _ k.0) ∙ moved_stays_held w w.conn.life r.waiting k.1)
     (λ f. refl)
 
+-- the driver says nothing more
+pub said_stays : (w : Work) → HasRepeated w.conn.again w.conn.life → HasRenewed w.conn.renewal w.conn.life → said w ≡ w
+said_stays w repeats renews = ap renewals.renewed (repeated_stays w repeats) ∙ renewed_stays w renews
+
 -- no round begins where no wait is to be shown
 none_begin : (w : Work) → w.conn.fresh ≡ [] → rounds_begun w ≡ w
-none_begin w e = chosen (λ (x : Work). x ≡ w) (w.conn.rounds && is_ready w.conn.life) (rounds_of w w.conn.fresh) w (λ t. ap (rounds_of w) e) (λ f. refl)
+none_begin w e = chosen (λ (x : Work). x ≡ w) (w.conn.rounds && is_serving w.conn) (rounds_of w w.conn.fresh) w (λ t. ap (rounds_of w) e) (λ f. refl)
 
 -- so nothing is moved
 passed_stays : (w : Work) → IsMoved w.conn → w.conn.fresh ≡ [] → passed w ≡ w
 passed_stays w h none =
     let moves : moved_all w ≡ w =
-    ap (λ (x : Work). admitted_all (moved_up_all (started x))) (renewed_stays w h.seated.through.renewed)
+    ap (λ (x : Work). admitted_all (moved_up_all (started x))) (said_stays w h.seated.through.repeated h.seated.through.renewed)
     ∙ ap (λ (x : Work). admitted_all (moved_up_all x)) (started_stays w w.conn.life refl h.seated.through.queue)
     ∙ ap admitted_all (none_moved_up (still_admitted w []) w.conn.admitted h.seated.admitted) ∙ none_admitted (still_waiting w []) w.conn.waiting h.waiting in
     ap rounds_begun moves ∙ none_begin w none
@@ -502,10 +613,10 @@ left_idle c p unlimited none h =
       written = record {
         moved = record {
           seated = record {
-            through = record { queue = queue_left c.life none m.seated.through.queue; renewed = renewed_left c.life m.seated.through.renewed };
+            through = record { queue = queue_left c.life none m.seated.through.queue; repeated = repeated_left c.life m.seated.through.repeated; renewed = renewed_left c.life m.seated.through.renewed };
             admitted = λ u. m.seated.admitted (sym (room_left c.life (in_front c.renewal) none) ∙ u);
           };
-          waiting = λ f. m.waiting (stuck_left c.life c.limit c.free (closed c p).free unlimited ∙ f);
+          waiting = λ f. m.waiting (stuck_left c.life (is_outstanding c.again) c.limit c.free (closed c p).free unlimited ∙ f);
         };
         offered = offered_left c.life h.written.offered;
       };
@@ -523,6 +634,14 @@ left_idle c p unlimited none h =
     queue_left (Ready l) n (inr held) = inr held
     queue_left (Ended x) n e = e
 
+    repeated_left : (life : Life) → HasRepeated c.again life → HasRepeated c.again (cancelled_in life p)
+    repeated_left Resting e = e
+    repeated_left Dialing e = e
+    repeated_left (Wanting l) e = e
+    repeated_left (SettingUp l greeting) e = e
+    repeated_left (Ready l) e = e
+    repeated_left (Ended x) e = e
+
     renewed_left : (life : Life) → HasRenewed c.renewal life → HasRenewed c.renewal (cancelled_in life p)
     renewed_left Resting e = e
     renewed_left Dialing e = e
@@ -539,14 +658,14 @@ left_idle c p unlimited none h =
     room_left (Ready l) count n = ap (λ (queue : List Queued). has_room_at (Ready (record l { queue = queue })) count) (none_leaves p l.queue n)
     room_left (Ended x) count n = refl
 
-    stuck_left : (life : Life) (lim : Option ℕ) (j k : ℕ) → lim ≡ None → admits_none_at life (has_no_permit lim j) ≡ admits_none_at (cancelled_in life p) (has_no_permit lim k)
-    stuck_left Resting lim j k e = refl
-    stuck_left Dialing lim j k e = refl
-    stuck_left (Wanting l) lim j k e = refl
-    stuck_left (SettingUp l greeting) lim j k e = refl
-    stuck_left (Ready l) None j k e = refl
-    stuck_left (Ready l) (Some most) j k e = cc
-    stuck_left (Ended x) lim j k e = refl
+    stuck_left : (life : Life) (goes : Bool) (lim : Option ℕ) (j k : ℕ) → lim ≡ None → admits_none_at life (goes || has_no_permit lim j) ≡ admits_none_at (cancelled_in life p) (goes || has_no_permit lim k)
+    stuck_left Resting goes lim j k e = refl
+    stuck_left Dialing goes lim j k e = refl
+    stuck_left (Wanting l) goes lim j k e = refl
+    stuck_left (SettingUp l greeting) goes lim j k e = refl
+    stuck_left (Ready l) goes None j k e = refl
+    stuck_left (Ready l) goes (Some most) j k e = cc
+    stuck_left (Ended x) goes lim j k e = refl
 
     offered_left : (life : Life) → HasOffered life → HasOffered (cancelled_in life p)
     offered_left Resting e = e

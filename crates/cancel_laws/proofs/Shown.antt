@@ -56,6 +56,7 @@ but_for_shown n l count c (act.Round m ∷ xs) = ap (λ (ys : List Action). show
 but_for_shown n l count c (act.Took m permits ∷ xs) = ap (λ (ys : List Action). shown l count c (act.Took m permits) ∷ ys) (but_for_shown n l (count + 0) (c + 0) xs)
 but_for_shown n l count c (act.Timer m ms ∷ xs) = ap (λ (ys : List Action). shown l count c (act.Timer m ms) ∷ ys) (but_for_shown n l (count + 1) (c + 0) xs)
 but_for_shown n l count c (act.RenewalTimer k ms ∷ xs) = ap (λ (ys : List Action). shown l count c (act.RenewalTimer k ms) ∷ ys) (but_for_shown n l (count + 1) (c + 0) xs)
+but_for_shown n l count c (act.RepeatTimer ms ∷ xs) = ap (λ (ys : List Action). shown l count c (act.RepeatTimer ms) ∷ ys) (but_for_shown n l (count + 1) (c + 0) xs)
 but_for_shown n l count c (act.Push info ∷ xs) = ap (λ (ys : List Action). action.Push l info ∷ ys) (but_for_shown n l (count + 0) (c + 0) xs)
 but_for_shown n l count c (act.Message m ∷ xs) = ap (λ (ys : List Action). action.Message m ∷ ys) (but_for_shown n l (count + 0) (c + 0) xs)
 but_for_shown n l count c (act.Monitor v ∷ xs) = ap (λ (ys : List Action). action.Monitor v ∷ ys) (but_for_shown n l (count + 0) (c + 0) xs)
@@ -67,6 +68,7 @@ but_for_shown n l count c (act.Wait m kind ∷ xs) = ap (λ (ys : List Action). 
 but_for_shown n l count c (act.Start message m need len ∷ xs) = ap (λ (ys : List Action). shown l count c (act.Start message m need len) ∷ ys) (but_for_shown n l (count + 0) (c + 0) xs)
 but_for_shown n l count c (act.SetUp message need len ∷ xs) = ap (λ (ys : List Action). shown l count c (act.SetUp message need len) ∷ ys) (but_for_shown n l (count + 0) (c + 0) xs)
 but_for_shown n l count c (act.Renewed message need len ∷ xs) = ap (λ (ys : List Action). shown l count c (act.Renewed message need len) ∷ ys) (but_for_shown n l (count + 0) (c + 0) xs)
+but_for_shown n l count c (act.Repeated message need len ∷ xs) = ap (λ (ys : List Action). shown l count c (act.Repeated message need len) ∷ ys) (but_for_shown n l (count + 0) (c + 0) xs)
 but_for_shown n l count c (act.Watch message need len ∷ xs) = ap (λ (ys : List Action). shown l count c (act.Watch message need len) ∷ ys) (but_for_shown n l (count + 0) (c + 0) xs)
 but_for_shown n l count c (act.Outcome m o ∷ xs) = outcome_shown n l count c m o xs (m == n) (but_for_shown n l (count + 0) (c + 0) xs)
 
@@ -95,6 +97,8 @@ numberless l count c (a ∷ xs) =
     one_numberless (act.SetUp message need len) = refl
     one_numberless (act.RenewalTimer k ms) = refl
     one_numberless (act.Renewed message need len) = refl
+    one_numberless (act.RepeatTimer ms) = refl
+    one_numberless (act.Repeated message need len) = refl
     one_numberless (act.Watch message need len) = refl
     one_numberless (act.Outcome m o) = refl
 

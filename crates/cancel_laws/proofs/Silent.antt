@@ -69,7 +69,7 @@ silent_kept n p = record {
     unshown = h.unshown;
   };
   start = λ lim r l ms xs h. record { there = h.there; own = h.own; closed = h.closed; unshown = h.unshown };
-  renew = λ lim r l ms xs q own h. record { there = h.there; own = h.own; closed = h.closed; unshown = h.unshown };
+  say = λ lim r l ms xs q own h. record { there = h.there; own = h.own; closed = h.closed; unshown = h.unshown };
   offer = λ lim r l ms xs h. record { there = h.there; own = h.own; closed = h.closed; unshown = h.unshown };
   write = λ lim r l ms xs k h. record { there = h.there; own = h.own; closed = h.closed; unshown = h.unshown };
   come = λ lim r l ms xs what piece h. record { there = h.there; own = h.own; closed = h.closed; unshown = h.unshown };

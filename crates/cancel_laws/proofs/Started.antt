@@ -76,6 +76,7 @@ connected_free config word draw stays sound silent =
       ready = refl;
       goes = refl;
       room = not_le_test (buffer_size config) 0 (room_places (permits config) (buffer_size config) fits);
+      serves = refl;
       permit = room_permits (permits config) (buffer_size config) fits;
       unshut = refl;
       numbered = omega arith;

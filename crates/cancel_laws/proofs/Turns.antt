@@ -152,6 +152,8 @@ no_timer n l (act.Start message m need len) more = refl
 no_timer n l (act.SetUp message need len) more = refl
 no_timer n l (act.RenewalTimer k ms) more = refl
 no_timer n l (act.Renewed message need len) more = refl
+no_timer n l (act.RepeatTimer ms) more = refl
+no_timer n l (act.Repeated message need len) more = refl
 no_timer n l (act.Watch message need len) more = refl
 no_timer n l (act.Outcome m o) more = chosen (λ (xs : List LinkAct). timers_of l (xs ++ more) ≡ timers_of l more) (m == n) [] (act.Outcome m o ∷ []) (λ t. refl) (λ f. refl)
 
@@ -178,6 +180,8 @@ no_source n l (act.Start message m need len) more = refl
 no_source n l (act.SetUp message need len) more = refl
 no_source n l (act.RenewalTimer k ms) more = refl
 no_source n l (act.Renewed message need len) more = refl
+no_source n l (act.RepeatTimer ms) more = refl
+no_source n l (act.Repeated message need len) more = refl
 no_source n l (act.Watch message need len) more = refl
 no_source n l (act.Outcome m o) more = chosen (λ (xs : List LinkAct). sources_of l (xs ++ more) ≡ sources_of l more) (m == n) [] (act.Outcome m o ∷ []) (λ t. refl) (λ f. refl)
 

@@ -10,24 +10,25 @@ use Rattle.mux_conn.specs.declared.connection.MultiplexedConnection.{Multiplexed
 use Rattle.shared_session.specs.declared.core_state.Core.{Core}
 use Rattle.shared_session.specs.declared.generations.Comeback.{Comeback}
 use Rattle.shared_session.specs.declared.generations.Comeback.TheVariants as comeback
-use Rattle.shared_session.specs.Generations.{came_back, has_ended, heeding, begun, is_last_of}
+use Rattle.shared_session.specs.Generations.{came_back, has_ended, heeding, begun, is_last_of, repeat_in}
 use Rattle.shared_session.specs.Turn.{Turning, counted, effect, ended_apart, flushed_apart, flushed_on, last_acts, next_turn, numbered, own_part, passed_by, work_of}
 use Rattle.shared_session.proofs.Comebacks.{came_kept}
 use Rattle.cancel_laws.proofs.Kept.{At, passed_kept, flushed_kept}
 use Rattle.cancel_laws.proofs.Bare.{other_acts}
 use Rattle.cancel_laws.proofs.Silent.{IsSilent, silent_kept}
 use Rattle.cancel_laws.proofs.Rest.{IsIdle, IsMoved, all_moved, flushed_idle, flushed_requests}
+use Rattle.mux_conn.specs.declared.again.Again.{Again}
 
 -- on a link that isn't answered yet nobody is moved
-dialled_moved : (c : MultiplexedConnection) (is_last : Bool) → IsMoved (dialled c is_last)
-dialled_moved c is_last = record { seated = record { through = record { queue = tt; renewed = λ t. cc }; admitted = λ t. cc }; waiting = λ f. cc }
+dialled_moved : (c : MultiplexedConnection) (is_last : Bool) (a : Again) → IsMoved (dialled c is_last a)
+dialled_moved c is_last a = record { seated = record { through = record { queue = tt; repeated = λ t. cc; renewed = λ t. cc }; admitted = λ t. cc }; waiting = λ f. cc }
 
 -- so where all was moved it is behind what a manager does of its own
 came_moved : (c : Core) (what : Comeback) → IsMoved c.single.connection → IsMoved (came_back c what).single.connection
 came_moved c comeback.Stays h = h
 came_moved c (comeback.Rests number attempt timer) h = h
-came_moved c (comeback.Dials l None timer) h = dialled_moved c.single.connection (is_last_of c.manager)
-came_moved c (comeback.Dials l (Some number) timer) h = let d = begun c number in dialled_moved d.single.connection (is_last_of d.manager)
+came_moved c (comeback.Dials l None timer) h = dialled_moved c.single.connection (is_last_of c.manager) (repeat_in c.manager)
+came_moved c (comeback.Dials l (Some number) timer) h = let d = begun c number in dialled_moved d.single.connection (is_last_of d.manager) (repeat_in d.manager)
 
 module _ (c : Core) (kind : EventKind) where
   -- behind the submissions that were moved

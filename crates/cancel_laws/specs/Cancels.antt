@@ -14,7 +14,7 @@ use Rattle.driver_model.specs.declared.event.Submission.{Submission}
 use Rattle.link_core.specs.Link.{LinkState, is_full, holds_back}
 use Rattle.link_core.specs.Waiting.{without}
 use Rattle.mux_conn.specs.declared.life.Life.TheVariants.{Ready}
-use Rattle.mux_conn.specs.Connection.{has_no_permit}
+use Rattle.mux_conn.specs.Connection.{has_no_permit, is_outstanding}
 use Rattle.mux_conn.specs.declared.request.Pending.{Pending}
 use Rattle.mux_conn.specs.declared.request.Progress.TheVariants as progress
 use Rattle.mux_conn.specs.declared.request.Request.{Request}
@@ -43,13 +43,14 @@ SaysNothing config = (wants_credentials config ≡ false) × (says_nothing (setu
 abbrev pub handed_in_after_connect : Config → ℕ → ℕ → ℕ → Submission → Core
 handed_in_after_connect config word draw later s = state_after config word (connected_at draw ∷ handed_in_at later s ∷ [])
 
--- the link is ready, nothing holds it back, its queue has room, a permit is free, nothing was shut down, and there is a number
--- for one more submission
+-- the link is ready and takes requests, nothing holds it back, its queue has room, a permit is free, nothing was shut down, and there
+-- is a number for one more submission
 pub record IsFree (core : Core) : Type 0 where
   pub link : LinkState
   pub ready : core.single.connection.life ≡ Ready link
   pub goes : holds_back link ≡ false
   pub room : is_full link ≡ false
+  pub serves : is_outstanding core.single.connection.again ≡ false
   pub permit : has_no_permit core.single.connection.limit core.single.connection.free ≡ false
   pub unshut : core.shut ≡ false
   pub numbered : length core.table < 2 ^ 32

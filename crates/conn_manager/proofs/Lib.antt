@@ -4,3 +4,4 @@ mod Resubscribing
 mod Once
 mod Turns
 mod Spent
+mod Passed

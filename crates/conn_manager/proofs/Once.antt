@@ -155,6 +155,7 @@ noted_keeps m draw (link_act.Round p) = itself m
 noted_keeps m draw (link_act.Took p count) = generations_keep m _
 noted_keeps m draw (link_act.Timer p ms) = generations_keep m _
 noted_keeps m draw (link_act.RenewalTimer k ms) = generations_keep m _
+noted_keeps m draw (link_act.RepeatTimer ms) = itself m
 noted_keeps m draw link_act.NeedCreds = generations_keep m _
 noted_keeps m draw link_act.NeedRenewals = generations_keep m _
 noted_keeps m draw (link_act.Push info) = generations_keep m _
@@ -167,6 +168,7 @@ noted_keeps m draw (link_act.Wait p kind) = waits_keep m p kind
 noted_keeps m draw (link_act.Start message p need len) = starts_keep m message p need len
 noted_keeps m draw (link_act.SetUp message need len) = generations_keep m _
 noted_keeps m draw (link_act.Renewed message need len) = generations_keep m _
+noted_keeps m draw (link_act.Repeated message need len) = itself m
 noted_keeps m draw (link_act.Outcome p o) = came_keeps m p o
 
 noted_each_keeps : (m : ConnectionManager) (draw : ℕ) (acts : List LinkAct) → Keeps m (noted_each m draw acts)

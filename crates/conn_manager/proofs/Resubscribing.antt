@@ -1,8 +1,7 @@
 -- What is subscribed again.
-use Rattle.std.proofs.Common.{◌≡◌, ℕ, ◌+◌, ◌≤◌, ◌<◌, ◌^◌, ◌==◌, Bool, true, false, ◌&&◌, List, [], ◌∷◌, ◌++◌, length, Option, None, Some, slice_get, codes, refl, sym, ap, subst, ◌∙◌, if◌then◌else◌, arith, length-append}
-use Rattle.resp_write.specs.Command.{CommandList}
+use Rattle.std.proofs.Common.{◌≡◌, ℕ, ◌+◌, ◌==◌, Bool, true, false, ◌&&◌, List, [], ◌∷◌, ◌++◌, length, Option, None, Some, slice_get, refl, sym, ap, ◌∙◌, if◌then◌else◌}
 use Rattle.sub_tracker.specs.Held.{Held, held_after}
-use Rattle.sub_tracker.specs.Pipeline.{resubscription, command_for, Resubscribes}
+use Rattle.sub_tracker.specs.Pipeline.{resubscription, Resubscribes}
 use Rattle.sub_tracker.specs.Subscribed.{Request}
 use Rattle.sub_tracker.proofs.Held.{held_resubscribes, held_with_last}
 use Rattle.mux_conn.specs.declared.request.Request as request
@@ -17,28 +16,6 @@ use Rattle.manager_generations.specs.Phases.{is_resubscribing}
 use Rattle.conn_manager.specs.Turn.{applied, settled, passed, flushed, heard, late_at, resubscription_late, rest_ended, resubscription_timed, resubscribes, resubscription_begun}
 use Rattle.conn_manager.specs.Links.{OldLinksAreSilent, OldTimersAreSilent, ConfirmedCallsAreTracked, FailedCallsAreNotTracked, SubscribesWhatIsSubscribed, with_message}
 use Rattle.containers.proofs.Choices.{left_if, if_true, chosen}
-
-command_few : (word : List ℕ) (names : List (List ℕ)) → length (command_for word names) ≤ 1
-command_few word [] = omega arith
-command_few word (name ∷ names) = omega arith
-
-fewer : (n : ℕ) → n ≤ 3 → n < 2 ^ 32
-fewer n h = omega arith
-
--- three commands at most
-pub commands_few : (h : Held) → length (resubscription h).commands ≤ 3
-unfolding resubscription
-commands_few h =
-    let a = command_few (codes "SUBSCRIBE") h.plain in
-    let b = command_few (codes "SSUBSCRIBE") h.sharded in
-    let c = command_few (codes "PSUBSCRIBE") h.pattern in
-    let two = length-append (command_for (codes "SUBSCRIBE") h.plain) (command_for (codes "SSUBSCRIBE") h.sharded) in
-    let all = length-append (command_for (codes "SUBSCRIBE") h.plain ++ command_for (codes "SSUBSCRIBE") h.sharded) (command_for (codes "PSUBSCRIBE") h.pattern) in
-    omega (arith, a, b, c, two, all)
-
--- so any list of them that is this one is short
-pub few_commands : (h : Held) (p : CommandList) → p ≡ resubscription h → length p.commands < 2 ^ 32
-few_commands h p is = subst (λ (q : CommandList). length q.commands < 2 ^ 32) (sym is) (fewer (length (resubscription h).commands) (commands_few h))
 
 pub silent : OldLinksAreSilent
 silent m draw link news old =

@@ -133,6 +133,7 @@ notes m draw (link_act.Round p) = itself m
 notes m draw (link_act.Took p count) = says m _
 notes m draw (link_act.Timer p ms) = says m _
 notes m draw (link_act.RenewalTimer k ms) = says m _
+notes m draw (link_act.RepeatTimer ms) = itself m
 notes m draw link_act.NeedCreds = says m _
 notes m draw link_act.NeedRenewals = says m _
 notes m draw (link_act.Push info) = says m _
@@ -145,6 +146,7 @@ notes m draw (link_act.Wait p kind) = waiting_goes m p kind
 notes m draw (link_act.Start message p need len) = starting_goes m message p need len
 notes m draw (link_act.SetUp message need len) = says m _
 notes m draw (link_act.Renewed message need len) = says m _
+notes m draw (link_act.Repeated message need len) = itself m
 notes m draw (link_act.Outcome p o) = comes_to m p o
 
 notes_each : (m : ConnectionManager) (draw : ℕ) (acts : List LinkAct) → Goes m (noted_each m draw acts)

@@ -59,14 +59,15 @@ starts m message p need len =
     let link = link_of m.generations in
     if p == resubscription_name then said m (act.Resubscribe link message need len) else said m (act.Start link message (pending p) need len)
 
--- an act of the connection; messages of publish/subscribe and what a server in monitor mode tells don't come on its links, and rounds
--- are shown as requests are handed to them
+-- an act of the connection; messages of publish/subscribe and what a server in monitor mode tells don't come on its links, rounds are
+-- shown as requests are handed to them, and what subscribes again is a request of its own
 abbrev pub noted : ConnectionManager → ℕ → LinkAct → ConnectionManager
 noted m draw (link_act.Created e) = opened m draw e
 noted m draw (link_act.Round p) = m
 noted m draw (link_act.Took p count) = said m (act.Took (pending p) count)
 noted m draw (link_act.Timer p ms) = said m (act.Timer (timer.Response (pending p)) ms)
 noted m draw (link_act.RenewalTimer k ms) = said m (act.Timer (timer.Renewal (link_of m.generations) k) ms)
+noted m draw (link_act.RepeatTimer ms) = m
 noted m draw link_act.NeedCreds = said m (act.NeedCreds (link_of m.generations))
 noted m draw link_act.NeedRenewals = said m (act.NeedCreds (link_of m.generations))
 noted m draw (link_act.Push info) = said m (act.Push (link_of m.generations) info)
@@ -79,6 +80,7 @@ noted m draw (link_act.Wait p kind) = waits m p kind
 noted m draw (link_act.Start message p need len) = starts m message p need len
 noted m draw (link_act.SetUp message need len) = said m (act.SetUp (link_of m.generations) message need len)
 noted m draw (link_act.Renewed message need len) = said m (act.Renewed (link_of m.generations) message need len)
+noted m draw (link_act.Repeated message need len) = m
 noted m draw (link_act.Outcome p o) = came_to m p o
 
 -- its acts, in order

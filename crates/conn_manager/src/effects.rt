@@ -205,7 +205,7 @@ impl ConnectionManager {
     }
 
     /// The commands that subscribe again all names that are subscribed now.
-    #[tactic(auto, using(crate::proofs::Resubscribing::few_commands))]
+    #[tactic(auto, using(sub_tracker::proofs::Short::few_commands))]
     fn resubscription(&self, alloc: Global) -> Result<Pipeline, AllocError>
         ensures value { IfOk result (λ p. p ≡ resubscription self.now.tracker.held) }
         ensures few { IfOk result (λ p. length p.commands < 2 ^ 32) }

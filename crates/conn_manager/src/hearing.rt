@@ -153,6 +153,7 @@ impl ConnectionManager {
                 timer: ManagerTimer::Renewal { link, number },
                 ms,
             }),
+            LinkAct::RepeatTimer { ms: _ } => Ok(()),
             LinkAct::NeedCreds => self.say(ManagerAct::NeedCreds { link }),
             LinkAct::NeedRenewals => self.say(ManagerAct::NeedCreds { link }),
             LinkAct::Push { info } => self.say(ManagerAct::Push { link, info }),
@@ -190,6 +191,11 @@ impl ConnectionManager {
                 need,
                 len,
             }),
+            LinkAct::Repeated {
+                message: _,
+                need: _,
+                len: _,
+            } => Ok(()),
             LinkAct::Outcome { request, outcome } => self.come_to(alloc, request, outcome),
         }
     }

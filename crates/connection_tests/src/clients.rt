@@ -106,6 +106,7 @@ fn timer_name(timer: &ConnectionTimer) -> &'static str {
         ConnectionTimer::Connect => "connect-timer",
         ConnectionTimer::Response { request: _ } => "timer",
         ConnectionTimer::Renewal { number: _ } => "renewal-timer",
+        ConnectionTimer::Repeat => "repeat-timer",
     }
 }
 
@@ -126,6 +127,7 @@ fn name(act: &ConnectionAct) -> &'static str {
         ConnectionAct::Wait { .. } => "wait",
         ConnectionAct::SetUp { .. } => "setup",
         ConnectionAct::Renewed { .. } => "renewed",
+        ConnectionAct::Repeated { .. } => "repeated",
         ConnectionAct::Start { .. } => "start",
         ConnectionAct::Answered { request: _ } => "answered",
     }

@@ -8,7 +8,7 @@ use Rattle.manager_config.specs.declared.config.ConnectionManagerConfig.{Connect
 use Rattle.manager_config.proofs.Passing.{taken}
 use Rattle.driver_model.specs.declared.config.Config.{Config}
 use Rattle.driver_model.specs.declared.config.Config.TheVariants as config
-use Rattle.driver_model.specs.Config.{address, address_in, permits, buffer_size, hearing_of, buffer_fault, room_fault, fault_in, first_of, manager_fault, fault_of, manager_of, manager_settings, first_fault}
+use Rattle.driver_model.specs.Config.{address, address_in, permits, buffer_size, hearing_of, buffer_fault, room_fault, fault_in, manager_fault, fault_of, manager_of, manager_settings, first_fault}
 use Rattle.driver_model.specs.Hearing.{hears_pushes}
 
 -- what is refused where a test holds isn't refused where it doesn't
@@ -31,16 +31,11 @@ room_in : (at : Option ConnectionInfo) (heard : Bool) (limit : Option ℕ) (size
 room_in None heard limit size e = cc
 room_in (Some info) heard limit size e = (unless_refused (heard && not (is_resp3 info.redis.protocol)) name.Push (room_fault limit size) e).1
 
--- where neither of two is refused
-first_none : (fault other : Option ConfigName) → first_of fault other ≡ None → fault ≡ None
-first_none None other e = refl
-first_none (Some fault) other e = cc
-
 -- and of what does
 room_of : (at : Option ConnectionInfo) (settings : ConnectionManagerConfig) → manager_fault at settings ≡ None → room_fault settings.connection.concurrency_limit settings.connection.pipeline_buffer_size ≡ None
 room_of None settings e = cc
 room_of (Some info) settings e =
-    let is = taken info.redis.protocol settings (first_none _ _ e) in
+    let is = taken info.redis.protocol settings e in
     has_room settings.connection.concurrency_limit settings.connection.pipeline_buffer_size is.has_permits is.has_places
 
 -- there are permits and places
@@ -53,7 +48,7 @@ is_roomy (config.Monitor at) e = let c = config.Monitor at in room_in (address_i
 -- delays grow by a fraction
 grows_at : (at : Option ConnectionInfo) (settings : ConnectionManagerConfig) → manager_fault at settings ≡ None → 0 < settings.exponent_base.1
 grows_at None settings e = cc
-grows_at (Some info) settings e = (taken info.redis.protocol settings (first_none _ _ e)).grows_by_a_fraction
+grows_at (Some info) settings e = (taken info.redis.protocol settings e).grows_by_a_fraction
 
 pub grows : (c : Config) → first_fault c ≡ None → (settings : ConnectionManagerConfig) → manager_of c ≡ Some settings → 0 < settings.exponent_base.1
 grows c sound settings is = grows_at (address c) settings (subst (λ (m : Option ConnectionManagerConfig). fault_of m (address c) c ≡ None) is sound)

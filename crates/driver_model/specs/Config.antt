@@ -8,7 +8,6 @@ use Rattle.connection_info.specs.declared.address.RedisConnectionInfo.{RedisConn
 use Rattle.connection_info.specs.declared.config.AsyncConnectionConfig.{AsyncConnectionConfig}
 use Rattle.connection_info.specs.declared.open_error.OpenError.{OpenError}
 use Rattle.connection_info.specs.declared.open_error.OpenError.TheVariants as error
-use Rattle.connection_info.specs.declared.protocol.ProtocolVersion.{ProtocolVersion}
 use Rattle.connection_info.specs.declared.protocol.ProtocolVersion.TheVariants.{RESP2}
 use Rattle.connection_info.specs.Protocol.{is_resp3}
 use Rattle.connection_info.specs.Address.{address_of}
@@ -187,23 +186,10 @@ abbrev pub fault_in : Option ConnectionInfo → Bool → Option ℕ → ℕ → 
 fault_in None heard limit size = Some name.Url
 fault_in (Some info) heard limit size = if heard && not (is_resp3 info.redis.protocol) then Some name.Push else room_fault limit size
 
--- one that subscribes again what is subscribed isn't served
-abbrev pub unserved : Bool → Option ConfigName
-unserved subscribes = if subscribes then Some name.Kind else None
-
--- the first of two, if there is one
-abbrev pub first_of : Option ConfigName → Option ConfigName → Option ConfigName
-first_of None other = other
-first_of (Some fault) other = Some fault
-
--- what is refused of a manager that behaves so on a connection of this protocol
-abbrev pub manager_fault_on : ProtocolVersion → ConnectionManagerConfig → Option ConfigName
-manager_fault_on protocol settings = first_of (first_manager_fault protocol settings) (unserved settings.automatic_resubscription)
-
--- and at an address, or where there is none
+-- what is refused of a manager that behaves so at an address, or where there is none
 abbrev pub manager_fault : Option ConnectionInfo → ConnectionManagerConfig → Option ConfigName
 manager_fault None settings = Some name.Url
-manager_fault (Some info) settings = manager_fault_on info.redis.protocol settings
+manager_fault (Some info) settings = first_manager_fault info.redis.protocol settings
 
 -- what is refused of a configuration at an address, or where there is none, of one that comes back so, or that doesn't
 abbrev pub fault_of : Option ConnectionManagerConfig → Option ConnectionInfo → Config → Option ConfigName
@@ -212,7 +198,7 @@ fault_of (Some settings) at c = manager_fault at settings
 
 -- what of a configuration is refused first, if anything is: a URL that isn't an address; of one that comes back, what is
 -- subscribed again where nobody hears pushes, and a fraction without a denominator; pushes that somebody hears on RESP2, a limit
--- of no permits, and a queue that holds nothing; and then one that subscribes again
+-- of no permits, and a queue that holds nothing
 abbrev pub first_fault : Config → Option ConfigName
 first_fault c = fault_of (manager_of c) (address c) c
 

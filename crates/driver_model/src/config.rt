@@ -4,13 +4,13 @@ ghost use Rattle.driver_model.specs.Config.{address, told_info, connect_timeout,
 ghost use Rattle.driver_model.specs.Config.{permits, buffer_size, boundary, wants_pushes};
 ghost use Rattle.driver_model.specs.Config.{hearing_of, wants_credentials};
 ghost use Rattle.driver_model.specs.Config.{manager_of, is_lazy, heard_on};
-ghost use Rattle.driver_model.specs.Config.{fault_in, unserved, manager_fault_on, fault_of, first_fault, RefusesConfig};
+ghost use Rattle.driver_model.specs.Config.{fault_in, fault_of, first_fault, RefusesConfig};
 ghost use Rattle.driver_model.specs.Hearing.{hears_pushes};
 
 use crate::config_words::{AddressWords, ConnectionWords, ManagerWords};
 use crate::hearing::Hearing;
 use crate::kind::SessionKind;
-use connection_info::{ConnectionInfo, OpenError, ProtocolVersion, RedisConnectionInfo};
+use connection_info::{ConnectionInfo, OpenError, RedisConnectionInfo};
 use containers::Bytes;
 use manager_config::ConnectionManagerConfig;
 use redis_error::ConfigName;
@@ -365,15 +365,14 @@ impl Config {
         ensures { result ≡ fault_of (manager_of self.now) (Some info.now) self.now }
     {
         match self.manager_settings() {
-            Some(settings) => manager_fault(&settings, info.redis.protocol),
+            Some(settings) => settings.first_fault(info.redis.protocol),
             None => self.connection_fault(info),
         }
     }
 
     /// The server's address, where nothing of the configuration is refused. Else the name of what is refused first: a URL that
     /// isn't an address; what is subscribed again where nobody hears pushes, and delays that grow by a fraction without a
-    /// denominator; pushes that somebody hears on a connection of RESP2, a limit of no permits, and a queue that holds nothing; and
-    /// then one that subscribes again what is subscribed.
+    /// denominator; pushes that somebody hears on a connection of RESP2, a limit of no permits, and a queue that holds nothing.
     pub fn info(&self, alloc: Global) -> Result<ConnectionInfo, OpenError>
         ensures ok { IfOk result (λ info. address self.now ≡ Some info) }
         ensures sound { OnOk result (first_fault self.now ≡ None) }
@@ -384,30 +383,5 @@ impl Config {
             Some(fault) => Err(OpenError::Config(fault)),
             None => Ok(info),
         }
-    }
-}
-
-/// The name of what is refused first of a manager that behaves so on a connection of this protocol: one that subscribes again what is
-/// subscribed isn't served, where nothing else is refused of it.
-fn manager_fault(
-    settings: &ConnectionManagerConfig,
-    protocol: ProtocolVersion,
-) -> Option<ConfigName>
-    ensures { result ≡ manager_fault_on protocol settings.now }
-{
-    match settings.first_fault(protocol) {
-        Some(fault) => Some(fault),
-        None => unserved(settings.automatic_resubscription()),
-    }
-}
-
-/// One that subscribes again isn't served.
-fn unserved(subscribes: bool) -> Option<ConfigName>
-    ensures { result ≡ unserved subscribes }
-{
-    if subscribes {
-        Some(ConfigName::Kind)
-    } else {
-        None
     }
 }

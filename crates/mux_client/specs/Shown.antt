@@ -17,6 +17,7 @@ shown (link_act.Round p) = act.Round (pending p)
 shown (link_act.Took p count) = act.Took (pending p) count
 shown (link_act.Timer p ms) = act.Timer (timer.Response (pending p)) ms
 shown (link_act.RenewalTimer k ms) = act.Timer (timer.Renewal k) ms
+shown (link_act.RepeatTimer ms) = act.Timer timer.Repeat ms
 shown link_act.NeedCreds = act.NeedCreds
 shown link_act.NeedRenewals = act.NeedCreds
 shown (link_act.Push info) = act.Push info
@@ -29,6 +30,7 @@ shown (link_act.Wait p kind) = act.Wait (pending p) kind
 shown (link_act.Start message p need len) = act.Start message (pending p) need len
 shown (link_act.SetUp message need len) = act.SetUp message need len
 shown (link_act.Renewed message need len) = act.Renewed message need len
+shown (link_act.Repeated message need len) = act.Repeated message need len
 shown (link_act.Outcome p o) = act.Answered (pending p)
 
 abbrev pub shown_each : List LinkAct → List ConnectionAct
@@ -41,9 +43,11 @@ kept os (link_act.Round p) = os
 kept os (link_act.Took p count) = os
 kept os (link_act.Timer p ms) = os
 kept os (link_act.RenewalTimer k ms) = os
+kept os (link_act.RepeatTimer ms) = os
 kept os link_act.NeedCreds = os
 kept os link_act.NeedRenewals = os
 kept os (link_act.Renewed message need len) = os
+kept os (link_act.Repeated message need len) = os
 kept os (link_act.Push info) = os
 kept os (link_act.Message m) = os
 kept os (link_act.Monitor v) = os

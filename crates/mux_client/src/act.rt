@@ -14,6 +14,9 @@ pub enum ConnectionTimer {
     /// New credentials are to be answered, the first of which have the number 0. When it fires, the next step is told
     /// `LinkNews::Late`.
     Renewal { number: u32 },
+    /// What is subscribed again is to be answered, of a connection that comes back: others ask for none. When it fires, the next
+    /// step is told `LinkNews::Unrepeated`.
+    Repeat,
 }
 
 /// What a connection asks of the outside, or tells it.
@@ -87,6 +90,13 @@ pub enum ConnectionAct {
     /// New credentials are told to the server: which message of the link it is, how many items it takes, and how many bytes it
     /// has.
     Renewed {
+        message: u32,
+        need: u64,
+        len: u64,
+    },
+    /// All that was subscribed is subscribed again, of a connection that comes back: which message of the link it is, how many
+    /// items it takes, and how many bytes it has.
+    Repeated {
         message: u32,
         need: u64,
         len: u64,

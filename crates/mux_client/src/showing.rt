@@ -53,6 +53,10 @@ fn show(act: LinkAct, outcomes: &mut Seq<Option<Outcome>>) -> ConnectionAct
             timer: ConnectionTimer::Renewal { number },
             ms,
         },
+        LinkAct::RepeatTimer { ms } => ConnectionAct::Timer {
+            timer: ConnectionTimer::Repeat,
+            ms,
+        },
         LinkAct::NeedCreds => ConnectionAct::NeedCreds,
         LinkAct::NeedRenewals => ConnectionAct::NeedCreds,
         LinkAct::Push { info } => ConnectionAct::Push { info },
@@ -78,6 +82,7 @@ fn show(act: LinkAct, outcomes: &mut Seq<Option<Outcome>>) -> ConnectionAct
         LinkAct::SetUp { message, need, len } => ConnectionAct::SetUp { message, need, len },
         LinkAct::Watch { message, need, len } => ConnectionAct::Watch { message, need, len },
         LinkAct::Renewed { message, need, len } => ConnectionAct::Renewed { message, need, len },
+        LinkAct::Repeated { message, need, len } => ConnectionAct::Repeated { message, need, len },
         LinkAct::Outcome { request, outcome } => {
             keep(outcomes, request, outcome);
             ConnectionAct::Answered {

@@ -1,7 +1,6 @@
 -- The rounds of requests that go on waiting begin one by one.
-use Rattle.std.proofs.Common.{◌≡◌, ℕ, ◌+◌, ◌<◌, ◌≤◌, List, [], ◌∷◌, drop, get_or, length, Bool, true, false, ◌&&◌, refl, sym, ap, ◌∙◌, if◌then◌else◌}
+use Rattle.std.proofs.Common.{◌≡◌, ℕ, ◌+◌, ◌<◌, ◌≤◌, List, ◌∷◌, drop, get_or, length, Bool, true, false, ◌&&◌, refl, sym, ap, ◌∙◌, if◌then◌else◌}
 use Rattle.std.proofs.lemmas.List.{drop_all, drop_more}
-use Rattle.mux_conn.specs.declared.connection.MultiplexedConnection.{MultiplexedConnection}
 use Rattle.mux_conn.specs.Connection.{Work}
 use Rattle.mux_conn.specs.Requests.{is_unbegun_at}
 use Rattle.mux_conn.specs.Passes.{round_begun, rounds_of}

@@ -13,11 +13,10 @@ use Rattle.mux_conn.specs.declared.life.Life.{Life}
 use Rattle.mux_conn.specs.declared.life.Life.TheVariants.{Resting, Dialing, Wanting, SettingUp, Ready, Ended}
 use Rattle.mux_conn.specs.declared.renewal.Renewal.{Renewal}
 use Rattle.mux_conn.specs.declared.request.Waiting.{Waiting}
-use Rattle.mux_conn.specs.Connection.{Work, with_link, with_setup, is_ready, admits_none, has_room}
+use Rattle.mux_conn.specs.Connection.{Work, with_link, with_setup, is_serving, admits_none, has_room}
 use Rattle.mux_conn.specs.Requests.{is_open_at, is_waiting_at, is_unbegun_at, is_admitted_at, answered}
 use Rattle.mux_conn.specs.Passes.{shown_each, greeted_each, started, started_at, placed_at, told_at_place, seated, moved_up, moved_up_each, moved_up_all, still_admitted}
-use Rattle.mux_conn.specs.Passes.{permits_taken, took_shown, timer_asked, let_in, took, holding, put_behind, seated_or_behind, round_begun, rounds_of, rounds_begun, admitted_at, admitted, admitted_each, still_waiting, moved_all, passed}
-use Rattle.mux_conn.specs.Renewals.{renewed}
+use Rattle.mux_conn.specs.Passes.{permits_taken, took_shown, timer_asked, let_in, took, holding, put_behind, seated_or_behind, round_begun, rounds_of, rounds_begun, admitted_at, admitted, admitted_each, still_waiting, said, moved_all, passed}
 use Rattle.mux_conn.specs.Turn.{written, written_at, moved_wait, fresh_wait, wait_shown, moved_each_shown, fresh_each_shown, moved_shown, flushed}
 
 abbrev pub renewal_of : Work → Renewal
@@ -105,7 +104,7 @@ rounds_kept w (p ∷ ps) = rounds_kept (round_begun w p) ps ∙ round_kept w p
 
 -- rounds that begin change nothing of it
 pub begun_kept : (w : Work) → renewal_of (rounds_begun w) ≡ renewal_of w
-begun_kept w = kept_either (w.conn.rounds && is_ready w.conn.life) (renewal_of w) (rounds_of w w.conn.fresh) w (rounds_kept w w.conn.fresh) refl
+begun_kept w = kept_either (w.conn.rounds && is_serving w.conn) (renewal_of w) (rounds_of w w.conn.fresh) w (rounds_kept w w.conn.fresh) refl
 
 admitted_at_kept : (w : Work) (q : Waiting) (life : Life) → renewal_of (admitted_at w q life) ≡ renewal_of w
 admitted_at_kept w q Resting = refl
@@ -124,15 +123,15 @@ admitted_each_kept w (q ∷ qs) =
     kept_either (admits_none w.conn) (renewal_of w) (still_waiting w (q ∷ qs)) (admitted_each (admitted w q) qs)
     refl (admitted_each_kept (admitted w q) qs ∙ admitted_kept w q)
 
--- nor does anything once credentials are told, while requests are moved
-pub moved_kept : (w : Work) → renewal_of (moved_all w) ≡ renewal_of (renewed w)
+-- nor does anything once the driver has said what it has to, while requests are moved
+pub moved_kept : (w : Work) → renewal_of (moved_all w) ≡ renewal_of (said w)
 moved_kept w =
-    let s = started (renewed w) in
+    let s = started (said w) in
     let m = moved_up_all s in
-    admitted_each_kept (still_waiting m []) m.conn.waiting ∙ moved_up_each_kept (still_admitted s []) s.conn.admitted ∙ started_kept (renewed w)
+    admitted_each_kept (still_waiting m []) m.conn.waiting ∙ moved_up_each_kept (still_admitted s []) s.conn.admitted ∙ started_kept (said w)
 
 -- so a pass changes nothing of it then
-pub passed_kept : (w : Work) → renewal_of (passed w) ≡ renewal_of (renewed w)
+pub passed_kept : (w : Work) → renewal_of (passed w) ≡ renewal_of (said w)
 passed_kept w = begun_kept (moved_all w) ∙ moved_kept w
 
 wait_kept : (w : Work) (p : ℕ) (kind : Option WaitKind) → renewal_of (wait_shown w p kind) ≡ renewal_of w

@@ -7,3 +7,4 @@ pub mod Judged
 pub mod Told
 pub mod Unreadable
 pub mod Openings
+pub mod Served

@@ -6,7 +6,8 @@ use Rattle.containers.proofs.Choices.{taken_if, left_if, not_both}
 use Rattle.resp_value.specs.declared.value.Value.TheVariants.{Nil}
 use Rattle.driver_model.specs.declared.outcome.Outcome.{Outcome}
 use Rattle.driver_model.specs.declared.outcome.Outcome.TheVariants as outcome
-use Rattle.link_core.specs.Link.{LinkState, is_spent, started_all}
+use Rattle.credentials.specs.Credentials.{Credentials}
+use Rattle.link_core.specs.Link.{LinkState, is_spent, holds_back, started_all}
 use Rattle.link_core.specs.Outbox.{can_offer}
 use Rattle.link_core.proofs.StartLemmas.{numbers_rise}
 use Rattle.mux_conn.specs.declared.connection.MultiplexedConnection.{MultiplexedConnection}
@@ -15,14 +16,15 @@ use Rattle.mux_conn.specs.declared.life.Life.{Life}
 use Rattle.mux_conn.specs.declared.life.Life.TheVariants.{Resting, Dialing, Wanting, SettingUp, Ready, Ended}
 use Rattle.mux_conn.specs.declared.renewal.Renewal.{Renewal}
 use Rattle.mux_conn.specs.declared.request.Waiting.{Waiting}
-use Rattle.mux_conn.specs.Connection.{Work, with_link, with_setup, is_ready, admits_none, has_room, started_in, is_spent_in, runs_out, renewals_run_out, uses_up}
+use Rattle.mux_conn.specs.Connection.{Work, with_link, with_setup, is_ready, is_serving, is_due, admits_none, has_room, started_in, is_spent_in, runs_out, renewals_run_out, uses_up}
 use Rattle.mux_conn.specs.Requests.{is_open_at, is_waiting_at, is_unbegun_at, is_admitted_at, answered}
 use Rattle.driver_model.specs.declared.action.WaitKind.{WaitKind}
 use Rattle.driver_model.specs.News.{News}
 use Rattle.mux_conn.specs.Effects.{applied}
 use Rattle.mux_conn.specs.Passes.{shown_each, greeted_each, started, started_at, placed_at, told_at_place, seated, moved_up, moved_up_each, moved_up_all, still_admitted}
-use Rattle.mux_conn.specs.Passes.{permits_taken, took, took_shown, timer_asked, let_in, holding, put_behind, seated_or_behind, round_begun, rounds_of, rounds_begun, admitted_at, admitted, admitted_each, admitted_all, still_waiting, moved_all, passed}
-use Rattle.mux_conn.specs.Renewals.{renewed}
+use Rattle.mux_conn.specs.Passes.{permits_taken, took, took_shown, timer_asked, let_in, holding, put_behind, seated_or_behind, round_begun, rounds_of, rounds_begun, admitted_at, admitted, admitted_each, admitted_all, still_waiting, said, moved_all, passed}
+use Rattle.mux_conn.specs.Renewals.{renewing, asked_next, renewal_timed, renewal_asked, renewal_moved, renewed}
+use Rattle.mux_conn.specs.Repeats.{repeated}
 use Rattle.mux_conn.proofs.Kept.{shown_same, greeted_same, begun_kept, moved_kept, flushed_kept}
 use Rattle.mux_conn.specs.Turn.{written, written_at, moved_wait, fresh_wait, wait_shown, moved_each_shown, fresh_each_shown, moved_shown, fresh_shown, flushed, stepped}
 
@@ -129,7 +131,7 @@ rounds_count w [] = refl
 rounds_count w (p ∷ ps) = rounds_count (round_begun w p) ps ∙ round_count w p
 
 begun_count : (w : Work) → count (rounds_begun w) ≡ count w
-begun_count w = count_either (w.conn.rounds && is_ready w.conn.life) (count w) (rounds_of w w.conn.fresh) w (rounds_count w w.conn.fresh) refl
+begun_count w = count_either (w.conn.rounds && is_serving w.conn) (count w) (rounds_of w w.conn.fresh) w (rounds_count w w.conn.fresh) refl
 
 admitted_at_rises : (w : Work) (q : Waiting) (life : Life) → count w ≤ count (admitted_at w q life)
 admitted_at_rises w q Resting = le_refl (count w)
@@ -184,29 +186,76 @@ uses_more w v l e h =
     ap (λ (n : ℕ). runs_out v || nat_le (2 ^ 32) n) e ∙ or_more (runs_out w) (runs_out v) (nat_le (2 ^ 32) w.conn.renewal.asked) (past (count w) (count v) l) h
 
 -- those that take a place run out before the others are admitted
-pub spent_second : (w : Work) → is_spent_in (moved_up_all (started (renewed w))).conn.life ≡ true → uses_up (moved_all w) ≡ true
+pub spent_second : (w : Work) → is_spent_in (moved_up_all (started (said w))).conn.life ≡ true → uses_up (moved_all w) ≡ true
 spent_second w h =
-    let v = moved_up_all (started (renewed w)) in
+    let v = moved_up_all (started (said w)) in
     either_left (runs_out (moved_all w)) (renewals_run_out (moved_all w)) (past (count v) (count (admitted_all v)) (admitted_each_rises (still_waiting v []) v.conn.waiting) h)
 
 -- starts run out before requests are moved
-pub spent_first : (w : Work) → is_spent_in (started (renewed w)).conn.life ≡ true → uses_up (moved_all w) ≡ true
+pub spent_first : (w : Work) → is_spent_in (started (said w)).conn.life ≡ true → uses_up (moved_all w) ≡ true
 spent_first w h =
-    let v = started (renewed w) in
+    let v = started (said w) in
     spent_second w (past (count v) (count (moved_up_all v)) (moved_up_each_rises (still_admitted v []) v.conn.admitted) h)
 
--- to move requests gives no smaller numbers than new credentials do
-moved_rises : (w : Work) → count (renewed w) ≤ count (moved_all w)
+-- to move requests gives no smaller numbers than what the driver says itself
+moved_rises : (w : Work) → count (said w) ≤ count (moved_all w)
 moved_rises w =
-    let s = started (renewed w) in
+    let s = started (said w) in
     let m = moved_up_all s in
     let up : count s ≤ count m = moved_up_each_rises (still_admitted s []) s.conn.admitted in
     let all : count m ≤ count (moved_all w) = admitted_each_rises (still_waiting m []) m.conn.waiting in
-    omega (arith, started_rises (renewed w), up, all)
+    omega (arith, started_rises (said w), up, all)
 
--- what new credentials use up is used up when requests were moved
-pub spent_renewed : (w : Work) → uses_up (renewed w) ≡ true → uses_up (moved_all w) ≡ true
-spent_renewed w h = uses_more (renewed w) (moved_all w) (moved_rises w) (ap (λ (r : Renewal). r.asked) (moved_kept w)) h
+-- what the driver uses up itself is used up when requests were moved
+pub spent_said : (w : Work) → uses_up (said w) ≡ true → uses_up (moved_all w) ≡ true
+spent_said w h = uses_more (said w) (moved_all w) (moved_rises w) (ap (λ (r : Renewal). r.asked) (moved_kept w)) h
+
+-- new credentials give no smaller numbers
+renewal_timed_count : (w : Work) (number : ℕ) (within : Option ℕ) → count (renewal_timed w number within) ≡ count w
+renewal_timed_count w number None = refl
+renewal_timed_count w number (Some ms) = refl
+
+renewal_asked_count : (w : Work) → count (renewal_asked w) ≡ count w
+renewal_asked_count w =
+    let r = w.conn.renewal in
+    count_either r.pending (count w) w (renewal_timed (renewing w (asked_next r)) r.asked r.within) refl (renewal_timed_count (renewing w (asked_next r)) r.asked r.within)
+
+renewal_moved_rises : (w : Work) (life : Life) (cs : List Credentials) → w.conn.life ≡ life → count w ≤ count (renewal_moved w life cs)
+renewal_moved_rises w Resting cs e = le_refl (count w)
+renewal_moved_rises w Dialing cs e = le_refl (count w)
+renewal_moved_rises w (Wanting link) cs e = le_refl (count w)
+renewal_moved_rises w (SettingUp link greeting) cs e = le_refl (count w)
+renewal_moved_rises w (Ended x) cs e = le_refl (count w)
+renewal_moved_rises w (Ready link) [] e = le_refl (count w)
+renewal_moved_rises w (Ready link) (c ∷ cs) e =
+    let from : count w ≡ link.started = ap started_in e in
+    rises_either (holds_back link) (count w) w _ (le_refl (count w)) (omega (arith, from))
+
+life_either : (b : Bool) (life : Life) (v w : Work) → v.conn.life ≡ life → w.conn.life ≡ life → (if b then v else w).conn.life ≡ life
+life_either true life v w h k = h
+life_either false life v w h k = k
+
+renewal_timed_life : (w : Work) (number : ℕ) (within : Option ℕ) → (renewal_timed w number within).conn.life ≡ w.conn.life
+renewal_timed_life w number None = refl
+renewal_timed_life w number (Some ms) = refl
+
+renewal_asked_life : (w : Work) → (renewal_asked w).conn.life ≡ w.conn.life
+renewal_asked_life w =
+    let r = w.conn.renewal in
+    life_either r.pending w.conn.life w (renewal_timed (renewing w (asked_next r)) r.asked r.within) refl (renewal_timed_life (renewing w (asked_next r)) r.asked r.within)
+
+renewed_rises : (w : Work) → count w ≤ count (renewed w)
+renewed_rises w =
+    let asked = renewal_asked w in
+    let same = renewal_asked_count w in
+    let more = renewal_moved_rises asked w.conn.life w.conn.renewal.waiting (renewal_asked_life w) in
+    rises_either (is_ready w.conn.life && is_due w.conn.renewal) (count w) (renewal_moved asked w.conn.life w.conn.renewal.waiting) w (omega (arith, same, more)) (le_refl (count w))
+
+-- what is used up when all is subscribed again is used up when the driver has said what it has to
+pub spent_repeated : (w : Work) → is_spent_in (repeated w).conn.life ≡ true → uses_up (said w) ≡ true
+spent_repeated w h =
+    let v = repeated w in
+    either_left (runs_out (said w)) (renewals_run_out (said w)) (past (count v) (count (said w)) (renewed_rises v) h)
 
 -- what is used up when requests were moved is used up when rounds have begun
 pub spent_moved : (w : Work) → uses_up (moved_all w) ≡ true → uses_up (passed w) ≡ true

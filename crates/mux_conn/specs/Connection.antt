@@ -3,6 +3,8 @@ use Rattle.std.specs.Prelude.{ℕ, ◌^◌, ◌==◌, nat_le, Bool, true, false,
 use Rattle.credentials.specs.Credentials.{Credentials}
 use Rattle.link_core.specs.Link.{LinkState, first_in, holds_back, is_full_beside}
 use Rattle.mux_conn.specs.declared.act.LinkAct.{LinkAct}
+use Rattle.mux_conn.specs.declared.again.Again.{Again}
+use Rattle.mux_conn.specs.declared.again.Again.TheVariants as again
 use Rattle.mux_conn.specs.declared.connection.MultiplexedConnection.{MultiplexedConnection}
 use Rattle.mux_conn.specs.declared.life.Greeting.{Greeting}
 use Rattle.mux_conn.specs.declared.life.Life.{Life}
@@ -99,8 +101,22 @@ admits_none_at (SettingUp link greeting) empty = true
 admits_none_at (Ready link) empty = empty
 admits_none_at (Ended e) empty = false
 
+-- something is to be subscribed again, and isn't answered
+abbrev pub is_outstanding : Again → Bool
+is_outstanding again.Nothing = false
+is_outstanding (again.Due packed of_shape timed) = true
+is_outstanding again.Sent = true
+
+-- so it is on a link that is set up
+abbrev pub is_repeating : MultiplexedConnection → Bool
+is_repeating c = is_ready c.life && is_outstanding c.again
+
+-- the link is set up, and takes requests: what is subscribed again is answered, if anything is
+abbrev pub is_serving : MultiplexedConnection → Bool
+is_serving c = is_ready c.life && not (is_outstanding c.again)
+
 abbrev pub admits_none : MultiplexedConnection → Bool
-admits_none c = admits_none_at c.life (has_no_permit c.limit c.free)
+admits_none c = admits_none_at c.life (is_outstanding c.again || has_no_permit c.limit c.free)
 
 -- some credentials wait to be told
 abbrev pub are_some : List Credentials → Bool

@@ -27,6 +27,8 @@ use Rattle.link_core.specs.Ends.{error_of}
 use Rattle.link_core.specs.Link.{Reading, piece_read}
 use Rattle.mux_conn.specs.declared.act.LinkAct.{LinkAct}
 use Rattle.mux_conn.specs.declared.act.LinkAct.TheVariants as act
+use Rattle.mux_conn.specs.declared.again.Again.{Again}
+use Rattle.mux_conn.specs.declared.again.Again.TheVariants as again
 use Rattle.mux_conn.specs.declared.connection.MultiplexedConnection.{MultiplexedConnection}
 use Rattle.driver_model.specs.declared.hearing.Hearing.TheVariants as hearing
 use Rattle.driver_model.specs.declared.hearing.Notice.{Notice}
@@ -39,18 +41,36 @@ use Rattle.mux_conn.specs.declared.life.Greeting.TheVariants as greet
 use Rattle.mux_conn.specs.declared.life.Life.{Life}
 use Rattle.mux_conn.specs.declared.life.Life.TheVariants.{Resting, Dialing, Wanting, SettingUp, Ready, Ended}
 use Rattle.mux_conn.specs.declared.request.Waiting.{Waiting}
-use Rattle.mux_conn.specs.Connection.{Work, acted, at_life, with_link, with_setup, with_wanting, opened_on, is_ready}
+use Rattle.mux_conn.specs.Connection.{Work, acted, at_life, with_link, with_setup, with_wanting, opened_on, is_ready, is_repeating}
 use Rattle.mux_conn.specs.Requests.{is_open_at, closed, answered}
 use Rattle.mux_conn.specs.Renewals.{no_renewal, renewing, source_asked, expecting, none_follow, late_for, renewal_id, is_done, replied}
+use Rattle.mux_conn.specs.Repeats.{repeating, repeat_id}
 use Rattle.credentials.specs.Credentials.{Credentials}
 
 -- a link without messages, with the queue and the boundary of its connection
 abbrev pub new_link : MultiplexedConnection → LinkState
 new_link c = fresh c.size c.boundary
 
--- a message that the link has settled: its request is answered, or new credentials are
+-- the numbers of requests that have no place
+abbrev pub numbers_of : List Waiting → List ℕ
+numbers_of [] = []
+numbers_of (q ∷ qs) = q.number ∷ numbers_of qs
+
+-- the waits of all that have no place are to be shown anew
+abbrev pub all_fresh : Work → Work
+all_fresh w = record w { conn = record w.conn { fresh = numbers_of w.conn.waiting } }
+
+-- what is subscribed again is answered, whatever that is, or the time for it is over: where the link is up, requests go on
+abbrev pub served : Work → Work
+served w = if is_repeating w.conn then all_fresh (repeating w again.Nothing) else w
+
+-- a message of a request, or the one that subscribes again, is settled
+abbrev pub settled_other : Work → Settled → Work
+settled_other w s = if s.id == repeat_id then served w else answered w s.id (outcome_of s.verdict)
+
+-- a message that the link has settled: its request is answered, or new credentials are, or what is subscribed again
 abbrev pub settled_one : Work → Settled → Work
-settled_one w s = if s.id == renewal_id then renewing w (replied w.conn.renewal (is_done s.verdict)) else answered w s.id (outcome_of s.verdict)
+settled_one w s = if s.id == renewal_id then renewing w (replied w.conn.renewal (is_done s.verdict)) else settled_other w s
 
 -- each message that the link has settled is answered, in order
 abbrev pub settled_each : Work → List Settled → Work
@@ -118,15 +138,6 @@ parted w = if hears_pushes w.conn.hears then noticed w (notice.Push (record { ki
 abbrev pub ended_by : Work → LinkState → LinkFault → Work
 ended_by w link f = all_answered (parted (cut_short w)) (faulted (record { link = link; out = [] }) f).out
 
--- the numbers of requests that have no place
-abbrev pub numbers_of : List Waiting → List ℕ
-numbers_of [] = []
-numbers_of (q ∷ qs) = q.number ∷ numbers_of qs
-
--- the waits of all that waited for the connect are to be shown anew
-abbrev pub all_fresh : Work → Work
-all_fresh w = record w { conn = record w.conn { fresh = numbers_of w.conn.waiting } }
-
 -- without a link, behind one that is over: nothing of that stays but the requests, and those that wait, whose waits are to be shown
 -- anew
 abbrev pub afresh : MultiplexedConnection → MultiplexedConnection
@@ -134,6 +145,7 @@ afresh c = record c {
   free = unwrap_or c.limit 0;
   info = c.address;
   renewal = no_renewal c.renewal.wanted c.renewal.within;
+  again = again.Nothing;
   life = Resting;
   opened = false;
   admitted = [];
@@ -141,9 +153,10 @@ afresh c = record c {
   moved = [];
 }
 
--- the connect of its next link is asked for, and whether no other attempt follows it; the waits of those that wait are to be shown anew
-abbrev pub dialled : MultiplexedConnection → Bool → MultiplexedConnection
-dialled c is_last = record c { last = is_last; life = Dialing; fresh = numbers_of c.waiting }
+-- the connect of its next link is asked for, whether no other attempt follows it, and what is subscribed again on that link; the waits of
+-- those that wait are to be shown anew
+abbrev pub dialled : MultiplexedConnection → Bool → Again → MultiplexedConnection
+dialled c is_last a = record c { last = is_last; again = a; life = Dialing; fresh = numbers_of c.waiting }
 
 -- that it is ready, or that its opening failed, is shown, unless it was before
 abbrev pub creation_told : Work → Option RedisError → Work
@@ -408,7 +421,7 @@ applied w deserted = unauthorized_at w (error.AuthFailed []) w.conn.life
 applied w (renewed c) = record w { conn = expecting w.conn c }
 applied w unrenewed = record w { conn = none_follow w.conn }
 applied w (late k) = record w { conn = late_for w.conn k }
-applied w unrepeated = w
+applied w unrepeated = served w
 applied w dropped = dropped_by w
 applied w shut = shut_at w w.conn.life
 

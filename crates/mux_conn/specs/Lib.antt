@@ -1,6 +1,7 @@
 pub mod Connection
 pub mod Requests
 pub mod Renewals
+pub mod Repeats
 pub mod Internal
 pub mod Effects
 pub mod Passes

@@ -17,8 +17,9 @@ use Rattle.mux_conn.specs.declared.life.Life.{Life}
 use Rattle.mux_conn.specs.declared.life.Life.TheVariants.{Resting, Dialing, Wanting, SettingUp, Ready, Ended}
 use Rattle.mux_conn.specs.declared.request.Progress.TheVariants as progress
 use Rattle.mux_conn.specs.declared.request.Waiting.{Waiting}
-use Rattle.mux_conn.specs.Connection.{Work, acted, with_link, with_setup, is_ready, admits_none, has_room}
+use Rattle.mux_conn.specs.Connection.{Work, acted, with_link, with_setup, is_serving, admits_none, has_room}
 use Rattle.mux_conn.specs.Renewals.{renewed}
+use Rattle.mux_conn.specs.Repeats.{repeated}
 use Rattle.mux_conn.specs.Requests.{name_at, is_waiting_at, is_unbegun_at, is_admitted_at, with_permits, progressed, answered}
 
 -- each start is shown
@@ -163,15 +164,19 @@ abbrev pub rounds_of : Work → List ℕ → Work
 rounds_of w [] = w
 rounds_of w (p ∷ ps) = rounds_of (round_begun w p) ps
 
--- where rounds are shown, on a link that is set up: of all that still wait, for a permit, the rounds begin. Those whose wait isn't to be
--- shown have begun before
+-- where rounds are shown, on a link that takes requests: of all that still wait, for a permit, the rounds begin. Those whose wait isn't to
+-- be shown have begun before
 abbrev pub rounds_begun : Work → Work
-rounds_begun w = if w.conn.rounds && is_ready w.conn.life then rounds_of w w.conn.fresh else w
+rounds_begun w = if w.conn.rounds && is_serving w.conn then rounds_of w w.conn.fresh else w
 
--- new credentials are told, what waits in the queue starts, then those that wait for a place are moved, and then those that
+-- what the driver says itself on a link that is set up: what is subscribed again, and then new credentials
+abbrev pub said : Work → Work
+said w = renewed (repeated w)
+
+-- the driver says what it has to, what waits in the queue starts, then those that wait for a place are moved, and then those that
 -- wait for the connection
 abbrev pub moved_all : Work → Work
-moved_all w = admitted_all (moved_up_all (started (renewed w)))
+moved_all w = admitted_all (moved_up_all (started (said w)))
 
 -- every request is moved as far as it can go, and those that go on waiting for a permit begin their rounds
 abbrev pub passed : Work → Work

@@ -8,12 +8,13 @@ use Rattle.driver_model.specs.News.{News}
 use Rattle.link_core.specs.Link.{LinkState, offered_of}
 use Rattle.link_core.specs.Outbox.{can_offer}
 use Rattle.mux_conn.specs.declared.act.LinkAct.TheVariants as act
+use Rattle.mux_conn.specs.declared.again.Again.TheVariants as again
 use Rattle.mux_conn.specs.declared.connection.MultiplexedConnection.{MultiplexedConnection}
 use Rattle.mux_conn.specs.declared.renewal.Renewal.{Renewal}
 use Rattle.mux_conn.specs.declared.life.Greeting.{Greeting}
 use Rattle.mux_conn.specs.declared.life.Life.{Life}
 use Rattle.mux_conn.specs.declared.life.Life.TheVariants.{Resting, Dialing, Wanting, SettingUp, Ready, Ended}
-use Rattle.mux_conn.specs.Connection.{Work, acted, with_link, with_setup, first_queued}
+use Rattle.mux_conn.specs.Connection.{Work, acted, with_link, with_setup, is_repeating, first_queued}
 use Rattle.mux_conn.specs.Requests.{name_at, is_waiting_at, is_admitted_at, is_placed_at}
 use Rattle.mux_conn.specs.Effects.{applied}
 use Rattle.mux_conn.specs.Passes.{passed}
@@ -29,6 +30,7 @@ dialing size boundary limit hears info renewal = record {
   info = info;
   address = info;
   renewal = renewal;
+  again = again.Nothing;
   life = Dialing;
   last = true;
   told = false;
@@ -75,8 +77,8 @@ moved_wait c p =
     if is_admitted_at c.requests p then Some wait.Place
     else if is_placed_at c.requests p && is_from (first_queued c.life) p then Some wait.Room else None
 
--- what a request waits for that waits for its connection: the next attempt, the connect, the credentials for its setup, the setup, or a
--- permit
+-- what a request waits for that waits for its connection, where nothing is subscribed again: the next attempt, the connect, the
+-- credentials for its setup, the setup, or a permit
 abbrev pub early_wait : Life → WaitKind
 early_wait Resting = wait.Backoff
 early_wait Dialing = wait.Connect
@@ -85,9 +87,13 @@ early_wait (SettingUp link greeting) = wait.Setup
 early_wait (Ready link) = wait.Permit
 early_wait (Ended e) = wait.Permit
 
+-- on a link that is set up it waits for what is subscribed again there, as long as that isn't answered
+abbrev pub waits_for : MultiplexedConnection → WaitKind
+waits_for c = if is_repeating c then wait.Resubscribe else early_wait c.life
+
 -- what a request waits for that has come into this turn without permits, if it waits
 abbrev pub fresh_wait : MultiplexedConnection → ℕ → Option WaitKind
-fresh_wait c p = if is_waiting_at c.requests p then Some (early_wait c.life) else None
+fresh_wait c p = if is_waiting_at c.requests p then Some (waits_for c) else None
 
 abbrev pub wait_shown : Work → ℕ → Option WaitKind → Work
 wait_shown w p None = w

@@ -34,6 +34,10 @@ pub enum LinkAct {
         number: u32,
         ms: u64,
     },
+    /// A timer is to fire after so many milliseconds: by then what is subscribed again is to be answered.
+    RepeatTimer {
+        ms: u64,
+    },
     /// A push came, or tells that the link has ended.
     Push {
         info: PushInfo,
@@ -80,6 +84,13 @@ pub enum LinkAct {
     /// New credentials are told to the server: which message of the link it is, how many items it takes, and how many bytes
     /// it has.
     Renewed {
+        message: u32,
+        need: u64,
+        len: u64,
+    },
+    /// All that was subscribed is subscribed again: which message of the link it is, how many items it takes, and how many bytes
+    /// it has.
+    Repeated {
         message: u32,
         need: u64,
         len: u64,

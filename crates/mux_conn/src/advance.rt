@@ -234,7 +234,7 @@ impl MultiplexedConnection {
     ghost use Rattle.mux_conn.specs.Requests.{answered};
     ghost use Rattle.mux_conn.specs.Passes.{placed_at, seated, moved_up};
     ghost use Rattle.mux_conn.specs.Passes.{moved_up_all, put_behind, seated_or_behind, admitted};
-    ghost use Rattle.mux_conn.specs.Passes.{admitted_all, moved_all, passed};
+    ghost use Rattle.mux_conn.specs.Passes.{admitted_all, said, moved_all, passed};
     ghost use Rattle.mux_conn.specs.Connection.{work_with, admits_none, has_room, runs_out, uses_up};
 
     /// A request takes its place in the queue.
@@ -465,7 +465,24 @@ impl MultiplexedConnection {
         Ok(())
     }
 
-    /// New credentials are told, and every request is moved as far as it can go.
+    /// The driver says what it has to itself: it subscribes again what is to be, and then tells new credentials.
+    fn say(&mut self, alloc: Global, out: &mut Vec<LinkAct>) -> Result<(), ConnectionError>
+        ensures work { OnOk result (
+            work_with self.new out.new.items ≡ said (work_with self.old out.old.items)
+            ) }
+        ensures spent { IsErrOf result ConnectionError.Spent
+            → uses_up (said (work_with self.old out.old.items)) ≡ true }
+        ensures count { length self.new.requests ≡ length self.old.requests }
+        ensures failure { self.new.failure ≡ self.old.failure }
+    {
+        match self.repeat(alloc, out) {
+            Ok(()) => {}
+            Err(error) => return Err(error),
+        }
+        self.renew(alloc, out)
+    }
+
+    /// The driver says what it has to, and every request is moved as far as it can go.
     fn move_all(&mut self, alloc: Global, out: &mut Vec<LinkAct>) -> Result<(), ConnectionError>
         ensures work { OnOk result (
             work_with self.new out.new.items ≡ moved_all (work_with self.old out.old.items)
@@ -475,7 +492,7 @@ impl MultiplexedConnection {
         ensures count { length self.new.requests ≡ length self.old.requests }
         ensures failure { self.new.failure ≡ self.old.failure }
     {
-        match self.renew(alloc, out) {
+        match self.say(alloc, out) {
             Ok(()) => {}
             Err(error) => return Err(error),
         }

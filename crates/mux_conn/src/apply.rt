@@ -23,7 +23,12 @@ impl MultiplexedConnection {
     ghost use Rattle.mux_conn.specs.Effects.{CanTake, IsWithin};
 
     /// What the link has settled is answered, in order, and the room of its list is kept.
-    fn settle(&mut self, settled: Vec<Settled>, out: &mut Vec<LinkAct>) -> Result<(), AllocError>
+    fn settle(
+        &mut self,
+        alloc: Global,
+        settled: Vec<Settled>,
+        out: &mut Vec<LinkAct>,
+    ) -> Result<(), AllocError>
         ensures work { OnOk result (
             work_with self.new out.new.items
             ≡ settled_each (work_with self.old out.old.items) settled.items
@@ -32,7 +37,7 @@ impl MultiplexedConnection {
         ensures failure { self.new.failure ≡ self.old.failure }
     {
         let mut rest = Rest::of(settled);
-        self.settle_rest(&mut rest, out)?;
+        self.settle_rest(alloc, &mut rest, out)?;
         self.settled.give(rest.into_list());
         Ok(())
     }
@@ -40,6 +45,7 @@ impl MultiplexedConnection {
     /// What is left of what the link has settled is answered, in order.
     pub(crate) fn settle_rest(
         &mut self,
+        alloc: Global,
         rest: &mut Rest<Settled>,
         out: &mut Vec<LinkAct>,
     ) -> Result<(), AllocError>
@@ -51,7 +57,7 @@ impl MultiplexedConnection {
         ensures failure { self.new.failure ≡ self.old.failure }
     {
         while let Some(message) = rest.pop_front() {
-            self.settle_one(message, out)?;
+            self.settle_one(alloc, message, out)?;
         }
         Ok(())
     }
@@ -142,7 +148,7 @@ impl MultiplexedConnection {
         ensures count { length self.new.requests ≡ length self.old.requests }
         ensures failure { self.new.failure ≡ self.old.failure }
     {
-        self.settle(settled, out)?;
+        self.settle(alloc, settled, out)?;
         self.fail_waiting(alloc, &RedisError::Closed, out)
     }
 
@@ -473,6 +479,7 @@ impl MultiplexedConnection {
     }
 
     /// The effect of news of its link. No request is moved.
+    #[tactic(auto, using(crate::proofs::Served::served_with))]
     pub(crate) fn hear(
         &mut self,
         alloc: Global,
@@ -516,7 +523,7 @@ impl MultiplexedConnection {
                 self.renew_late(number);
                 Ok(())
             }
-            LinkNews::Unrepeated => Ok(()),
+            LinkNews::Unrepeated => self.serve(alloc),
             LinkNews::Dropped => self.drop_stream(alloc, out),
             LinkNews::Shut => self.shut(alloc, out),
         }

@@ -3,6 +3,7 @@ ghost use Rattle.std.specs.Prelude.{true, min, unwrap_or, ◌+◌};
 ghost use Rattle.mux_conn.specs.Requests.{given_back};
 
 use crate::act::LinkAct;
+use crate::again::Again;
 use crate::errors::ConnectionError;
 use crate::life::Life;
 use crate::renewal::Renewal;
@@ -33,6 +34,8 @@ pub struct MultiplexedConnection {
     pub address: RedisConnectionInfo,
     /// The credentials that come of sources.
     pub renewal: Renewal,
+    /// What is subscribed again on its link.
+    pub again: Again,
     pub life: Life,
     /// Whether no other attempt follows where its opening fails, so that those that wait are answered then.
     pub last: bool,
@@ -66,6 +69,7 @@ impl Drop for MultiplexedConnection {
             info,
             address,
             renewal,
+            again,
             life,
             last: _,
             told: _,
@@ -84,6 +88,7 @@ impl Drop for MultiplexedConnection {
         drop(info);
         drop(address);
         drop(renewal);
+        drop(again);
         drop(life);
         drop(requests);
         drop(waiting);
@@ -108,7 +113,8 @@ impl MultiplexedConnection {
     /// message will start on it while `boundary` bytes or more, and at least one, are unwritten. Its requests will hold no
     /// more than `limit` permits, at least one, and where there is no limit they need none. What it `hears` is told, and where that
     /// is pushes, so is an end by a fault. `info` is what is said to the server before the first of them, and `renewal` says
-    /// whether credentials come of sources. Its opening is the only attempt, until `dial` says otherwise.
+    /// whether credentials come of sources. Its opening is the only attempt, and nothing is subscribed again, until `dial` says
+    /// otherwise.
     pub fn new(
         alloc: Global,
         size: u32,
@@ -130,6 +136,7 @@ impl MultiplexedConnection {
             info,
             address,
             renewal,
+            again: Again::Nothing,
             life: Life::Dialing,
             last: true,
             told: false,
@@ -155,7 +162,7 @@ impl MultiplexedConnection {
             Some(_) => self.free == 0,
             None => false,
         };
-        self.life.admits_none(empty)
+        self.life.admits_none(self.again.is_outstanding() || empty)
     }
 
     /// Whether it is up, and the queue holds less than its size, new credentials counted that are to be told.

@@ -10,7 +10,7 @@ use std::alloc::{AllocError, Global};
 
 impl MultiplexedConnection {
     ghost use Rattle.mux_conn.specs.Connection.{work_with, is_setting_up};
-    ghost use Rattle.mux_conn.specs.Turn.{written, moved_wait, fresh_wait, wait_shown};
+    ghost use Rattle.mux_conn.specs.Turn.{written, moved_wait, waits_for, fresh_wait, wait_shown};
     ghost use Rattle.mux_conn.specs.Turn.{moved_shown, fresh_shown, flushed};
 
     /// All unwritten bytes of a link that is set up are offered, unless an offer is unanswered.
@@ -83,6 +83,17 @@ impl MultiplexedConnection {
         None
     }
 
+    /// What a request waits for that waits for its connection: on a link that is set up what is subscribed again there, as long as
+    /// that isn't answered.
+    fn waits_for(&self) -> WaitKind
+        ensures { result ≡ waits_for self.now }
+    {
+        if self.is_repeating() {
+            return WaitKind::Resubscribe;
+        }
+        self.life.early_wait()
+    }
+
     /// What a request waits for that has come into this turn without permits, if it waits.
     fn fresh_wait(&self, number: u32) -> Option<WaitKind>
         ensures { result ≡ fresh_wait self.now number }
@@ -90,7 +101,7 @@ impl MultiplexedConnection {
         if !self.is_waiting(number) {
             return None;
         }
-        Some(self.life.early_wait())
+        Some(self.waits_for())
     }
 
     /// The wait of a request is shown, if it waits.

@@ -4,6 +4,7 @@
 
 mod act;
 mod advance;
+mod again;
 mod apply;
 mod connection;
 mod errors;
@@ -19,6 +20,7 @@ mod rounds;
 mod step;
 
 pub use act::LinkAct;
+pub use again::Again;
 pub use connection::MultiplexedConnection;
 pub use errors::ConnectionError;
 pub use life::{Greeting, Life};

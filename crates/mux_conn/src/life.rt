@@ -192,8 +192,8 @@ impl Life {
         }
     }
 
-    /// What a request waits for that waits for its connection: the next attempt, the connect, the credentials for its setup,
-    /// the setup, or a permit.
+    /// What a request waits for that waits for its connection, where nothing is subscribed again: the next attempt, the connect, the
+    /// credentials for its setup, the setup, or a permit.
     pub fn early_wait(&self) -> WaitKind
         ensures { result ≡ early_wait self.now }
     {

@@ -2,6 +2,7 @@ ghost use Rattle.std.specs.Prelude.{◌≡◌, [], length, OnOk, IfOk};
 ghost use Rattle.mux_conn.specs.Effects.{numbers_of};
 
 use crate::act::LinkAct;
+use crate::again::Again;
 use crate::connection::MultiplexedConnection;
 use crate::life::Life;
 use crate::renewal::Renewal;
@@ -16,7 +17,7 @@ impl MultiplexedConnection {
     ghost use Rattle.mux_conn.specs.Effects.{all_fresh, afresh, dialled};
     ghost use Rattle.mux_conn.specs.Effects.{creation_told, given_up, opening_failed, made_ready};
 
-    /// The waits of all that wait for the connection are to be shown anew.
+    /// The waits of all that have no place are to be shown anew.
     pub(crate) fn refresh(&mut self, alloc: Global) -> Result<(), AllocError>
         ensures conn { OnOk result (self.new ≡ (all_fresh (work_with self.old [])).conn) }
         ensures count { length self.new.requests ≡ length self.old.requests }
@@ -37,6 +38,7 @@ impl MultiplexedConnection {
         self.free = self.limit.unwrap_or(0);
         self.info = info;
         self.renewal = Renewal::new(alloc, self.renewal.wanted, self.renewal.within);
+        self.again = Again::Nothing;
         self.life = Life::Resting;
         self.opened = false;
         self.admitted = Queue::new(alloc);
@@ -46,14 +48,15 @@ impl MultiplexedConnection {
     }
 
     /// The connect of the next link is asked for, and this is the last attempt, or another one follows where its opening fails.
-    /// Those that wait for the connection wait for it now.
-    pub fn dial(&mut self, alloc: Global, last: bool) -> Result<(), AllocError>
-        ensures conn { OnOk result (self.new ≡ dialled self.old last) }
+    /// That is subscribed `again` on the link. Those that wait for the connection wait for it now.
+    pub fn dial(&mut self, alloc: Global, last: bool, again: Again) -> Result<(), AllocError>
+        ensures conn { OnOk result (self.new ≡ dialled self.old last again) }
         ensures count { length self.new.requests ≡ length self.old.requests }
         ensures failure { self.new.failure ≡ self.old.failure }
     {
         self.refresh(alloc)?;
         self.last = last;
+        self.again = again;
         self.life = Life::Dialing;
         Ok(())
     }

@@ -65,6 +65,7 @@ impl MultiplexedConnection {
     /// answered first.
     fn tell_notice(
         &mut self,
+        alloc: Global,
         told: NoticeAt,
         answered: &mut u64,
         settled: &mut Rest<Settled>,
@@ -83,7 +84,7 @@ impl MultiplexedConnection {
                 show_notice(told.notice, out)?;
                 return Ok(());
             };
-            self.settle_one(message, out)?;
+            self.settle_one(alloc, message, out)?;
             *answered += 1;
         }
         show_notice(told.notice, out)?;
@@ -94,6 +95,7 @@ impl MultiplexedConnection {
     /// The room of the lists is kept.
     fn tell(
         &mut self,
+        alloc: Global,
         settled: Vec<Settled>,
         notices: Vec<NoticeAt>,
         out: &mut Vec<LinkAct>,
@@ -109,9 +111,9 @@ impl MultiplexedConnection {
         let mut notices = Rest::of(notices);
         let mut answered = 0;
         while let Some(told) = notices.pop_front() {
-            self.tell_notice(told, &mut answered, &mut settled, out)?;
+            self.tell_notice(alloc, told, &mut answered, &mut settled, out)?;
         }
-        self.settle_rest(&mut settled, out)?;
+        self.settle_rest(alloc, &mut settled, out)?;
         self.settled.give(settled.into_list());
         self.notices.give(notices.into_list());
         Ok(())
@@ -293,7 +295,7 @@ impl MultiplexedConnection {
             Life::Dialing => return Ok(()),
             Life::Ended { error: _ } => return Ok(()),
         };
-        self.tell(settled, notices, out)?;
+        self.tell(alloc, settled, notices, out)?;
         if ended {
             self.fail(alloc, LinkFault::Parse, out)?;
         }

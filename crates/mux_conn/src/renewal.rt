@@ -2,6 +2,7 @@ ghost use Rattle.std.specs.Prelude.{◌≡◌, ◌++◌, ◌∷◌, [], length, 
 ghost use Rattle.mux_conn.specs.Renewals.{renewal_id, renewal_act, is_done};
 
 use crate::act::LinkAct;
+use crate::again::repeat_id;
 use crate::connection::MultiplexedConnection;
 use crate::errors::ConnectionError;
 use crate::life::Life;
@@ -94,7 +95,7 @@ impl Renewal {
 impl MultiplexedConnection {
     ghost use Rattle.mux_conn.specs.Connection.{work_with};
     ghost use Rattle.mux_conn.specs.Renewals.{source_asked, expecting, none_follow, late_for};
-    ghost use Rattle.mux_conn.specs.Effects.{settled_one};
+    ghost use Rattle.mux_conn.specs.Effects.{settled_other, settled_one};
 
     /// A source is asked for, where credentials come of sources.
     pub(crate) fn ask_source(&self, out: &mut Vec<LinkAct>) -> Result<(), AllocError>
@@ -145,9 +146,31 @@ impl MultiplexedConnection {
         }
     }
 
-    /// A message that the link has settled: its request is answered, or new credentials are.
+    /// A message of a request, or the one that subscribes again, is settled.
+    #[tactic(auto, using(crate::proofs::Served::served_with))]
+    fn settle_other(
+        &mut self,
+        alloc: Global,
+        message: Settled,
+        out: &mut Vec<LinkAct>,
+    ) -> Result<(), AllocError>
+        ensures work { OnOk result (
+            work_with self.new out.new.items
+            ≡ settled_other (work_with self.old out.old.items) message
+            ) }
+        ensures count { length self.new.requests ≡ length self.old.requests }
+        ensures failure { self.new.failure ≡ self.old.failure }
+    {
+        if message.id == repeat_id() {
+            return self.serve(alloc);
+        }
+        self.answer(message.id, message.verdict.into_outcome(), out)
+    }
+
+    /// A message that the link has settled: its request is answered, or new credentials are, or what is subscribed again.
     pub(crate) fn settle_one(
         &mut self,
+        alloc: Global,
         message: Settled,
         out: &mut Vec<LinkAct>,
     ) -> Result<(), AllocError>
@@ -162,7 +185,7 @@ impl MultiplexedConnection {
             self.renewal.reply(is_done(&message.verdict));
             return Ok(());
         }
-        self.answer(message.id, message.verdict.into_outcome(), out)
+        self.settle_other(alloc, message, out)
     }
 }
 

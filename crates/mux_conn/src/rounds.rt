@@ -31,7 +31,7 @@ impl MultiplexedConnection {
         Ok(())
     }
 
-    /// Where rounds are shown, on a link that is set up, those of all that still wait begin.
+    /// Where rounds are shown, on a link that takes requests, those of all that still wait begin.
     pub(crate) fn begin_rounds(&mut self, out: &mut Vec<LinkAct>) -> Result<(), AllocError>
         ensures work { OnOk result (
             work_with self.new out.new.items
@@ -40,7 +40,7 @@ impl MultiplexedConnection {
         ensures count { length self.new.requests ≡ length self.old.requests }
         ensures failure { self.new.failure ≡ self.old.failure }
     {
-        if !self.rounds || !self.life.is_ready() {
+        if !self.rounds || !self.is_serving() {
             return Ok(());
         }
         self.begin_each(out)?;

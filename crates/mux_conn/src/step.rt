@@ -45,7 +45,7 @@ impl MultiplexedConnection {
         }
     }
 
-    /// New credentials take their place, and every request is moved as far as it can go. After an error nothing is said of what
+    /// The driver says what it has to itself, and every request is moved as far as it can go. After an error nothing is said of what
     /// `out` gained.
     pub fn advance_all(
         &mut self,

@@ -4,6 +4,7 @@ use Rattle.std.proofs.Math.Bool.{and-false}
 use Rattle.std.specs.List.{AllByRecursion}
 use Rattle.std.specs.Prelude.{Bool, Option, None, Some, is_none, is_some, slice_get, if◌then◌else◌, min, not, nat_le, nat_lt, ◌==◌, ◌&&◌, ◌||◌}
 use Rattle.containers.proofs.Choices.{by_test, both_left, both_right, lt_from, eq_from, eq_test, le_from, le_test, left_if, ne_from, not_le_from, not_le_test, taken_if}
+use Rattle.sub_tracker.specs.Subscribed.{Request as Call}
 use Rattle.driver_model.specs.Shape.{permits_for}
 use Rattle.driver_model.specs.declared.action.Owner.{Owner}
 use Rattle.driver_model.specs.declared.action.WaitKind.{WaitKind}
@@ -12,7 +13,7 @@ use Rattle.link_core.specs.Link.{LinkState, holds_back, is_full_beside}
 use Rattle.link_core.specs.declared.message.Queued.{Queued}
 use Rattle.link_laws.proofs.TiedLink.{TiedLink, unwritten_is}
 use Rattle.link_laws.specs.Settles.{awaited_ids}
-use Rattle.mux_conn.specs.Connection.{has_no_permit, in_front, is_ready}
+use Rattle.mux_conn.specs.Connection.{has_no_permit, in_front, is_ready, is_outstanding}
 use Rattle.mux_conn.specs.Requests.{if_there, is_admitted, is_admitted_at, is_open as is_open_progress, is_open_at, is_placed, is_placed_at, is_unbegun_at, is_waiting, is_waiting_at, name_at}
 use Rattle.mux_conn.specs.declared.life.Greeting.{Greeting}
 use Rattle.mux_conn.specs.declared.life.Life.{Life}
@@ -22,7 +23,7 @@ use Rattle.mux_conn.specs.declared.request.Progress.{Progress}
 use Rattle.mux_conn.specs.declared.request.Progress.TheVariants as progress
 use Rattle.mux_conn.specs.declared.request.Request.{Request}
 use Rattle.legal_trace.specs.Book.{Book, has_generations}
-use Rattle.legal_trace.specs.Ledger.{Ledger, dials, is_over, is_set_up, lacks_credentials}
+use Rattle.legal_trace.specs.Ledger.{Ledger, dials, is_over, is_set_up, lacks_credentials, is_served}
 use Rattle.legal_trace.specs.Steps.{Step, asks, free_permits, is_held, is_held_back, is_in_line, is_let_in, is_outside, line_before, next_step, permits_in, queue_size, renewals_in_line, starts_or_waits, rounds, step_holding, step_open, step_placed, step_ready, step_rounding, step_served, step_taking, step_timed, takes, tells, unready_wait, waits, step_down}
 use Rattle.legal_trace.specs.Story.{Story, has_place, is_awaited, is_room, is_told, is_unstarted, shape}
 use Rattle.session_laws.proofs.Behind.{nil_told, open_untold}
@@ -34,11 +35,12 @@ use Rattle.session_laws.proofs.Numbers.{IsIn, Rising, in_left, in_right, rising_
 use Rattle.session_laws.proofs.Owes.{later_unstarted, request_story, open_on, queue_on}
 use Rattle.session_laws.proofs.Renewals.{due_in}
 use Rattle.session_laws.proofs.Rounded.{admitted_begun, has_begun, placed_begun, unbegun_waits}
-use Rattle.legal_trace.proofs.Again.{unwanted_is_served}
 use Rattle.session_laws.proofs.SetUp.{not_set_up, lacking_unset}
 use Rattle.session_laws.proofs.States.{IsFit}
 use Rattle.session_laws.proofs.Server.{AreSought, HasSaid}
 use Rattle.session_laws.proofs.Tied.{Inner, IsQueued, Tied, TiedLife, TiedNames, TiedNumbers, carried, has_ended, link_in, owner_of, queue_ids, shown_wait, waiting_ids, whole_link}
+use Rattle.session_laws.proofs.Repeats.{TiedRepeat, IsRepeated, served_is}
+use Rattle.mux_conn.specs.declared.again.Again.{Again}
 
 -- counts
 --
@@ -162,11 +164,12 @@ rising_before lo (x ∷ xs) ys hi n h i = (h.0, rising_before (suc x) xs ys hi n
 abbrev pub HasSeats : List ℕ → ℕ → LinkState → ℕ → Type 0
 HasSeats moved front link size = (p : ℕ) → IsIn p moved → IsIn p (queue_ids link.queue) → front + length link.queue ≤ size
 
--- a session whose messages may start: nothing is to be answered, and its link is up, with the queue and the boundary of its
+-- a session whose messages may start: nothing is to be answered, and its link takes requests, with the queue and the boundary of its
 -- connection; and who took a place in this turn, and is in the queue still, found one
 pub record IsRunning (t : Inner) : Type 0 where
   pub settled : t.pending ≡ []
   pub up : is_ready t.life ≡ true
+  pub served : is_outstanding t.again ≡ false
   pub fit : IsFit t.size t.bound (link_in t.life)
   pub seats : HasSeats t.moved (in_front t.renewal) (link_in t.life) t.size
 
@@ -180,10 +183,11 @@ ready_alive (Ready link) e = refl
 ready_alive (Ended x) e = cc
 
 -- so it is where its link is fit
-pub running_of : (t : Inner) (link : LinkState) → t.pending ≡ [] → t.life ≡ Ready link → IsFit t.size t.bound link → HasSeats t.moved (in_front t.renewal) link t.size → IsRunning t
-running_of t link none life fit seats = record {
+pub running_of : (t : Inner) (link : LinkState) → t.pending ≡ [] → t.life ≡ Ready link → is_outstanding t.again ≡ false → IsFit t.size t.bound link → HasSeats t.moved (in_front t.renewal) link t.size → IsRunning t
+running_of t link none life served fit seats = record {
   settled = none;
   up = ap is_ready life;
+  served = served;
   fit = subst (IsFit t.size t.bound) (sym (ap link_in life)) fit;
   seats = subst (λ (x : LinkState). HasSeats t.moved (in_front t.renewal) x t.size) (sym (ap link_in life)) seats;
 }
@@ -259,7 +263,20 @@ held_by b t name link h same tied =
     ∙ (λ i. nat_lt 0 (length (bytes i)) && nat_le t.bound (length (bytes i)))
     ∙ (λ i. nat_lt 0 (length link.outbox.unwritten) && nat_le (sym same i) (length link.outbox.unwritten))
 
--- so it is on a link that is up
+-- what is subscribed again is tied so on a link that is up and set up
+ready_repeated : (l : Ledger) (calls : List Call) (within : Option ℕ) (a : Again) (life : Life) → is_ready life ≡ true → TiedRepeat l calls within a life → IsRepeated l calls within a
+ready_repeated l calls within a Resting e h = cc
+ready_repeated l calls within a Dialing e h = cc
+ready_repeated l calls within a (Wanting link) e h = cc
+ready_repeated l calls within a (SettingUp link greeting) e h = cc
+ready_repeated l calls within a (Ready link) e h = h
+ready_repeated l calls within a (Ended x) e h = cc
+
+-- so the ledger says too whether it takes requests
+pub takes_requests : (b : Book) (t : Inner) → is_ready t.life ≡ true → Tied b t → is_served (b.link t.link) ≡ not (is_outstanding t.again)
+takes_requests b t up h = let l = b.link t.link in served_is l b.tracked t.renewal.within t.again (ready_repeated l b.tracked t.renewal.within t.again t.life up h.repeat)
+
+-- it is held back in the book where it is
 pub held_is : (b : Book) (t : Inner) → Tied b t → IsRunning t → is_held_back b (b.link t.link) ≡ holds_back (link_in t.life)
 held_is b t h r = held_by b t (owner_of t.requests) (link_in t.life) h.numbers r.fit.bound_is (ready_link (b.link t.link) t.requests t.life r.up (h.link (ready_alive t.life r.up)))
 
@@ -280,7 +297,7 @@ request_step b t p h r on =
     let s = b.story n in
     let held : is_held_back b (b.link s.link) ≡ holds_back (link_in t.life) = ap (λ l. is_held_back b (b.link l)) on ∙ held_is b t h r in
     up_step b n (ap (λ l. (b.link l).up) on ∙ ready_up (b.link t.link) b.created t.life r.up h.life) (ap (λ l. is_set_up (b.link l)) on ∙ ready_set (b.link t.link) t.started t.life r.up h.setup.said)
-    ∙ ap (λ served. step_served served (step_on b n s s.link (permits_in b.config) (is_held_back b (b.link s.link)))) (unwanted_is_served (b.link s.link) (h.numbers.unrepeated s.link))
+    ∙ ap (λ served. step_served served (step_on b n s s.link (permits_in b.config) (is_held_back b (b.link s.link)))) (ap (λ l. is_served (b.link l)) on ∙ takes_requests b t r.up h ∙ ap not r.served)
     ∙ (λ i. step_on b n s (on i) (h.numbers.settings.limit_is i) (held i))
 
 -- of one whose round has begun, where rounds are shown
@@ -663,6 +680,15 @@ round_step b t p h r shows u =
     let held = holds_back (link_in t.life) in
     request_step b t p h r (open_on b t p h o)
     ∙ (λ i. step_open (open_told b t p h o i) held (step_rounding ((h.rounds.rounds_is ∙ shows) i) (h.rounds.unbegun p u i) (step_begun b n s t.link t.limit held)))
+
+-- the step of one on a link that is set up, while what is subscribed again there isn't answered: it waits for that
+pub repeat_step : (b : Book) (t : Inner) (p : ℕ) (link : LinkState) → Tied b t → t.life ≡ Ready link → is_outstanding t.again ≡ true → (b.story (name_at t.requests p)).link ≡ t.link → next_step b (name_at t.requests p) ≡ waits wait.Resubscribe
+repeat_step b t p link h ready goes on =
+    let n = name_at t.requests p in
+    let s = b.story n in
+    let up : is_ready t.life ≡ true = ap is_ready ready in
+    up_step b n (ap (λ l. (b.link l).up) on ∙ ready_up (b.link t.link) b.created t.life up h.life) (ap (λ l. is_set_up (b.link l)) on ∙ ready_set (b.link t.link) t.started t.life up h.setup.said)
+    ∙ ap (λ served. step_served served (step_on b n s s.link (permits_in b.config) (is_held_back b (b.link s.link)))) (ap (λ l. is_served (b.link l)) on ∙ takes_requests b t up h ∙ ap not goes)
 
 -- the step of a submission while the connect isn't answered
 --

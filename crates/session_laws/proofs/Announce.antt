@@ -20,6 +20,7 @@ use Rattle.driver_model.specs.News.{News, silence, connected, took, came, failed
 use Rattle.driver_model.specs.declared.outcome.Outcome.TheVariants as outcome
 use Rattle.link_core.specs.Link.{LinkState}
 use Rattle.link_laws.proofs.TiedLink.{TiedLink}
+use Rattle.mux_conn.specs.declared.again.Again.{Again}
 use Rattle.mux_conn.specs.declared.connection.MultiplexedConnection.{MultiplexedConnection}
 use Rattle.mux_conn.specs.declared.life.Life.{Life}
 use Rattle.mux_conn.specs.declared.life.Life.TheVariants.{Resting, Dialing, Wanting, SettingUp, Ready, Ended}
@@ -31,11 +32,11 @@ use Rattle.legal_trace.specs.Story.{Story, fires}
 use Rattle.legal_trace.specs.Book.{Book, book, entered, is_clock_of, hearing_in, rest_after, timeout_after, kind_in, has_generations}
 use Rattle.legal_trace.specs.Events.{is_bad_event}
 use Rattle.legal_trace.specs.Legal.{MayTurn}
-use Rattle.mux_conn.specs.Connection.{is_ready, is_resting}
+use Rattle.mux_conn.specs.Connection.{is_resting, is_outstanding}
 use Rattle.session_laws.proofs.Comes.{course_later}
 use Rattle.session_laws.proofs.Server.{owners_of, setup_owners, TiedCreds, TiedSetup, TiedRenewal, hearing_at, on_link}
-use Rattle.session_laws.proofs.Tied.{TiedCreation, AreAimed, AreUses, IsAim, owners_each, Inner, inner, link_in, carried, whole_link, AreAside, TiedLife, TiedTries, TiedLines, AreQueued, TiedWaits, Tied, Sound, has_ended, TiedNotices, HasGreetedAlone, is_reading, IsUse, TiedRounds, AreUnrepeated, HasCourse, AreEarly}
-use Rattle.session_laws.proofs.Unrepeated.{unrepeated_hears}
+use Rattle.session_laws.proofs.Tied.{TiedCreation, AreAimed, AreUses, IsAim, owners_each, Inner, inner, link_in, carried, whole_link, AreAside, TiedLife, TiedTries, TiedLines, AreQueued, TiedWaits, Tied, Sound, has_ended, TiedNotices, HasGreetedAlone, is_reading, IsUse, TiedRounds, HasCourse, AreEarly}
+use Rattle.session_laws.proofs.Repeats.{TiedRepeat, serves}
 use Rattle.session_laws.proofs.States.{Between}
 use Rattle.session_laws.proofs.Entered.{book_more, sound_more}
 use Rattle.session_laws.proofs.Answer.{some_end}
@@ -159,10 +160,6 @@ pub others_heard : (b : Book) (c : Core) (started : List ℕ) (kind : EventKind)
 others_heard b c started kind next h good shown m other =
     let same : news_of b.timers b.sources m kind ≡ news_of c.timers c.sources m kind = λ i. news_of (h.numbers.timers i) (h.numbers.sources i) m kind in
     aside_heard (b.link m) c.turns next (news_of b.timers b.sources m kind) (λ past e. far_news c m kind good past (sym same ∙ e)) shown (h.others m other)
-
--- nor is anything subscribed again on any link
-pub still_unrepeated : (b : Book) (c : Core) (started : List ℕ) (kind : EventKind) → Tied b (inner c started) → AreUnrepeated (λ m. noted (b.link m) (hears c.turns (news_of b.timers b.sources m kind)))
-still_unrepeated b c started kind h = unrepeated_hears b.link c.turns (λ m. news_of b.timers b.sources m kind) h.numbers.unrepeated
 
 -- news start nothing
 pub heard_starts : (l : Ledger) (turn : ℕ) (n : News) → (noted l (hears turn n)).starts ≡ l.starts
@@ -354,12 +351,12 @@ aims_longer timers link count more l h k what e = by_purpose what (h k what e)
     by_purpose (purpose.Response owner.Monitor) is = absurd is
     by_purpose (purpose.Renewal m k) is = is
     by_purpose (purpose.Backoff g) is = tt
-    by_purpose (purpose.Resubscription m) is = absurd is
+    by_purpose (purpose.Resubscription m) is = is
     by_purpose (purpose.Response (owner.Try n round)) is = (let less = is.0 in omega arith, is.1)
 
 -- what the session needs of the life, and of the new credentials, that the turn leads to, by the ledger that its link has come
 -- to, and by what is said to its server then; the creation may be shown with it
-pub record ComesAs (b : Book) (c : Core) (l : Ledger) (created : ℕ) (opened : Bool) (info : RedisConnectionInfo) (renewal : Renewal) (life : Life) (fresh pending : List ℕ) (untold : List Heard) (started : List ℕ) : Type 0 where
+pub record ComesAs (b : Book) (c : Core) (l : Ledger) (created : ℕ) (opened : Bool) (info : RedisConnectionInfo) (renewal : Renewal) (a : Again) (life : Life) (fresh pending : List ℕ) (untold : List Heard) (started : List ℕ) : Type 0 where
   pub starts : l.starts ≡ (b.link c.single.link).starts
   pub hearing_kept : l.hearing ≡ (b.link c.single.link).hearing
   pub spoken : info.protocol ≡ c.single.connection.info.protocol
@@ -367,43 +364,44 @@ pub record ComesAs (b : Book) (c : Core) (l : Ledger) (created : ℕ) (opened : 
   pub course : HasCourse l.last l.end c.links c.single.link c.shut c.manager c.single.connection.last opened info c.single.connection.address life
   pub creds : TiedCreds l.creds renewal.wanted life
   pub renewal_is : TiedRenewal l renewal life
+  pub repeat_is : TiedRepeat l b.tracked renewal.within a life
   pub said : TiedSetup l info started life
   pub linked : has_ended life ≡ false → TiedLink (carried life c.single.connection.requests) l (whole_link life)
   pub lines : TiedLines b.story c.single.connection.requests (link_in life) c.single.connection.waiting c.single.connection.admitted pending started
   pub told : has_ended life ≡ false → AreQueued b.story c.single.connection.requests c.single.link (link_in life)
-  pub waits : TiedWaits b.story c.single.connection.requests life fresh c.single.connection.moved
-  pub rounds : TiedRounds (has_generations b) b.story c.single.connection.requests (is_ready life) fresh c.single.connection.rounds
-  pub early : AreEarly c.single.connection.requests life
+  pub waits : TiedWaits b.story c.single.connection.requests a life fresh c.single.connection.moved
+  pub rounds : TiedRounds (has_generations b) b.story c.single.connection.requests (serves life a) fresh c.single.connection.rounds
+  pub early : AreEarly c.single.connection.requests a life
   pub notices : TiedNotices (hearing_in b.config) c.single.connection.hears (hearing_at life c.single.connection.hears l.hearing) l.notices l.told l.end l.parted l.strange (is_reading l) untold false
 
 -- where its new credentials are as they were
 abbrev pub ComesTo : Book → Core → Ledger → ℕ → Bool → RedisConnectionInfo → Life → List ℕ → List ℕ → List Heard → List ℕ → Type 0
-ComesTo b c l created opened info life fresh pending untold started = ComesAs b c l created opened info c.single.connection.renewal life fresh pending untold started
+ComesTo b c l created opened info life fresh pending untold started = ComesAs b c l created opened info c.single.connection.renewal c.single.connection.again life fresh pending untold started
 
 -- the connection then
-abbrev pub renews_as : Core → RedisConnectionInfo → Renewal → Life → List ℕ → MultiplexedConnection
-renews_as c info renewal life fresh = record c.single.connection { info = info; renewal = renewal; life = life; fresh = fresh }
+abbrev pub renews_as : Core → RedisConnectionInfo → Renewal → Again → Life → List ℕ → MultiplexedConnection
+renews_as c info renewal a life fresh = record c.single.connection { info = info; renewal = renewal; again = a; life = life; fresh = fresh }
 
 -- where its new credentials are as they were
 abbrev pub comes_as : Core → RedisConnectionInfo → Life → List ℕ → MultiplexedConnection
 comes_as c info life fresh = record c.single.connection { info = info; life = life; fresh = fresh }
 
--- where the server is put into monitor mode no credentials come of sources, and none wait
-abbrev pub StaysQuiet : Core → Renewal → Type 0
-StaysQuiet c r = is_watching c.single.connection.hears ≡ true → (r.wanted ≡ false) × (r.waiting ≡ [])
+-- where the server is put into monitor mode no credentials come of sources, none wait, and nothing is subscribed again
+abbrev pub StaysQuiet : Core → Renewal → Again → Type 0
+StaysQuiet c r a = is_watching c.single.connection.hears ≡ true → (r.wanted ≡ false) × (r.waiting ≡ []) × (is_outstanding a ≡ false)
 
 -- so it is between turns
-pub quiet_still : (b : Book) (c : Core) (started : List ℕ) → Tied b (inner c started) → StaysQuiet c c.single.connection.renewal
-quiet_still b c started h w = let q = h.numbers.quiet w in (q.unwanted, q.unrenewed)
+pub quiet_still : (b : Book) (c : Core) (started : List ℕ) → Tied b (inner c started) → StaysQuiet c c.single.connection.renewal c.single.connection.again
+quiet_still b c started h w = let q = h.numbers.quiet w in (q.unwanted, q.unrenewed, q.unrepeated)
 
 -- the session tied to a book with these ledgers, and with these sources of credentials, where new credentials came to this
-pub heard_tied_as : (b : Book) (c : Core) (started : List ℕ) (word created : ℕ) (halted told opened : Bool) (kind : EventKind) (info : RedisConnectionInfo) (renewal : Renewal) (life : Life) (fresh pending : List ℕ) (untold : List Heard) (links : ℕ → Ledger) (l : Ledger) (asked uses : List SourceUse) → Tied b (inner c started) → TiedCreation created told
-    → (b.created ≢ 0 → created ≢ 0) → renewal.within ≡ c.single.connection.renewal.within → renewal.wanted ≡ c.single.connection.renewal.wanted → StaysQuiet c renewal
-    → AreAside c.single.link c.links links c.single.connection.hears renewal.within created → AreUnrepeated links → links c.single.link ≡ l → asked ≡ uses → AreUses uses c.single.link l.creds.asked l.creds.renews → ComesAs b c l created opened info renewal life fresh pending untold started
-    → Tied (record (heard_book b c.turns word kind) { created = created; failed = halted; link = links; sources = asked }) (record (seen (turned c kind) [] (renews_as c info renewal life fresh) pending started) { told = told; opened = opened; untold = untold; sources = uses })
-heard_tied_as b c started word created halted told opened kind info renewal life fresh pending untold links l asked uses h made shown within wanted quiet others again is sourced used k =
+pub heard_tied_as : (b : Book) (c : Core) (started : List ℕ) (word created : ℕ) (halted told opened : Bool) (kind : EventKind) (info : RedisConnectionInfo) (renewal : Renewal) (a : Again) (life : Life) (fresh pending : List ℕ) (untold : List Heard) (links : ℕ → Ledger) (l : Ledger) (asked uses : List SourceUse) → Tied b (inner c started) → TiedCreation created told
+    → (b.created ≢ 0 → created ≢ 0) → renewal.within ≡ c.single.connection.renewal.within → renewal.wanted ≡ c.single.connection.renewal.wanted → StaysQuiet c renewal a
+    → AreAside c.single.link c.links links c.single.connection.hears renewal.within created → links c.single.link ≡ l → asked ≡ uses → AreUses uses c.single.link l.creds.asked l.creds.renews → ComesAs b c l created opened info renewal a life fresh pending untold started
+    → Tied (record (heard_book b c.turns word kind) { created = created; failed = halted; link = links; sources = asked }) (record (seen (turned c kind) [] (renews_as c info renewal a life fresh) pending started) { told = told; opened = opened; untold = untold; sources = uses })
+heard_tied_as b c started word created halted told opened kind info renewal a life fresh pending untold links l asked uses h made shown within wanted quiet others is sourced used k =
     let after = record (heard_book b c.turns word kind) { created = created; failed = halted; link = links; sources = asked } in
-    let t = record (seen (turned c kind) [] (renews_as c info renewal life fresh) pending started) { told = told; opened = opened; untold = untold; sources = uses } in
+    let t = record (seen (turned c kind) [] (renews_as c info renewal a life fresh) pending started) { told = told; opened = opened; untold = untold; sources = uses } in
     tied_by after t l is (record {
       numbers = record {
         turns = ap (λ n. n + 1) h.numbers.turns;
@@ -417,10 +415,9 @@ heard_tied_as b c started word created halted told opened kind info renewal life
         shut = ap (λ s. s || is_shutdown kind) h.numbers.shut;
         within = h.numbers.within ∙ sym within;
         few = h.numbers.few;
-        unrepeated = again;
         settings = record { size_is = h.numbers.settings.size_is; bound_is = h.numbers.settings.bound_is; limit_is = h.numbers.settings.limit_is; some = h.numbers.settings.some; limited = h.numbers.settings.limited };
         kind_is = h.numbers.kind_is;
-        quiet = λ w. record { none = (h.numbers.quiet w).none; unwanted = (quiet w).0; unrenewed = (quiet w).1 };
+        quiet = λ w. record { none = (h.numbers.quiet w).none; unwanted = (quiet w).0; unrenewed = (quiet w).1; unrepeated = (quiet w).2 };
         comes_back = h.numbers.comes_back;
         lazy = λ is. shown (h.numbers.lazy is);
         current_is = h.numbers.current_is;
@@ -438,6 +435,7 @@ heard_tied_as b c started word created halted told opened kind info renewal life
       creation = made;
       uses = used;
       renewal = k.renewal_is;
+      repeat = k.repeat_is;
       setup = k.said;
       link = k.linked;
       names = h.names;
@@ -454,10 +452,10 @@ heard_tied_as b c started word created halted told opened kind info renewal life
 
 -- where they are as they were
 pub heard_tied_by : (b : Book) (c : Core) (started : List ℕ) (word created : ℕ) (halted told opened : Bool) (kind : EventKind) (info : RedisConnectionInfo) (life : Life) (fresh pending : List ℕ) (untold : List Heard) (links : ℕ → Ledger) (l : Ledger) (asked uses : List SourceUse) → Tied b (inner c started) → TiedCreation created told → (b.created ≢ 0 → created ≢ 0)
-    → AreAside c.single.link c.links links c.single.connection.hears c.single.connection.renewal.within created → AreUnrepeated links → links c.single.link ≡ l → asked ≡ uses → AreUses uses c.single.link l.creds.asked l.creds.renews → ComesTo b c l created opened info life fresh pending untold started
+    → AreAside c.single.link c.links links c.single.connection.hears c.single.connection.renewal.within created → links c.single.link ≡ l → asked ≡ uses → AreUses uses c.single.link l.creds.asked l.creds.renews → ComesTo b c l created opened info life fresh pending untold started
     → Tied (record (heard_book b c.turns word kind) { created = created; failed = halted; link = links; sources = asked }) (record (seen (turned c kind) [] (comes_as c info life fresh) pending started) { told = told; opened = opened; untold = untold; sources = uses })
-heard_tied_by b c started word created halted told opened kind info life fresh pending untold links l asked uses h made shown others again is sourced used k =
-    heard_tied_as b c started word created halted told opened kind info c.single.connection.renewal life fresh pending untold links l asked uses h made shown refl refl (quiet_still b c started h) others again is sourced used k
+heard_tied_by b c started word created halted told opened kind info life fresh pending untold links l asked uses h made shown others is sourced used k =
+    heard_tied_as b c started word created halted told opened kind info c.single.connection.renewal c.single.connection.again life fresh pending untold links l asked uses h made shown refl refl (quiet_still b c started h) others is sourced used k
 
 -- news ask for no source
 pub sources_hear : (l : Ledger) (turn : ℕ) (n : News) → (noted l (hears turn n)).creds.asked ≡ l.creds.asked
@@ -560,12 +558,12 @@ uses_hear sources link l turn n h =
     subst (λ (x : Bool). AreUses sources link x m.creds.renews) (sym (sources_hear l turn n)) (subst (λ (x : Bool). AreUses sources link l.creds.asked x) (sym (renews_hear l turn n)) h)
 
 -- by what its link hears, where new credentials came to this
-pub heard_tied_new : (b : Book) (c : Core) (started : List ℕ) (word created : ℕ) (halted told opened : Bool) (kind : EventKind) (info : RedisConnectionInfo) (renewal : Renewal) (life : Life) (fresh pending : List ℕ) (untold : List Heard) (l : Ledger) → Tied b (inner c started) → TiedCreation created told → renewal.within ≡ c.single.connection.renewal.within → renewal.wanted ≡ c.single.connection.renewal.wanted → StaysQuiet c renewal → is_bad c kind ≡ false → (b.created ≢ 0 → created ≢ 0)
-    → noted (b.link c.single.link) (hears c.turns (news_of b.timers b.sources c.single.link kind)) ≡ l → ComesAs b c l created opened info renewal life fresh pending untold started
-    → Tied (record (heard_book b c.turns word kind) { created = created; failed = halted }) (record (seen (turned c kind) [] (renews_as c info renewal life fresh) pending started) { told = told; opened = opened; untold = untold })
-heard_tied_new b c started word created halted told opened kind info renewal life fresh pending untold l h made within wanted quiet good shown is k =
-    heard_tied_as b c started word created halted told opened kind info renewal life fresh pending untold (heard_book b c.turns word kind).link l b.sources (c.sources ++ []) h made shown within wanted quiet
-    (subst (λ o. AreAside c.single.link c.links (heard_book b c.turns word kind).link c.single.connection.hears o created) (sym within) (others_heard b c started kind created h good shown)) (still_unrepeated b c started kind h) is
+pub heard_tied_new : (b : Book) (c : Core) (started : List ℕ) (word created : ℕ) (halted told opened : Bool) (kind : EventKind) (info : RedisConnectionInfo) (renewal : Renewal) (a : Again) (life : Life) (fresh pending : List ℕ) (untold : List Heard) (l : Ledger) → Tied b (inner c started) → TiedCreation created told → renewal.within ≡ c.single.connection.renewal.within → renewal.wanted ≡ c.single.connection.renewal.wanted → StaysQuiet c renewal a → is_bad c kind ≡ false → (b.created ≢ 0 → created ≢ 0)
+    → noted (b.link c.single.link) (hears c.turns (news_of b.timers b.sources c.single.link kind)) ≡ l → ComesAs b c l created opened info renewal a life fresh pending untold started
+    → Tied (record (heard_book b c.turns word kind) { created = created; failed = halted }) (record (seen (turned c kind) [] (renews_as c info renewal a life fresh) pending started) { told = told; opened = opened; untold = untold })
+heard_tied_new b c started word created halted told opened kind info renewal a life fresh pending untold l h made within wanted quiet good shown is k =
+    heard_tied_as b c started word created halted told opened kind info renewal a life fresh pending untold (heard_book b c.turns word kind).link l b.sources (c.sources ++ []) h made shown within wanted quiet
+    (subst (λ o. AreAside c.single.link c.links (heard_book b c.turns word kind).link c.single.connection.hears o created) (sym within) (others_heard b c started kind created h good shown)) is
     (h.numbers.sources ∙ sym (append-nil c.sources))
     (uses_on c.sources c.single.link (subst (λ (x : Ledger). AreUses c.sources c.single.link x.creds.asked x.creds.renews) is (uses_hear c.sources c.single.link (b.link c.single.link) c.turns (news_of b.timers b.sources c.single.link kind) h.uses))) k
 
@@ -573,7 +571,7 @@ heard_tied_new b c started word created halted told opened kind info renewal lif
 pub heard_tied : (b : Book) (c : Core) (started : List ℕ) (word created : ℕ) (halted told opened : Bool) (kind : EventKind) (info : RedisConnectionInfo) (life : Life) (fresh pending : List ℕ) (untold : List Heard) (l : Ledger) → Tied b (inner c started) → TiedCreation created told → is_bad c kind ≡ false → (b.created ≢ 0 → created ≢ 0)
     → noted (b.link c.single.link) (hears c.turns (news_of b.timers b.sources c.single.link kind)) ≡ l → ComesTo b c l created opened info life fresh pending untold started
     → Tied (record (heard_book b c.turns word kind) { created = created; failed = halted }) (record (seen (turned c kind) [] (comes_as c info life fresh) pending started) { told = told; opened = opened; untold = untold })
-heard_tied b c started word created halted told opened kind info life fresh pending untold l h made good shown is k = heard_tied_new b c started word created halted told opened kind info c.single.connection.renewal life fresh pending untold l h made refl refl (quiet_still b c started h) good shown is k
+heard_tied b c started word created halted told opened kind info life fresh pending untold l h made good shown is k = heard_tied_new b c started word created halted told opened kind info c.single.connection.renewal c.single.connection.again life fresh pending untold l h made refl refl (quiet_still b c started h) good shown is k
 
 -- the trace begins
 --

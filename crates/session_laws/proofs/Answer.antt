@@ -35,6 +35,12 @@ use Rattle.session_laws.proofs.Behind.{open_unanswered, told_answered}
 use Rattle.session_laws.proofs.Closing.{Closes, closed_other, late_closed, with_closed, story_closed, tries_closed, packs_closed, queue_closed, waits_closed, kept_other, IsUntried, told_closed}
 use Rattle.session_laws.proofs.Permits.{permits_closed}
 use Rattle.session_laws.proofs.Owes.{request_story, open_request, answered_closed, ends_told, failures_shown, notices_told}
+use Rattle.mux_conn.specs.Connection.{is_outstanding}
+use Rattle.mux_conn.specs.declared.again.Again.{Again}
+use Rattle.sub_tracker.specs.Subscribed.{Request as Call}
+use Rattle.legal_trace.specs.Again.{confirmed}
+use Rattle.session_laws.proofs.Repeats.{TiedRepeat, calls_kept}
+use Rattle.std.proofs.lemmas.List.{append-nil}
 
 -- where it may stand
 --
@@ -196,12 +202,27 @@ lines_answered table story requests link waiting admitted p pending started clos
 abbrev pub closed_in : Inner → ℕ → List ℕ → Inner
 closed_in t p pending = record t { requests = with_permits t.requests p progress.Closed 0; free = given_back t.limit t.free (permits_at t.requests p); pending = pending }
 
+-- what the answer confirms is of no account for what is subscribed again on the link, where that is answered, or the link has ended
+tracks_none : (l : Ledger) (calls more : List Call) (within : Option ℕ) (a : Again) (life : Life) → (has_ended life ≡ false → is_outstanding a ≡ true → more ≡ []) → TiedRepeat l calls within a life → TiedRepeat l (calls ++ more) within a life
+tracks_none l calls more within a life none h = by_life life h none
+  where
+    kept : (x : Life) → TiedRepeat l calls within a x → (is_outstanding a ≡ true → more ≡ []) → TiedRepeat l (calls ++ more) within a x
+    kept x k still = calls_kept l calls (calls ++ more) within a x (λ open_is. ap (λ cs. calls ++ cs) (still open_is) ∙ append-nil calls) k
+
+    by_life : (x : Life) → TiedRepeat l calls within a x → (has_ended x ≡ false → is_outstanding a ≡ true → more ≡ []) → TiedRepeat l (calls ++ more) within a x
+    by_life Resting k still = k
+    by_life Dialing k still = kept Dialing k (still refl)
+    by_life (Wanting link) k still = kept (Wanting link) k (still refl)
+    by_life (SettingUp link greeting) k still = kept (SettingUp link greeting) k (still refl)
+    by_life (Ready link) k still = kept (Ready link) k (still refl)
+    by_life (Ended e) k still = k
+
 -- one that is to be answered is, and is neither in the row nor in the queue; who is told and has not started is there; and the answer
--- is no cause for the next generation, until the link ends
-pub answer_apart : (b : Book) (t : Inner) (p : ℕ) (pending : List ℕ) (o : Outcome) → (has_ended t.life ≡ false → t.shut ≡ false → AreCalm (faults_in o)) → is_open_at t.requests p ≡ true → (IsIn p (wanted (link_in t.life).row ++ queue_ids (link_in t.life).queue) → ⊥)
+-- is no cause for the next generation, until the link ends, and confirms nothing while what is subscribed again isn't answered
+pub answer_apart : (b : Book) (t : Inner) (p : ℕ) (pending : List ℕ) (o : Outcome) → (has_ended t.life ≡ false → t.shut ≡ false → AreCalm (faults_in o)) → (has_ended t.life ≡ false → is_outstanding t.again ≡ true → confirmed (b.story (name_at t.requests p)).submission o ≡ []) → is_open_at t.requests p ≡ true → (IsIn p (wanted (link_in t.life).row ++ queue_ids (link_in t.life).queue) → ⊥)
     → (has_ended t.life ≡ false → AreQueued (entered b (action.Outcome (name_at t.requests p) o)).story (with_permits t.requests p progress.Closed 0) t.link (link_in t.life)) → Tied b (record t { pending = p ∷ pending })
     → Tied (entered b (action.Outcome (name_at t.requests p) o)) (closed_in t p pending)
-answer_apart b t p pending o calm open_is apart told h =
+answer_apart b t p pending o calm tracked open_is apart told h =
     let l = open_within t.requests p open_is in
     let closed : ℕ → Story = λ n. answered (b.story n) o in
     let c : (n : ℕ) → Closes (b.story n) (closed n) = λ n. answer_closes (b.story n) o in
@@ -215,7 +236,7 @@ answer_apart b t p pending o calm open_is apart told h =
     let known : n < b.submissions = (let within = name_within t.table t.requests p h.names l in let e = h.numbers.submissions in omega arith) in
     let own : (entered b (action.Outcome n o)).story n ≡ closed n = taken_if (n == n) (closed n) (b.story n) (eq_test n n refl) in
     record {
-      numbers = numbers_kept b b.link (entered b (action.Outcome n o)).story (entered b (action.Outcome n o)).tracked (entered b (action.Outcome n o)).errors now t.life (given_back t.limit t.free (permits_at t.requests p)) (with_permits t.requests p progress.Closed 0) t.waiting t.admitted t.fresh t.moved t.letting pending t.started h.numbers.unrepeated h.numbers;
+      numbers = numbers_kept b b.link (entered b (action.Outcome n o)).story (entered b (action.Outcome n o)).tracked (entered b (action.Outcome n o)).errors now t.life (given_back t.limit t.free (permits_at t.requests p)) (with_permits t.requests p progress.Closed 0) t.waiting t.admitted t.fresh t.moved t.letting pending t.started h.numbers;
       others = h.others;
       notices = h.notices;
       life = h.life;
@@ -225,6 +246,7 @@ answer_apart b t p pending o calm open_is apart told h =
       creation = h.creation;
       uses = h.uses;
       renewal = h.renewal;
+      repeat = tracks_none (b.link t.link) b.tracked (confirmed (b.story n).submission o) t.renewal.within t.again t.life tracked h.repeat;
       setup = h.setup;
       link = λ up. carried_tied t.life t.requests (with_permits t.requests p progress.Closed 0) (b.link t.link) (sym (owners_with t.requests p progress.Closed 0)) (h.link up);
       names = names_with t.table t.requests p progress.Closed 0 h.names;
@@ -232,7 +254,7 @@ answer_apart b t p pending o calm open_is apart told h =
       tries = tries_closed (b.link t.link) b.story t.requests t.link p closed t.started c h.tries;
       lines = lines_answered t.table b.story t.requests (link_in t.life) t.waiting t.admitted p pending t.started closed h.names l c apart h.lines;
       told = told;
-      waits = waits_closed t.table b.story t.requests p closed t.life t.life t.fresh t.moved h.names l (λ e. e) (λ e. e) (λ x e. (x, e)) (λ x u e. (x, e)) (λ x e. (x, e))
+      waits = waits_closed t.table b.story t.requests p closed t.again t.life t.life t.fresh t.moved h.names l (λ e. e) (λ e. e) (λ x e. (x, e)) (λ x u e. (x, e)) (λ x e. (x, e))
           (λ q i.
           let j = awaited_in q link.queue i in
           let k = rising_in 0 (requests_in t.started ++ (queue ++ kept)) (length t.requests) q h.lines.line (in_right q (requests_in t.started) (queue ++ kept) (in_left q queue kept j)) in
@@ -240,7 +262,7 @@ answer_apart b t p pending o calm open_is apart told h =
       permits = permits_closed b.story (entered b (action.Outcome n o)).story t.table b.submissions t.requests t.link t.limit t.free t.letting p h.names l known (r.on open_is) r.permits_is (λ m other. closed_other b.story t.requests p closed m other)
           (ap (λ (s : Story). s.permits) own) (ap (λ (s : Story). s.link) own ∙ r.on open_is) h.permits;
       rounds = rounds_closed b.story t.requests t.fresh p closed l c h.rounds;
-      early = early_closed t.requests t.life p l h.early;
+      early = early_closed t.requests t.again t.life p l h.early;
       late = late_closed t.table b.story t.requests p closed (p ∷ pending) pending h.names l (λ q other i. elim i [ inl same ↦ absurd (other same) | inr j ↦ j ]) h.late;
     }
 
@@ -294,10 +316,10 @@ owed_untold b n o asked owes u =
 front_in : (p : ℕ) (xs ys zs : List ℕ) → IsIn p (xs ++ ys) → IsIn p (xs ++ (ys ++ zs))
 front_in p xs ys zs i = elim (in_either p xs ys i) [ inl j ↦ in_left p xs (ys ++ zs) j | inr j ↦ in_right p xs (ys ++ zs) (in_left p ys zs j) ]
 
--- where the line rises
-pub answer_tied : (b : Book) (t : Inner) (p : ℕ) (pending : List ℕ) (o : Outcome) → is_open_at t.requests p ≡ true → owed b (name_at t.requests p) ≡ Some o → IsInLine t.requests (link_in t.life) t.admitted t.waiting (p ∷ pending)
+-- where the line rises, and what is subscribed again is answered, or the link has ended
+pub answer_tied : (b : Book) (t : Inner) (p : ℕ) (pending : List ℕ) (o : Outcome) → is_open_at t.requests p ≡ true → owed b (name_at t.requests p) ≡ Some o → IsInLine t.requests (link_in t.life) t.admitted t.waiting (p ∷ pending) → (has_ended t.life ≡ false → is_outstanding t.again ≡ true → ⊥)
     → Tied b (record t { pending = p ∷ pending }) → Tied (entered b (action.Outcome (name_at t.requests p) o)) (closed_in t p pending)
-answer_tied b t p pending o e owes r h =
+answer_tied b t p pending o e owes r quiet h =
     let l = open_within t.requests p e in
     let link = link_in t.life in
     let asked = (request_story b (record t { pending = p ∷ pending }) p h l).open_is ∙ e in
@@ -305,7 +327,7 @@ answer_tied b t p pending o e owes r h =
       | inl j ↦ in_left p (requests_in (wanted link.row)) (queue_ids link.queue) (request_in p (wanted link.row) (request_not b (record t { pending = p ∷ pending }) p h l) j)
       | inr j ↦ in_right p (requests_in (wanted link.row)) (queue_ids link.queue) j
     ] in
-    answer_apart b t p pending o (λ up open_still. owed_calm b (record t { pending = p ∷ pending }) p o h e up open_still owes) e (λ i. first_is_apart 0 p (pending ++ line_of link t.admitted t.waiting) (length t.requests) r (in_right p pending (line_of link t.admitted t.waiting) (front_in p (requests_in (wanted link.row)) (queue_ids link.queue) (kept_ids t.admitted t.waiting) (asked_in i))))
+    answer_apart b t p pending o (λ up open_still. owed_calm b (record t { pending = p ∷ pending }) p o h e up open_still owes) (λ up goes. absurd (quiet up goes)) e (λ i. first_is_apart 0 p (pending ++ line_of link t.admitted t.waiting) (length t.requests) r (in_right p pending (line_of link t.admitted t.waiting) (front_in p (requests_in (wanted link.row)) (queue_ids link.queue) (kept_ids t.admitted t.waiting) (asked_in i))))
     (λ up. told_closed b.story t.requests t.link p (λ n. answered (b.story n) o) link link (λ u. absurd (owed_untold b (name_at t.requests p) o asked owes u)) (λ n. refl) (λ q is i. i) (λ q i. i) (h.told up)) h
 
 -- one that isn't open is answered with nothing shown

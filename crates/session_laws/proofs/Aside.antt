@@ -8,7 +8,7 @@ use Rattle.driver_model.specs.declared.hearing.Hearing.{Hearing}
 use Rattle.legal_trace.specs.Ledger.{Ledger, authorized_by, awaits_credentials, bytes_came, dials, ending, ending_alive, ending_asked, failure_in, hears, is_over, is_renewal_open, lost_by, may_renew, noted, refused_in, renewed_by, unrenewed_by, with_news, is_repeating, unrepeated_by}
 use Rattle.session_laws.proofs.Creds.{down_may_renew, down_unawaited}
 use Rattle.session_laws.proofs.Tied.{AreAside, IsAside}
-use Rattle.session_laws.proofs.Unrepeated.{down_repeats_not}
+use Rattle.session_laws.proofs.Repeats.{down_repeats_not}
 
 -- what isn't up need not end where it isn't asked for, or is over
 pub not_up_ends : (l : Ledger) → l.up ≡ false → (l.asked && not (is_over l)) ≡ false → ending l ≡ None

@@ -36,13 +36,14 @@ use Rattle.session_laws.proofs.Entered.{all_stand-append, book_more, sound_more}
 use Rattle.session_laws.proofs.Names.{there_within, names_asked, submits_unwatched}
 use Rattle.session_laws.proofs.Owes.{started_within}
 use Rattle.session_laws.proofs.Settle.{seen}
-use Rattle.session_laws.proofs.Announce.{aims_longer, aims_on, turn_of, turned, may_turn, uses_on, uses_on, time_still, still_unrepeated}
+use Rattle.session_laws.proofs.Announce.{aims_longer, aims_on, turn_of, turned, may_turn, uses_on, time_still}
 use Rattle.session_laws.proofs.Heard.{told_life, silent_no_end, silent_applied, still_none, tame_between, hushed_still}
 use Rattle.session_laws.proofs.Said.{setup_on, IsTame, renoticed}
 use Rattle.session_laws.proofs.Further.{one_longer, there_longer, before_or_new, further_story, tries_longer, queue_longer, packs_longer, entries_longer, link_longer, told_longer, IsNext, waits_longer, permits_longer, late_longer}
 use Rattle.session_laws.proofs.InLine.{kept_ids, awaited_in}
 use Rattle.session_laws.proofs.Submit.{stories_with, new_story, story_is_new, others_before, within_line, IsErrorOf, may_refuse, core_refused, refused_tied, or_none}
 use Rattle.session_laws.proofs.Comes.{course_later}
+use Rattle.session_laws.proofs.Repeats.{repeat_alike}
 
 -- a submission that isn't bad has a form
 formed : (c : Core) (what : Submission) → is_bad c (event.Submit what) ≡ false → has_no_form c.kind what ≡ false
@@ -209,12 +210,12 @@ asked_next b c started what h no_fresh =
 
 -- the waits with it
 asked_waits : (b : Book) (c : Core) (started : List ℕ) (what : Submission) → Tied b (inner c started) → c.single.connection.fresh ≡ []
-    → TiedWaits (stories_with b what) (more_requests c) c.single.connection.life (c.single.connection.fresh ++ length c.single.connection.requests ∷ []) c.single.connection.moved
+    → TiedWaits (stories_with b what) (more_requests c) c.single.connection.again c.single.connection.life (c.single.connection.fresh ++ length c.single.connection.requests ∷ []) c.single.connection.moved
 asked_waits b c started what h no_fresh =
     let conn = c.single.connection in
     let queue = queue_ids (link_in conn.life).queue in
     let kept = kept_ids conn.admitted conn.waiting in
-    waits_longer c.table b.story (stories_with b what) conn.requests (more_requests c) conn.life conn.fresh (conn.fresh ++ length conn.requests ∷ []) conn.moved h.names (others_before b c started what h) (one_longer conn.requests (new_request c))
+    waits_longer c.table b.story (stories_with b what) conn.requests (more_requests c) conn.again conn.life conn.fresh (conn.fresh ++ length conn.requests ∷ []) conn.moved h.names (others_before b c started what h) (one_longer conn.requests (new_request c))
     (λ p i. within_line conn.requests (requests_in started) queue kept p h.lines.line (in_right p (requests_in started) (queue ++ kept) (in_left p queue kept (awaited_in p (link_in conn.life).queue i)))) no_fresh (asked_next b c started what h no_fresh) h.waits
 
 -- a submission without outcomes was told nothing
@@ -256,7 +257,6 @@ asked_tied b c started word what h tame form few no_fresh up speaks some =
         shut = ap (λ s. s || false) h.numbers.shut;
         within = h.numbers.within;
         few = omega (arith, few, length-append c.table (next ∷ []));
-        unrepeated = still_unrepeated b c started (event.Submit what) h;
         settings = record { size_is = h.numbers.settings.size_is; bound_is = h.numbers.settings.bound_is; limit_is = h.numbers.settings.limit_is; some = h.numbers.settings.some; limited = h.numbers.settings.limited };
         kind_is = h.numbers.kind_is;
         quiet = λ w. absurd (submits_unwatched b (inner c started) what h form w);
@@ -277,6 +277,7 @@ asked_tied b c started word what h tame form few no_fresh up speaks some =
       creation = h.creation;
       uses = uses_on c.sources c.single.link h.uses;
       renewal = renewal_alike ledger (record ledger { heard = silence }) conn.renewal conn.life refl refl refl h.renewal;
+      repeat = repeat_alike ledger (record ledger { heard = silence }) b.tracked conn.renewal.within conn.again conn.life refl refl refl (λ e is. refl) h.repeat;
       setup = setup_on ledger ledger.asked ledger.up ledger.end ledger.taken ledger.offer ledger.rest silence conn.info started conn.life h.setup;
       link = λ alive. told_tied (carried conn.life (more_requests c)) ledger (whole_link conn.life) ledger.asked ledger.up silence (link_longer ledger conn.requests (more_requests c) conn.life longer h.lines.entries (h.link alive));
       names = names_asked c.table conn.requests progress.Waiting h.names;
@@ -303,7 +304,7 @@ asked_tied b c started word what h tame form few no_fresh up speaks some =
       permits = permits_longer c.table b.story after b.submissions conn.requests (more_requests c) c.single.link conn.limit conn.free (conn.fresh ++ n ∷ []) h.names same longer h.numbers.submissions (ap (λ (s : Story). s.permits) (story_is_new b c started what h))
           (asked_next b c started what h no_fresh) h.permits;
       rounds = rounds_longer c.table b.story after conn.requests (more_requests c) conn.fresh (conn.fresh ++ n ∷ []) h.names same longer no_fresh (asked_next b c started what h no_fresh) h.rounds;
-      early = early_longer after conn.requests (more_requests c) (conn.fresh ++ n ∷ []) conn.life longer (asked_next b c started what h no_fresh) h.early;
+      early = early_longer after conn.requests (more_requests c) (conn.fresh ++ n ∷ []) conn.again conn.life longer (asked_next b c started what h no_fresh) h.early;
       late = late_longer c.table b.story after conn.requests (more_requests c) (conn.fresh ++ n ∷ []) h.names same longer (asked_next b c started what h no_fresh) h.late;
     }
 

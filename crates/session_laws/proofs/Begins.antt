@@ -11,8 +11,7 @@ use Rattle.driver_model.specs.declared.action.Cause.TheVariants as cause
 use Rattle.driver_model.specs.declared.action.Purpose.{Purpose}
 use Rattle.driver_model.specs.declared.config.Config.{Config}
 use Rattle.driver_model.specs.declared.config.Config.TheVariants as variant
-use Rattle.driver_model.specs.Config.{address, buffer_size, connect_timeout, manager_of, manager_settings, permits}
-use Rattle.driver_model.specs.Config.{is_lazy as waits_for_use}
+use Rattle.driver_model.specs.Config.{address, buffer_size, connect_timeout, manager_of, manager_settings, permits, is_lazy as waits_for_use}
 use Rattle.driver_model.proofs.Sound.{has_address, is_roomy}
 use Rattle.link_laws.proofs.TiedLink.{fresh_tied}
 use Rattle.mux_conn.specs.Effects.{afresh}
@@ -36,6 +35,11 @@ use Rattle.session_laws.proofs.Tied.{Tied, TiedCreation, TiedNumbers, inner, own
 use Rattle.session_laws.proofs.Waits.{IsQuiet}
 use Rattle.session_laws.proofs.Whole.{flushed_between}
 use Rattle.session_laws.proofs.Write.{is_written}
+use Rattle.mux_conn.specs.declared.again.Again.TheVariants as again
+use Rattle.session_laws.proofs.Informed.{HasInformed}
+use Rattle.shared_session.specs.Subscriptions.{no_subscriptions}
+use Rattle.session_laws.proofs.Subscribes.{nothing_first}
+use Rattle.mux_conn.specs.declared.again.Again.{Again}
 
 -- what a configuration says
 --
@@ -100,10 +104,9 @@ idle_numbers config word settings info number created told is first lazy = recor
   shut = refl;
   within = refl;
   few = omega arith;
-  unrepeated = λ m. refl;
   settings = record { size_is = refl; bound_is = refl; limit_is = refl; some = is.sized.some; limited = is.sized.limited };
   kind_is = refl;
-  quiet = λ w. record { none = refl; unwanted = unwanted_where_watched config w; unrenewed = refl };
+  quiet = λ w. record { none = refl; unwanted = unwanted_where_watched config w; unrenewed = refl; unrepeated = refl };
   comes_back = record {
     whole = config;
     told = refl;
@@ -146,6 +149,7 @@ idle_tied config word settings info number created told is first lazy shown = re
   creation = shown;
   uses = λ k what e. cc;
   renewal = record { over_is = refl; came = refl; waits = refl; untimed = refl; unstarted = refl; unasked = refl; unpending = refl; told = refl; kept = refl; found = refl };
+  repeat = refl;
   setup = record { info_is = tt; sent = λ k s less e. absurd (omega (arith, less)); said = (refl, refl) };
   link = λ e. fresh_tied (owner_of []) 0 0;
   names = opening_names;
@@ -153,10 +157,10 @@ idle_tied config word settings info number created told is first lazy shown = re
   tries = opening_tries blank_ledger refl;
   lines = opening_lines;
   told = λ e. record { told = λ n is_told none on. cc; here = λ p i. absurd i };
-  waits = opening_waits Resting refl;
+  waits = opening_waits again.Nothing Resting refl;
   permits = opening_permits (permits config);
   rounds = record { rounds_is = ap is_some (set_so config settings is.managed); unbegun = λ p u. cc; begun = λ p r o u. cc; new = λ p r up u. cc };
-  early = λ unready alive p o. cc;
+  early = λ unserved alive. record { unbegun = λ p o. cc; empty = refl };
   late = λ p o e. cc;
 }
 
@@ -186,8 +190,8 @@ lazy_between config word settings info is waits =
     let t = inner c [] in
     let tied = idle_tied config word settings info 0 1 true is (λ none. waits) (λ lazy. λ none. cc) (shown_creation 0) in
     let fit : IsFitIn conn = record { wanting = λ link e. cc; setup = λ link u e. cc; link = λ link e. cc; none = λ no. refl } in
-    let still : IsStill conn = record { setup = λ link u e. cc; held = λ link e. cc; full = λ link e. cc; waiting = λ link e. cc; begun = λ shows up. cc; none_waits = λ e. refl; renewed = λ link e. cc } in
-    let moved = is_moved b t tied refl (refl, refl) refl (λ l. refl) fit.link fit.none still.held still.full still.waiting still.none_waits (λ over. cc) (λ x. lazy_comes config word settings is.managed waits) fit.setup still.setup (λ p i. absurd i) still.renewed still.begun in
+    let still : IsStill conn = record { setup = λ link u e. cc; held = λ link e. cc; full = λ link e. cc; waiting = λ link e answered. cc; begun = λ shows up. cc; none_waits = λ e. refl; repeated = λ link e. cc; renewed = λ link e. cc } in
+    let moved = is_moved b t tied refl (refl, refl) refl (λ l. refl) fit.link fit.none still.held still.full still.waiting still.none_waits (λ over. cc) (λ x. lazy_comes config word settings is.managed waits) fit.setup still.setup (λ p i. absurd i) still.repeated still.renewed still.begun in
     let written = is_written b t tied moved refl in
     let quiet : IsQuiet t = record { seats = λ p i. absurd i; settled = refl; alone = refl; fit = fit.link; none = fit.none; held = still.held; full = still.full; waiting = still.waiting; begun = still.begun; gone = still.none_waits; setup_fit = fit.setup; setup_held = still.setup } in
     let book_is = sym (lazy_book config word) in
@@ -206,6 +210,7 @@ lazy_between config word settings info is waits =
         still = still;
         hushed = λ over. cc;
         heeded = subst (λ (x : Book). HasHeeded x.rest x.failed Resting (generations_at settings info 0)) book_is (record { rest_is = refl; failed_is = refl; rests = λ some. absurd (some refl) });
+        informed = subst (λ (x : Book). HasInformed x no_subscriptions) book_is (record { held = refl; counted = refl; calls = λ n. refl });
       };
     }
 
@@ -247,6 +252,13 @@ timed_so None = refl
 timed_so (Some ms) = refl
 
 -- the session then
+abbrev eager_with : Config → ConnectionManagerConfig → ConnectionInfo → List Purpose → Again → Core
+eager_with config settings info timers a = record (single_core config) {
+  manager = Some (generations_at settings info 1);
+  timers = timers;
+  single = record (single_core config).single { connection = record (first_dialled settings (single_core config).single.connection) { again = a } };
+}
+
 abbrev eager_core : Config → ConnectionManagerConfig → ConnectionInfo → List Purpose → Core
 eager_core config settings info timers = record (single_core config) {
   manager = Some (generations_at settings info 1);
@@ -271,9 +283,11 @@ eager_between config word settings info is eager =
       nobody = refl;
       told = (refl, refl);
     } in
-    let dials = dials_returned trace k g rests refl (λ e. cc) (ap (λ (x : Book). x.rest) (eager_book config word)) (ap (λ (x : Book). x.failed) (eager_book config word)) refl refl (subst (λ (x : Book). IsHarmless (x.link first_link).heard) book_is (inl refl)) in
+    let dials = dials_returned trace k g rests refl (λ e. cc) (ap (λ (x : Book). x.rest) (eager_book config word)) (ap (λ (x : Book). x.failed) (eager_book config word)) (subst (λ (x : Book). HasInformed x no_subscriptions) book_is (record { held = refl; counted = refl; calls = λ n. refl })) refl refl (subst (λ (x : Book). IsHarmless (x.link first_link).heard) book_is (inl refl)) in
     let shown = trace ++ action.Connect first_link info.host info.port ∷ connect_timed first_link 0 bound in
-    let done : IsBetween shown (eager_core config settings info (connect_purposes first_link bound)) = subst (λ (x : List Action). IsBetween x (eager_core config settings info (connect_purposes first_link bound))) (append-nil shown) (flushed_between shown (dialling k first_link) (λ e. cc) dials) in
+    let timers = connect_purposes first_link bound in
+    let flushed = subst (λ (x : List Action). IsBetween x (dialling k first_link)) (append-nil shown) (flushed_between shown (dialling k first_link) (λ e. cc) dials) in
+    let done : IsBetween shown (eager_core config settings info timers) = subst (λ (a : Again). IsBetween shown (eager_with config settings info timers a)) (nothing_first settings info 1) flushed in
     let says : bound ≡ connect_timeout config = sym (bounded_so config settings is.managed) in
     subst (λ (x : Option ℕ). IsBetween (trace ++ action.Connect first_link info.host info.port ∷ timer_asked x) (eager_core config settings info (connect_timers x))) says
     (subst (λ (ts : List Purpose). IsBetween (trace ++ action.Connect first_link info.host info.port ∷ timer_asked bound) (eager_core config settings info ts)) (purposes_are bound)

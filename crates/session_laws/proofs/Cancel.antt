@@ -1,6 +1,6 @@
 -- The caller of a submission has gone.
 use Rattle.std.proofs.lemmas.List.{append-nil}
-use Rattle.std.proofs.Common.{◌≡◌, ◌≢◌, inl, inr, ℕ, suc, ◌+◌, ◌<◌, ◌≤◌, ◌==◌, Bool, true, false, ◌&&◌, ◌||◌, is_some, List, [], ◌∷◌, ◌++◌, length, Option, Some, None, slice_get, if◌then◌else◌, refl, sym, ap, ◌∙◌, subst, arith}
+use Rattle.std.proofs.Common.{◌≡◌, ◌≢◌, inl, inr, ℕ, suc, ◌+◌, ◌<◌, ◌≤◌, ◌==◌, Bool, true, false, ◌&&◌, ◌||◌, not, is_some, List, [], ◌∷◌, ◌++◌, length, Option, Some, None, slice_get, if◌then◌else◌, refl, sym, ap, ◌∙◌, subst, arith}
 use Rattle.std.specs.List.{AllByRecursion}
 use Rattle.containers.proofs.Choices.{by_test, both_left, chosen, left_if, taken_if, eq_from, eq_test, ne_from, not_both, or_left}
 use Rattle.driver_model.specs.declared.hearing.Hearing.{Hearing}
@@ -20,6 +20,7 @@ use Rattle.link_core.specs.Waiting.{is_wanted, without}
 use Rattle.link_laws.specs.Settles.{wanted, awaited_ids}
 use Rattle.link_laws.proofs.TiedLink.{TiedLink, told_tied, cancelled_tied}
 use Rattle.mux_conn.specs.declared.connection.MultiplexedConnection.{MultiplexedConnection}
+use Rattle.mux_conn.specs.declared.again.Again.{Again}
 use Rattle.mux_conn.specs.declared.life.Life.{Life}
 use Rattle.mux_conn.specs.declared.life.Life.TheVariants.{Resting, Dialing, Wanting, SettingUp, Ready, Ended}
 use Rattle.mux_conn.specs.declared.request.Pending.{Pending}
@@ -33,12 +34,11 @@ use Rattle.shared_session.specs.Turn.{with_work, heard, is_shutdown, left_by, ef
 use Rattle.legal_trace.specs.Ledger.{Ledger, Sourced, ending, hears, noted, Heard, End}
 use Rattle.legal_trace.specs.Story.{Story, is_open, is_told, left}
 use Rattle.legal_trace.specs.Book.{Book, after_event, book, entered, if_own, shuts, submitted_by, timeout_after, kind_in, has_generations}
-use Rattle.mux_conn.specs.Renewals.{renewal_id}
 use Rattle.mux_conn.specs.declared.renewal.Renewal.{Renewal}
 use Rattle.session_laws.proofs.Rounded.{rounds_closed, early_closed}
 use Rattle.session_laws.proofs.Aside.{aside_silent}
 use Rattle.session_laws.proofs.Renewals.{renewal_alike}
-use Rattle.session_laws.proofs.Numbers.{IsIn, in_left, in_right, in_either, Rising, rising_from, rising_in, rising_right, rising_tail, requests_in, request_in, request_of, request_other, requests_first}
+use Rattle.session_laws.proofs.Numbers.{IsIn, in_left, in_right, in_either, Rising, rising_from, rising_in, rising_right, rising_tail, requests_in, request_in, request_of, request_other, requests_first, is_own}
 use Rattle.session_laws.proofs.Server.{TiedCreds, TiedSetup, TiedRenewal, hearing_at}
 use Rattle.session_laws.proofs.Tied.{carried, inner, no_link, link_in, owner_of, queue_ids, whole_link, IsQueued, IsEntry, AreQueued, TiedLife, TiedStory, TiedNames, TiedNumbers, TiedPermits, TiedLines, IsAside, Tied, has_ended, greeter, TiedRounds, HasCourse, TiedNotices, AreEarly}
 use Rattle.session_laws.proofs.States.{IsFit, IsFitIn, Between, HasApplied, IsStopped}
@@ -50,14 +50,17 @@ use Rattle.legal_trace.specs.Legal.{NoneEnds}
 use Rattle.session_laws.proofs.Closing.{Closes, WasReady, WasSettingUp, WasWanting, closed_other, late_closed, with_closed, story_closed, tries_closed, packs_closed, queued_other, queue_closed, AreOthers, waits_closed, kept_other, IsUntried, told_closed}
 use Rattle.session_laws.proofs.Answer.{entries_answered}
 use Rattle.session_laws.proofs.Settle.{seen}
-use Rattle.session_laws.proofs.Announce.{aims_on, turn_of, turned, uses_on, uses_on, time_still, still_unrepeated}
+use Rattle.session_laws.proofs.Announce.{aims_on, turn_of, turned, uses_on, time_still}
 use Rattle.session_laws.proofs.Kept.{tied_by}
 use Rattle.session_laws.proofs.Permits.{permits_closed}
 use Rattle.session_laws.proofs.Heard.{silent_applied, still_none, told_life, silent_no_end, tame_between, hushed_still}
 use Rattle.session_laws.proofs.Said.{carried_tied, setup_on, IsTame, renoticed}
-use Rattle.mux_conn.specs.Connection.{is_ready, is_resting}
+use Rattle.mux_conn.specs.Connection.{is_outstanding, is_ready, is_resting}
 use Rattle.session_laws.proofs.Comes.{course_later}
 use Rattle.shared_session.specs.declared.generations.Generations.{Generations}
+use Rattle.session_laws.proofs.Repeats.{repeat_alike, TiedRepeat, serves}
+use Rattle.sub_tracker.specs.Subscribed.{Request as Call}
+use Rattle.session_laws.proofs.Serving.{unready_serves}
 
 -- one who leaves closes its story
 --
@@ -100,29 +103,29 @@ silenced_wanted (e ∷ es) p q other i =
 
 -- the requests among numbers rise behind the first
 pub rising_behind : (lo n : ℕ) (xs ys : List ℕ) (hi : ℕ) → Rising lo (requests_in (n ∷ xs) ++ ys) hi → Rising lo (requests_in xs ++ ys) hi
-rising_behind lo n xs ys hi r = by_test (n == renewal_id) _
-    (λ t. subst (λ ns. Rising lo (ns ++ ys) hi) (taken_if (n == renewal_id) (requests_in xs) (n ∷ requests_in xs) t) r)
-    (λ f. let k = subst (λ ns. Rising lo (ns ++ ys) hi) (left_if (n == renewal_id) (requests_in xs) (n ∷ requests_in xs) f) r in let l : lo ≤ n = k.0 in rising_from (suc n) lo (requests_in xs ++ ys) hi (omega arith) k.1)
+rising_behind lo n xs ys hi r = by_test (is_own n) _
+    (λ t. subst (λ ns. Rising lo (ns ++ ys) hi) (taken_if (is_own n) (requests_in xs) (n ∷ requests_in xs) t) r)
+    (λ f. let k = subst (λ ns. Rising lo (ns ++ ys) hi) (left_if (is_own n) (requests_in xs) (n ∷ requests_in xs) f) r in let l : lo ≤ n = k.0 in rising_from (suc n) lo (requests_in xs ++ ys) hi (omega arith) k.1)
 
 -- none of those behind a request is that request
-pub apart_behind : (lo n : ℕ) (row : List Entry) (ys : List ℕ) (hi : ℕ) → n ≢ renewal_id → Rising lo (requests_in (n ∷ row_ids row) ++ ys) hi → IsIn n (wanted row) → ⊥
+pub apart_behind : (lo n : ℕ) (row : List Entry) (ys : List ℕ) (hi : ℕ) → is_own n ≡ false → Rising lo (requests_in (n ∷ row_ids row) ++ ys) hi → IsIn n (wanted row) → ⊥
 apart_behind lo n row ys hi other r i =
     let k = subst (λ ns. Rising lo (ns ++ ys) hi) (requests_first n (row_ids row) other) r in
     let j = rising_in (suc n) (requests_in (row_ids row) ++ ys) hi n k.1 (in_left n (requests_in (row_ids row)) ys (request_in n (row_ids row) other (wanted_in n row i))) in
     omega (arith, j.0)
 
 -- and have their places
-silenced_entries : (requests : List Request) (p lo hi : ℕ) (row : List Entry) (ys : List ℕ) → p ≢ renewal_id → Rising lo (requests_in (row_ids row) ++ ys) hi → AllByRecursion (IsEntry requests) row → AllByRecursion (IsEntry (with_permits requests p progress.Closed 0)) (silenced row p)
+silenced_entries : (requests : List Request) (p lo hi : ℕ) (row : List Entry) (ys : List ℕ) → is_own p ≡ false → Rising lo (requests_in (row_ids row) ++ ys) hi → AllByRecursion (IsEntry requests) row → AllByRecursion (IsEntry (with_permits requests p progress.Closed 0)) (silenced row p)
 silenced_entries requests p lo hi [] ys other r all = tt
 silenced_entries requests p lo hi (e ∷ es) ys other r all =
     let long = sym (length_with requests p progress.Closed 0) in
     chosen (λ (x : List Entry). AllByRecursion (IsEntry (with_permits requests p progress.Closed 0)) x) (is_entry_of p e) (silent e ∷ es) (e ∷ silenced es p)
     (λ t.
     let same = eq_from e.id p t in
-    let own : e.id ≢ renewal_id = λ x. other (sym same ∙ x) in (
+    let own : is_own e.id ≡ false = ap is_own same ∙ other in (
       elim all.0 [
         | inl x ↦ inl (record { below = subst (λ n. e.id < n) long x.below; placed_at = λ z. cc })
-        | inr a ↦ absurd (own a.is)
+        | inr a ↦ absurd (not_both (is_own e.id) own a.is)
       ],
       entries_answered requests p es (λ i. apart_behind lo e.id es ys hi own r (subst (λ n. IsIn n (wanted es)) (sym same) i)) all.1,
     ))
@@ -228,7 +231,7 @@ queue_left table story requests p closed (x ∷ xs) ys lo names l asked r c all 
 
 -- the lines of the others
 left_lines : (table : List (Option Pending)) (story : ℕ → Story) (requests : List Request) (link : LinkState) (waiting admitted : List Waiting) (p : ℕ) (started : List ℕ) (closed : ℕ → Story) → TiedNames table requests → p < length requests
-    → p ≢ renewal_id → is_open (story (name_at requests p)) ≡ true → ((n : ℕ) → Closes (story n) (closed n)) → Rising 0 (requests_in (row_ids link.row) ++ (queue_ids link.queue ++ kept_ids admitted waiting)) (length requests) → TiedLines story requests link waiting admitted [] started
+    → is_own p ≡ false → is_open (story (name_at requests p)) ≡ true → ((n : ℕ) → Closes (story n) (closed n)) → Rising 0 (requests_in (row_ids link.row) ++ (queue_ids link.queue ++ kept_ids admitted waiting)) (length requests) → TiedLines story requests link waiting admitted [] started
     → TiedLines (with_closed story requests p closed) (with_permits requests p progress.Closed 0) (cancelled link p) waiting admitted [] started
 left_lines table story requests link waiting admitted p started closed names l other asked c r h =
     let rows = requests_in (wanted link.row) in
@@ -281,6 +284,15 @@ left_renewal l r (Wanting link) p h = h
 left_renewal l r (SettingUp link greeting) p h = h
 left_renewal l r (Ready link) p h = h
 left_renewal l r (Ended e) p h = h
+
+-- nor of what is subscribed again
+pub left_repeat : (l : Ledger) (calls : List Call) (within : Option ℕ) (a : Again) (life : Life) (p : ℕ) → TiedRepeat l calls within a life → TiedRepeat l calls within a (cancelled_in life p)
+left_repeat l calls within a Resting p h = h
+left_repeat l calls within a Dialing p h = h
+left_repeat l calls within a (Wanting link) p h = h
+left_repeat l calls within a (SettingUp link greeting) p h = h
+left_repeat l calls within a (Ready link) p h = h
+left_repeat l calls within a (Ended e) p h = h
 
 -- and its setup is
 pub left_setup : (l : Ledger) (info : RedisConnectionInfo) (started : List ℕ) (life : Life) (p : ℕ) → TiedSetup l info started life → TiedSetup (record l { heard = silence }) info started (cancelled_in life p)
@@ -379,14 +391,18 @@ ready_cancelled (SettingUp link greeting) p = refl
 ready_cancelled (Ready link) p = refl
 ready_cancelled (Ended y) p = refl
 
--- so no round begins there
-pub early_cancelled : (requests : List Request) (life : Life) (p : ℕ) → AreEarly requests life → AreEarly requests (cancelled_in life p)
-early_cancelled requests Resting p h = h
-early_cancelled requests Dialing p h = h
-early_cancelled requests (Wanting link) p h = h
-early_cancelled requests (SettingUp link greeting) p h = h
-early_cancelled requests (Ready link) p h = h
-early_cancelled requests (Ended e) p h = h
+-- so it takes requests where it did
+pub serves_cancelled : (life : Life) (a : Again) (p : ℕ) → serves (cancelled_in life p) a ≡ serves life a
+serves_cancelled life a p = ap (λ up. up && not (is_outstanding a)) (ready_cancelled life p)
+
+-- and no round begins there
+pub early_cancelled : (requests : List Request) (a : Again) (life : Life) (p : ℕ) → AreEarly requests a life → AreEarly requests a (cancelled_in life p)
+early_cancelled requests a Resting p h = h
+early_cancelled requests a Dialing p h = h
+early_cancelled requests a (Wanting link) p h = h
+early_cancelled requests a (SettingUp link greeting) p h = h
+early_cancelled requests a (Ready link) p h = λ unserved alive. (let k = h unserved alive in record { unbegun = k.unbegun; empty = ap (λ (qs : List Queued). without qs p) k.empty })
+early_cancelled requests a (Ended e) p h = h
 
 -- so was one that waits for credentials
 pub was_wanting : (life : Life) (p : ℕ) → WasWanting life (cancelled_in life p)
@@ -408,7 +424,7 @@ was_setting (Ended y) p x u e = cc
 
 -- the lines of the others, by the life of the link
 left_lines_in : (table : List (Option Pending)) (story : ℕ → Story) (requests : List Request) (life : Life) (waiting admitted : List Waiting) (p : ℕ) (started : List ℕ) (closed : ℕ → Story) → TiedNames table requests → p < length requests
-    → p ≢ renewal_id → is_open (story (name_at requests p)) ≡ true → ((n : ℕ) → Closes (story n) (closed n))
+    → is_own p ≡ false → is_open (story (name_at requests p)) ≡ true → ((n : ℕ) → Closes (story n) (closed n))
     → (has_ended life ≡ false → Rising 0 (requests_in (row_ids (link_in life).row) ++ (queue_ids (link_in life).queue ++ kept_ids admitted waiting)) (length requests)) → TiedLines story requests (link_in life) waiting admitted [] started
     → TiedLines (with_closed story requests p closed) (with_permits requests p progress.Closed 0) (link_in (cancelled_in life p)) waiting admitted [] started
 left_lines_in table story requests life waiting admitted p started closed names l other asked c r h = by_life life r h
@@ -461,21 +477,21 @@ left_others requests (Ended e) ys p lo r q i = absurd i
 
 -- the link is fit
 pub left_fit : (c : MultiplexedConnection) (free : ℕ) (requests : List Request) (life : Life) (p : ℕ) → c.life ≡ life → IsFitIn c → IsFitIn (record c { free = free; requests = requests; life = cancelled_in life p })
-left_fit c free requests Resting p is h = record { wanting = λ x e. cc; setup = λ x u e. cc; link = λ x e. cc; none = λ n. h.none (λ x e. (let no : Resting ≡ Ready x = sym is ∙ e in cc)) }
-left_fit c free requests Dialing p is h = record { wanting = λ x e. cc; setup = λ x u e. cc; link = λ x e. cc; none = λ n. h.none (λ x e. (let no : Dialing ≡ Ready x = sym is ∙ e in cc)) }
+left_fit c free requests Resting p is h = record { wanting = λ x e. cc; setup = λ x u e. cc; link = λ x e. cc; none = λ n. h.none (unready_serves c.life c.again (ap is_ready is)) }
+left_fit c free requests Dialing p is h = record { wanting = λ x e. cc; setup = λ x u e. cc; link = λ x e. cc; none = λ n. h.none (unready_serves c.life c.again (ap is_ready is)) }
 left_fit c free requests (Wanting link) p is h = record {
   wanting = λ x e. let same : link ≡ x = cc in subst (IsFit c.size c.boundary) same (h.wanting link is);
   setup = λ x u e. cc;
   link = λ x e. cc;
-  none = λ n. h.none (λ x e. (let no : Wanting link ≡ Ready x = sym is ∙ e in cc));
+  none = λ n. h.none (unready_serves c.life c.again (ap is_ready is));
 }
 left_fit c free requests (SettingUp link greeting) p is h = record {
   wanting = λ x e. cc;
   setup = λ x u e. let same : link ≡ x = cc in subst (IsFit c.size c.boundary) same (h.setup link greeting is);
   link = λ x e. cc;
-  none = λ n. h.none (λ x e. (let no : SettingUp link greeting ≡ Ready x = sym is ∙ e in cc));
+  none = λ n. h.none (unready_serves c.life c.again (ap is_ready is));
 }
-left_fit c free requests (Ended y) p is h = record { wanting = λ x e. cc; setup = λ x u e. cc; link = λ x e. cc; none = λ n. h.none (λ x e. (let no : Ended y ≡ Ready x = sym is ∙ e in cc)) }
+left_fit c free requests (Ended y) p is h = record { wanting = λ x e. cc; setup = λ x u e. cc; link = λ x e. cc; none = λ n. h.none (unready_serves c.life c.again (ap is_ready is)) }
 left_fit c free requests (Ready link) p is h = record {
   wanting = λ x e. cc;
   setup = λ x u e. cc;
@@ -484,7 +500,7 @@ left_fit c free requests (Ready link) p is h = record {
       let k = h.link link is in
       let few = without_length link.queue p in
       subst (IsFit c.size c.boundary) same (record { sound = k.sound; size_is = k.size_is; bound_is = k.bound_is; within = omega (arith, k.within, few) });
-  none = λ n. absurd (n (cancelled link p) refl);
+  none = λ down. h.none (ap (λ (x : Life). serves x c.again) is ∙ down);
 }
 
 -- the turn
@@ -521,7 +537,6 @@ silent_numbers b c started word kind timeout story free life requests pending q 
   shut = q.shut;
   within = h.numbers.within;
   few = h.numbers.few;
-  unrepeated = still_unrepeated b c started kind h;
   settings = record { size_is = h.numbers.settings.size_is; bound_is = h.numbers.settings.bound_is; limit_is = h.numbers.settings.limit_is; some = h.numbers.settings.some; limited = h.numbers.settings.limited };
   kind_is = h.numbers.kind_is;
   quiet = h.numbers.quiet;
@@ -564,6 +579,7 @@ still_tied b c started word kind timeout q same h tame =
       creation = h.creation;
       uses = uses_on c.sources c.single.link h.uses;
       renewal = renewal_alike ledger (record ledger { heard = silence }) conn.renewal conn.life refl refl refl h.renewal;
+      repeat = repeat_alike ledger (record ledger { heard = silence }) b.tracked conn.renewal.within conn.again conn.life refl refl refl (λ e is. refl) h.repeat;
       setup = setup_on ledger ledger.asked ledger.up ledger.end ledger.taken ledger.offer ledger.rest silence conn.info started conn.life h.setup;
       link = λ alive. told_tied (carried conn.life conn.requests) ledger (whole_link conn.life) ledger.asked ledger.up silence (h.link alive);
       names = h.names;
@@ -612,6 +628,7 @@ gone_tied b c started word p n h tame o named =
       creation = h.creation;
       uses = uses_on c.sources c.single.link h.uses;
       renewal = left_renewal (record ledger { heard = silence }) conn.renewal conn.life p (renewal_alike ledger (record ledger { heard = silence }) conn.renewal conn.life refl refl refl h.renewal);
+      repeat = left_repeat (record ledger { heard = silence }) b.tracked conn.renewal.within conn.again conn.life p (repeat_alike ledger (record ledger { heard = silence }) b.tracked conn.renewal.within conn.again conn.life refl refl refl (λ e is. refl) h.repeat);
       setup = left_setup ledger conn.info started conn.life p h.setup;
       link = λ alive. left_link requests ledger conn.life p (λ up. carried_tied conn.life conn.requests requests ledger (sym (owners_with conn.requests p progress.Closed 0)) (h.link up)) alive;
       names = names_with c.table conn.requests p progress.Closed 0 h.names;
@@ -619,12 +636,12 @@ gone_tied b c started word p n h tame o named =
       tries = tries_closed (record ledger { heard = silence }) b.story conn.requests c.single.link p closed started k (record { owners = h.tries.owners; greeted = h.tries.greeted; shapes = h.tries.shapes; tried = h.tries.tried; untried = h.tries.untried });
       lines = left_lines_in c.table b.story conn.requests conn.life conn.waiting conn.admitted p started closed h.names l (request_not b (inner c started) p h l) asked k (λ up. row_in_line b (inner c started) h up) h.lines;
       told = left_told b.story conn.requests c.single.link conn.life p asked h.told;
-      waits = waits_closed c.table b.story conn.requests p closed conn.life (cancelled_in conn.life p) conn.fresh conn.moved h.names l (still_rests conn.life p) (still_dials conn.life p) (was_wanting conn.life p) (was_setting conn.life p) (was_ready conn.life p) (left_others conn.requests conn.life (kept_ids conn.admitted conn.waiting) p 0 line) h.waits;
+      waits = waits_closed c.table b.story conn.requests p closed conn.again conn.life (cancelled_in conn.life p) conn.fresh conn.moved h.names l (still_rests conn.life p) (still_dials conn.life p) (was_wanting conn.life p) (was_setting conn.life p) (was_ready conn.life p) (left_others conn.requests conn.life (kept_ids conn.admitted conn.waiting) p 0 line) h.waits;
       permits = subst (λ m. TiedPermits after m requests c.single.link conn.limit free []) (none_more b.submissions)
           (permits_closed b.story after c.table b.submissions conn.requests c.single.link conn.limit conn.free [] p h.names l known (r.on o) r.permits_is (λ m other. closed_other b.story conn.requests p closed m other)
           (ap (λ (s : Story). s.permits) is ∙ leave_frees (b.story own) asked) (ap (λ (s : Story). s.link) is ∙ leave_link (b.story own) ∙ r.on o) h.permits);
-      rounds = subst (λ x. TiedRounds (has_generations b) after requests x conn.fresh conn.rounds) (sym (ready_cancelled conn.life p)) (rounds_closed b.story conn.requests conn.fresh p closed l k h.rounds);
-      early = early_cancelled requests conn.life p (early_closed conn.requests conn.life p l h.early);
+      rounds = subst (λ x. TiedRounds (has_generations b) after requests x conn.fresh conn.rounds) (sym (serves_cancelled conn.life conn.again p)) (rounds_closed b.story conn.requests conn.fresh p closed l k h.rounds);
+      early = early_cancelled requests conn.again conn.life p (early_closed conn.requests conn.again conn.life p l h.early);
       late = late_closed c.table b.story conn.requests p closed [] [] h.names l (λ q other i. i) h.late;
     })
 

@@ -31,10 +31,12 @@ fault_of (act.Round n) = []
 fault_of (act.Took n count) = []
 fault_of (act.Timer n ms) = []
 fault_of (act.RenewalTimer k ms) = []
+fault_of (act.RepeatTimer ms) = []
 fault_of act.NeedCreds = []
 fault_of act.NeedRenewals = []
 fault_of (act.SetUp message need len) = []
 fault_of (act.Renewed message need len) = []
+fault_of (act.Repeated message need len) = []
 fault_of (act.Push info) = []
 fault_of (act.Message m) = []
 fault_of (act.Monitor v) = []
@@ -74,10 +76,12 @@ act_adds b l t c (act.Round n) = record { errors = (quiet b.errors b.failed).0; 
 act_adds b l t c (act.Took n count) = record { errors = (quiet b.errors b.failed).0; failed = (quiet b.errors b.failed).1; turns = refl; shut = refl; running = refl; rest = refl }
 act_adds b l t c (act.Timer n ms) = record { errors = (quiet b.errors b.failed).0; failed = (quiet b.errors b.failed).1; turns = refl; shut = refl; running = refl; rest = refl }
 act_adds b l t c (act.RenewalTimer k ms) = record { errors = (quiet b.errors b.failed).0; failed = (quiet b.errors b.failed).1; turns = refl; shut = refl; running = refl; rest = refl }
+act_adds b l t c (act.RepeatTimer ms) = record { errors = (quiet b.errors b.failed).0; failed = (quiet b.errors b.failed).1; turns = refl; shut = refl; running = refl; rest = refl }
 act_adds b l t c act.NeedCreds = record { errors = (quiet b.errors b.failed).0; failed = (quiet b.errors b.failed).1; turns = refl; shut = refl; running = refl; rest = refl }
 act_adds b l t c act.NeedRenewals = record { errors = (quiet b.errors b.failed).0; failed = (quiet b.errors b.failed).1; turns = refl; shut = refl; running = refl; rest = refl }
 act_adds b l t c (act.SetUp message need len) = record { errors = (quiet b.errors b.failed).0; failed = (quiet b.errors b.failed).1; turns = refl; shut = refl; running = refl; rest = refl }
 act_adds b l t c (act.Renewed message need len) = record { errors = (quiet b.errors b.failed).0; failed = (quiet b.errors b.failed).1; turns = refl; shut = refl; running = refl; rest = refl }
+act_adds b l t c (act.Repeated message need len) = record { errors = (quiet b.errors b.failed).0; failed = (quiet b.errors b.failed).1; turns = refl; shut = refl; running = refl; rest = refl }
 act_adds b l t c (act.Push info) = record { errors = (quiet b.errors b.failed).0; failed = (quiet b.errors b.failed).1; turns = refl; shut = refl; running = refl; rest = refl }
 act_adds b l t c (act.Message m) = record { errors = (quiet b.errors b.failed).0; failed = (quiet b.errors b.failed).1; turns = refl; shut = refl; running = refl; rest = refl }
 act_adds b l t c (act.Monitor v) = record { errors = (quiet b.errors b.failed).0; failed = (quiet b.errors b.failed).1; turns = refl; shut = refl; running = refl; rest = refl }
@@ -135,10 +139,12 @@ act_causes opened (act.Round n) = refl
 act_causes opened (act.Took n count) = refl
 act_causes opened (act.Timer n ms) = refl
 act_causes opened (act.RenewalTimer k ms) = refl
+act_causes opened (act.RepeatTimer ms) = refl
 act_causes opened act.NeedCreds = refl
 act_causes opened act.NeedRenewals = refl
 act_causes opened (act.SetUp message need len) = refl
 act_causes opened (act.Renewed message need len) = refl
+act_causes opened (act.Repeated message need len) = refl
 act_causes opened (act.Push info) = refl
 act_causes opened (act.Message m) = refl
 act_causes opened (act.Monitor v) = refl
@@ -175,14 +181,14 @@ acts_hear b l m t c n (a ∷ acts) stands h = acts_hear (entered b (shown l t c 
 
 -- the cause for the next generation
 --
--- where these come to the same, the book has a cause exactly where the session does
-pub record IsJudged (b : Book) (over opened ended resp3 : Bool) (acts : List LinkAct) : Type 0 where
+-- where these come to the same, also whether the link took requests, the book has a cause exactly where the session does
+pub record IsJudged (b : Book) (over opened took ended resp3 : Bool) (acts : List LinkAct) : Type 0 where
   pub errors_are : b.errors ≡ faults_of acts
   pub ended_is : is_over (current_link b) ≡ ended
   pub speaks : is_resp3 (info_in b.config).protocol ≡ resp3
   pub calm : is_over (current_link b) ≡ false → AreCalm b.errors
   pub failed_is : (end : End) → (current_link b).end ≡ Some end → is_some (failure_in (Some end)) ≡ not opened
-  pub lost_is : (end : End) → (current_link b).end ≡ Some end → ((end.turn == (b.turns - 1)) && (is_fault end.why && end.served)) ≡ (not over && opened)
+  pub lost_is : (end : End) → (current_link b).end ≡ Some end → ((end.turn == (b.turns - 1)) && (is_fault end.why && end.served)) ≡ (not over && took)
 
 -- of lists whose items pass one test where they pass the other
 any_same : {X : Type 0} (p q : X → Bool) (xs : List X) → ((x : X) → p x ≡ q x) → list_any p xs ≡ list_any q xs
@@ -210,11 +216,11 @@ cause_same end opened failed e = ap (λ (f : Bool). if f then is_io e else needs
     by_opened false = refl
 
 -- so there is one for both
-pub caused_is : (b : Book) (over opened ended resp3 : Bool) (acts : List LinkAct) → IsJudged b over opened ended resp3 acts → is_caused b ≡ (ended && (((not over && opened) && resp3) || has_cause opened acts))
-caused_is b over opened ended resp3 acts h = by_end (current_link b).end refl
+pub caused_is : (b : Book) (over opened took ended resp3 : Bool) (acts : List LinkAct) → IsJudged b over opened took ended resp3 acts → is_caused b ≡ (ended && (((not over && took) && resp3) || has_cause opened acts))
+caused_is b over opened took ended resp3 acts h = by_end (current_link b).end refl
   where
     goal : Bool → Type 0
-    goal x = is_caused b ≡ (x && (((not over && opened) && resp3) || has_cause opened acts))
+    goal x = is_caused b ≡ (x && (((not over && took) && resp3) || has_cause opened acts))
 
     by_end : (x : Option End) → (current_link b).end ≡ x → goal ended
     by_end None is =
@@ -228,5 +234,5 @@ caused_is b over opened ended resp3 acts h = by_end (current_link b).end refl
         subst goal (sym over_is ∙ h.ended_is)
         ((λ i. (is_resp3 (info_in b.config).protocol && is_lost_in (b.turns - 1) (is i)) || list_any (is_cause (is i)) b.errors)
         ∙ (λ i. (h.speaks i && h.lost_is end is i) || any_same (is_cause (Some end)) (machine.is_cause opened) b.errors same i)
-        ∙ (λ i. (resp3 && (not over && opened)) || list_any (machine.is_cause opened) (h.errors_are i))
-        ∙ (λ i. and_turned resp3 (not over && opened) i || acts_cause opened acts i))
+        ∙ (λ i. (resp3 && (not over && took)) || list_any (machine.is_cause opened) (h.errors_are i))
+        ∙ (λ i. and_turned resp3 (not over && took) i || acts_cause opened acts i))

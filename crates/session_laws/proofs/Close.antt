@@ -15,11 +15,12 @@ use Rattle.link_core.specs.Link.{LinkState}
 use Rattle.link_laws.specs.Settles.{settled_ids, wanted, awaited_ids, IsOwed}
 use Rattle.link_laws.proofs.Dealt.{all_append}
 use Rattle.mux_conn.specs.declared.act.LinkAct.TheVariants as act
+use Rattle.mux_conn.specs.declared.again.Again.TheVariants as again
 use Rattle.mux_conn.specs.declared.life.Life.{Life}
 use Rattle.mux_conn.specs.declared.life.Life.TheVariants.{Resting, Wanting, SettingUp, Ready, Ended}
 use Rattle.mux_conn.specs.declared.request.Request.{Request}
 use Rattle.mux_conn.specs.declared.request.Waiting.{Waiting}
-use Rattle.mux_conn.specs.Connection.{Work, acted, at_life, is_resting}
+use Rattle.mux_conn.specs.Connection.{Work, acted, at_life, is_resting, is_outstanding}
 use Rattle.mux_conn.specs.Requests.{is_open_at, name_at}
 use Rattle.mux_conn.specs.Effects.{waiting_failed, nobody_waits, failed_each, settled_each, ended, all_answered, cut_short, parted, noticed}
 use Rattle.shared_session.specs.declared.core_state.Core.{Core}
@@ -33,8 +34,7 @@ use Rattle.session_laws.proofs.Rounded.{rounds_down}
 use Rattle.session_laws.proofs.Numbers.{IsIn, in_left, in_right, Rising, rising_in, rising_within, rising_right, rising_tail, requests_in, requests_in-append, all_requests}
 use Rattle.session_laws.proofs.Server.{hearing_there, on_link}
 use Rattle.session_laws.proofs.Tied.{TiedCreation, Inner, no_link, link_in, owner_of, queue_ids, waiting_ids, IsKept, TiedLines, TiedWaits, Tied, relined, FailureIsShown, IsOver, TiedLife, has_ended}
-use Rattle.session_laws.proofs.Unrepeated.{unrepeated_lined}
-use Rattle.session_laws.proofs.Said.{ready_shown, sources_asked}
+use Rattle.session_laws.proofs.Said.{ready_shown, sources_asked, ready_served}
 use Rattle.session_laws.proofs.States.{HasApplied, IsStopped}
 use Rattle.session_laws.proofs.InLine.{kept_ids, kept_in, line_of, IsInLine, awaited_rises, awaited_in}
 use Rattle.session_laws.proofs.Owes.{in_time, none_owed, in_line, later_unstarted, owed_none_started, settled_owed, notices_told, lives, is_asked, owed_asked}
@@ -42,7 +42,7 @@ use Rattle.session_laws.proofs.Kept.{mine_noted, others_kept, tied_by}
 use Rattle.session_laws.proofs.Answer.{after_end}
 use Rattle.session_laws.proofs.Comes.{ends_there, has_begun, has_links}
 use Rattle.session_laws.proofs.Aside.{aside_ends, others_created}
-use Rattle.session_laws.proofs.Settle.{book_of_more, seen, trace_of_acts, Holds, IsAnswering, answering, IsDue, IsDueError, settled_holds, failed_holds, Leaves, leaves_on, settled_leaves, failed_leaves, Parts, sound_told, replied_each, replied_keeps, renewal_over}
+use Rattle.session_laws.proofs.Settle.{book_of_more, seen, trace_of_acts, Holds, IsAnswering, answering, IsDue, IsDueError, settled_holds, failed_holds, Leaves, leaves_on, settled_leaves, failed_leaves, Parts, sound_told, replied_each, replied_keeps, renewal_over, own_each}
 use Rattle.containers.proofs.Choices.{not_both, chosen}
 use Rattle.driver_model.specs.declared.push_info.PushInfo.{PushInfo}
 use Rattle.resp_value.specs.declared.push_kind.PushKind.TheVariants.{Disconnection}
@@ -53,6 +53,10 @@ use Rattle.session_laws.proofs.Renewals.{renewal_ended}
 use Rattle.mux_conn.specs.Renewals.{renewing}
 use Rattle.driver_model.specs.Hearing.{hears_pushes}
 use Rattle.driver_model.specs.declared.hearing.Notice.TheVariants as notice
+use Rattle.session_laws.proofs.Lost.{end_served}
+use Rattle.mux_conn.specs.declared.again.Again.{Again}
+use Rattle.session_laws.proofs.Own.{own_over}
+use Rattle.session_laws.proofs.Repeats.{TiedRepeat}
 
 -- no error is none
 no_failure : (e : RedisError) → ◌≡◌ {A = Option RedisError} None (Some e) → ⊥
@@ -90,14 +94,15 @@ close_lines story requests link waiting admitted pending started ids h =
     }
 
 -- the waits, on a link without messages that is not dialing
-pub ended_waits : (story : ℕ → Story) (requests : List Request) (life : Life) (e : RedisError) (fresh moved : List ℕ) → TiedWaits story requests life fresh moved → TiedWaits story requests (Ended e) fresh moved
-ended_waits story requests life e fresh moved h = record {
+pub ended_waits : (story : ℕ → Story) (requests : List Request) (a : Again) (life : Life) (e : RedisError) (fresh moved : List ℕ) → TiedWaits story requests a life fresh moved → TiedWaits story requests a (Ended e) fresh moved
+ended_waits story requests a life e fresh moved h = record {
   early = h.early;
   backoff = λ p w d. cc;
   connect = λ p w d. cc;
   creds = λ p link w s. cc;
   setup = λ p link greeting w s. cc;
-  permit = λ p link w r. cc;
+  resubscribe = λ p link w r goes. cc;
+  permit = λ p link w r none. cc;
   place = h.place;
   room = λ p i. absurd i;
   newer = h.newer;
@@ -106,7 +111,9 @@ ended_waits story requests life e fresh moved h = record {
   no_connect = λ p i w d. cc;
   no_creds = λ p link i w s. cc;
   no_setup = λ p link greeting i w s. cc;
-  no_permit = λ p link i w r. cc;
+  no_resubscribe = λ p link i w r goes. cc;
+  unpermitted = λ p link w r goes. cc;
+  no_permit = λ p link i w r none. cc;
   no_place = h.no_place;
   seatless = h.seatless;
   no_room = λ p i r. absurd r;
@@ -141,7 +148,7 @@ close_tied b t created halted told why e parting pending ids must is shown mild 
     let after = record (entered b (action.Close t.link)) { created = created; failed = halted } in
     let there = ends_there (b.link t.link) b.created t.life why must h.life in
     tied_by after (record t { life = Ended e; told = told; pending = pending; untold = []; parting = parting }) (noted (b.link t.link) (ends turn)) (mine_noted (b.link t.link) t.link (ends turn)) (record {
-      numbers = record { turns = h.numbers.turns; links = h.numbers.links; timers = h.numbers.timers; sources = h.numbers.sources; aims = h.numbers.aims; timed = h.numbers.timed; submissions = h.numbers.submissions; timeout = h.numbers.timeout; shut = h.numbers.shut; within = h.numbers.within; few = h.numbers.few; unrepeated = unrepeated_lined b.link t.link (ends turn) refl h.numbers.unrepeated; settings = record { size_is = h.numbers.settings.size_is; bound_is = h.numbers.settings.bound_is; limit_is = h.numbers.settings.limit_is; some = h.numbers.settings.some; limited = h.numbers.settings.limited }; kind_is = h.numbers.kind_is; quiet = h.numbers.quiet; comes_back = h.numbers.comes_back; lazy = λ is. on (h.numbers.lazy is); current_is = h.numbers.current_is; speaks = h.numbers.speaks; address_is = h.numbers.address_is; wants = h.numbers.wants; alone = h.numbers.alone };
+      numbers = record { turns = h.numbers.turns; links = h.numbers.links; timers = h.numbers.timers; sources = h.numbers.sources; aims = h.numbers.aims; timed = h.numbers.timed; submissions = h.numbers.submissions; timeout = h.numbers.timeout; shut = h.numbers.shut; within = h.numbers.within; few = h.numbers.few; settings = record { size_is = h.numbers.settings.size_is; bound_is = h.numbers.settings.bound_is; limit_is = h.numbers.settings.limit_is; some = h.numbers.settings.some; limited = h.numbers.settings.limited }; kind_is = h.numbers.kind_is; quiet = h.numbers.quiet; comes_back = h.numbers.comes_back; lazy = λ is. on (h.numbers.lazy is); current_is = h.numbers.current_is; speaks = h.numbers.speaks; address_is = h.numbers.address_is; wants = h.numbers.wants; alone = h.numbers.alone };
       others = others_created t.link created _ on (others_kept b t.link (ends turn) h.others);
       notices = record {
         heard_is = h.notices.heard_is;
@@ -160,6 +167,7 @@ close_tied b t created halted told why e parting pending ids must is shown mild 
       creation = made;
       uses = h.uses;
       renewal = renewal_ended (b.link t.link) (noted (b.link t.link) (ends turn)) t.renewal t.life refl refl h.renewal;
+      repeat = end_served (b.link t.link) turn why t.again must (ready_served b (record t { pending = []; untold = []; parting = false }) h);
       setup = record { info_is = on_link t.life ((b.link t.link).info ≡ t.info) there h.setup.info_is; sent = h.setup.sent; said = tt };
       link = λ n. cc;
       names = h.names;
@@ -167,7 +175,7 @@ close_tied b t created halted told why e parting pending ids must is shown mild 
       tries = record { owners = h.tries.owners; greeted = h.tries.greeted; shapes = h.tries.shapes; tried = h.tries.tried; untried = h.tries.untried };
       lines = close_lines b.story t.requests (link_in t.life) t.waiting t.admitted pending t.started ids h.lines;
       told = λ n. cc;
-      waits = ended_waits b.story t.requests t.life e t.fresh t.moved h.waits;
+      waits = ended_waits b.story t.requests t.again t.life e t.fresh t.moved h.waits;
       permits = h.permits;
       rounds = rounds_down b.story t.requests t.fresh t.fresh refl h.rounds;
       early = λ up over. cc;
@@ -277,14 +285,15 @@ waiting_in_line requests life admitted waiting bare r =
 
 -- all that wait are answered
 waiting_failed_holds : (before : List Action) (f : Core) (ledger : Ledger) (owes : ℕ → Option Outcome) (name : ℕ → ℕ) (was : ℕ → Bool) (w : Work) (e : RedisError) (started : List ℕ) → link_in w.conn.life ≡ no_link → AreDue owes name was e w.conn.admitted w.conn.waiting
-    → IsAnswering before f ledger owes name was w [] started → IsAnswering before f ledger owes name was (waiting_failed w e) [] started
-waiting_failed_holds before f ledger owes name was w e started bare due h =
+    → (has_ended w.conn.life ≡ false → is_outstanding w.conn.again ≡ true → ⊥) → IsAnswering before f ledger owes name was w [] started → IsAnswering before f ledger owes name was (waiting_failed w e) [] started
+waiting_failed_holds before f ledger owes name was w e started bare due quiet h =
     let rest = nobody_waits w in
     failed_holds before f ledger owes name was (failed_each rest e w.conn.admitted) e w.conn.waiting [] started due.connection
     (failed_holds before f ledger owes name was rest e w.conn.admitted (waiting_ids w.conn.waiting ++ []) started due.place
     (record {
       holds = record { stands = h.holds.stands; tied = waiting_tied (book (trace_of_acts before f w.acts)) (seen f w.acts w.conn [] started) h.holds.tied };
       line = waiting_in_line w.conn.requests w.conn.life w.conn.admitted w.conn.waiting bare h.line;
+      quiet = λ up goes. absurd (quiet up goes);
       ledger_is = h.ledger_is;
       owed_is = h.owed_is;
       named = h.named;
@@ -313,29 +322,29 @@ HasEnded before f w e started = HasAnswered before f w (Ended e) started
 
 -- those that wait are answered, where the others were
 rest_ends : (before : List Action) (f : Core) (ledger : Ledger) (owes : ℕ → Option Outcome) (name : ℕ → ℕ) (was : ℕ → Bool) (w : Work) (life : Life) (e : RedisError) (started : List ℕ) → w.conn.life ≡ life → link_in life ≡ no_link → AreDue owes name was e w.conn.admitted w.conn.waiting
-    → IsAnswering before f ledger owes name was w [] started → HasAnswered before f (waiting_failed w e) life started
-rest_ends before f ledger owes name was w life e started over bare due h =
+    → (has_ended w.conn.life ≡ false → is_outstanding w.conn.again ≡ true → ⊥) → IsAnswering before f ledger owes name was w [] started → HasAnswered before f (waiting_failed w e) life started
+rest_ends before f ledger owes name was w life e started over bare due quiet h =
     let m = waiting_leaves w e in
-    record { holds = (waiting_failed_holds before f ledger owes name was w e started (ap link_in over ∙ bare) due h).holds; over = m.life ∙ over; none_waits = m.waiting; none_admitted = m.admitted }
+    record { holds = (waiting_failed_holds before f ledger owes name was w e started (ap link_in over ∙ bare) due quiet h).holds; over = m.life ∙ over; none_waits = m.waiting; none_admitted = m.admitted }
 
 -- where only those that wait are open
-kept_end : (before : List Action) (f : Core) (w : Work) (life : Life) (e : RedisError) (started : List ℕ) → Holds before f w [] started → w.conn.life ≡ life → link_in life ≡ no_link
+kept_end : (before : List Action) (f : Core) (w : Work) (life : Life) (e : RedisError) (started : List ℕ) → Holds before f w [] started → w.conn.life ≡ life → link_in life ≡ no_link → (has_ended w.conn.life ≡ false → is_outstanding w.conn.again ≡ true → ⊥)
     → (let b = book (trace_of_acts before f w.acts) in owed_waiting b.shut (b.link f.single.link) ≡ Some (outcome.Fault e)) → HasAnswered before f (waiting_failed w e) life started
-kept_end before f w life e started h over bare owes =
+kept_end before f w life e started h over bare quiet owes =
     let b = book (trace_of_acts before f w.acts) in
     let t = seen f w.acts w.conn [] started in
     let kept = kept_ids w.conn.admitted w.conn.waiting in
     let none = ap link_in over ∙ bare in
     let line = subst (λ (x : LinkState). IsInLine w.conn.requests x w.conn.admitted w.conn.waiting []) (sym none)
     (rising_right 0 (requests_in started) kept (length w.conn.requests) (subst (λ (x : LinkState). Rising 0 (requests_in started ++ (queue_ids x.queue ++ kept)) (length w.conn.requests)) none h.tied.lines.line)) in
-    rest_ends before f (b.link f.single.link) (owed b) (name_at w.conn.requests) (is_open_at w.conn.requests) w life e started over bare (all_waiting_due b t e h.tied (are_in_time b t h.tied refl) owes) (answering before f w [] started h line)
+    rest_ends before f (b.link f.single.link) (owed b) (name_at w.conn.requests) (is_open_at w.conn.requests) w life e started over bare (all_waiting_due b t e h.tied (are_in_time b t h.tied refl) owes) quiet (answering before f w [] started h line (λ up goes. refl))
 
 -- of a link that is over
 pub waiting_ends : (before : List Action) (f : Core) (w : Work) (e : RedisError) (started : List ℕ) → Holds before f w [] started → w.conn.life ≡ Ended e → HasEnded before f (waiting_failed w e) e started
 waiting_ends before f w e started h over =
     let b = book (trace_of_acts before f w.acts) in
     let down = subst (λ (x : Life). TiedLife (b.link f.single.link) b.created x) over h.tied.life in
-    kept_end before f w (Ended e) e started h over refl (owed_asked b.shut (b.link f.single.link) down.3 ∙ down.1)
+    kept_end before f w (Ended e) e started h over refl (λ up goes. not_both (has_ended w.conn.life) up (ap has_ended over)) (owed_asked b.shut (b.link f.single.link) down.3 ∙ down.1)
 
 -- or without a link, where everything is shut down
 pub waiting_shut : (before : List Action) (f : Core) (w : Work) (started : List ℕ) → Holds before f w [] started → w.conn.life ≡ Resting → f.shut ≡ true → HasAnswered before f (waiting_failed w error.Closed) Resting started
@@ -343,7 +352,8 @@ waiting_shut before f w started h rests shut =
     let b = book (trace_of_acts before f w.acts) in
     let l = b.link f.single.link in
     let none = (subst (λ (x : Life). TiedLife l b.created x) rests h.tied.life).0 in
-    kept_end before f w Resting error.Closed started h rests refl (λ i. if (h.tied.numbers.shut ∙ shut) i && not (none i) then Some (outcome.Fault error.Closed) else owed_unstarted l.end)
+    let nothing : w.conn.again ≡ again.Nothing = subst (TiedRepeat l b.tracked w.conn.renewal.within w.conn.again) rests h.tied.repeat in
+    kept_end before f w Resting error.Closed started h rests refl (λ up goes. not_both (is_outstanding w.conn.again) (ap is_outstanding nothing) goes) (λ i. if (h.tied.numbers.shut ∙ shut) i && not (none i) then Some (outcome.Fault error.Closed) else owed_unstarted l.end)
 
 -- a settled message is one of these that wait, and gets the closed connection
 abbrev pub IsClosedOf : List ℕ → Settled → Type 0
@@ -432,17 +442,19 @@ all_ends before f w ids row queue started h =
     let later = all_waiting_due c s error.Closed tied h.early owed_end in
     let come = replied_each w.conn.renewal out in
     let kept = replied_keeps w.conn.renewal out in
+    let own : own_each w out ≡ renewing w come = own_over w out error.Closed h.over in
     let come_tied : Tied c (record s { renewal = come }) = renewal_over c s come error.Closed kept.0 kept.1 kept.2 kept.3 h.over tied in
     let held : Holds before f (renewing w come) ns started = record { stands = h.holds.stands; tied = come_tied } in
-    let a = answering before f (renewing w come) (ns ++ []) started (subst (λ ms. Holds before f (renewing w come) ms started) (sym (append-nil ns)) held) (subst (IsInLine w.conn.requests (link_in w.conn.life) w.conn.admitted w.conn.waiting) (sym (append-nil ns)) line) in
+    let a = answering before f (renewing w come) (ns ++ []) started (subst (λ ms. Holds before f (renewing w come) ms started) (sym (append-nil ns)) held) (subst (IsInLine w.conn.requests (link_in w.conn.life) w.conn.admitted w.conn.waiting) (sym (append-nil ns)) line) (λ up goes. absurd (not_both (has_ended w.conn.life) up (ap has_ended h.over))) in
     let u = settled_each w out in
     let k = settled_leaves w out in
-    let settled = settled_holds before f (c.link f.single.link) (owed c) (name_at w.conn.requests) (is_open_at w.conn.requests) w out [] started due a in
+    let answers = subst (λ (x : Work). IsAnswering before f (c.link f.single.link) (owed c) (name_at w.conn.requests) (is_open_at w.conn.requests) x (ns ++ []) started) (sym own) a in
+    let settled = settled_holds before f (c.link f.single.link) (owed c) (name_at w.conn.requests) (is_open_at w.conn.requests) w out [] started due answers in
     rest_ends before f (c.link f.single.link) (owed c) (name_at w.conn.requests) (is_open_at w.conn.requests) u (Ended error.Closed) error.Closed started (k.life ∙ h.over) refl
     (record {
       place = subst (AllByRecursion (IsDueError (owed c) (name_at w.conn.requests) (is_open_at w.conn.requests) error.Closed)) (sym k.admitted) later.place;
       connection = subst (AllByRecursion (IsDueError (owed c) (name_at w.conn.requests) (is_open_at w.conn.requests) error.Closed)) (sym k.waiting) later.connection;
-    }) settled
+    }) (λ up goes. not_both (has_ended u.conn.life) up (ap has_ended (k.life ∙ h.over))) settled
 
 -- so a link ends that need not be told to have
 pub ended_holds : (before : List Action) (f : Core) (w : Work) (row queue : List Settled) (why : Ending) (started : List ℕ) → Holds before f w [] started → has_ended w.conn.life ≡ false → owed_by why ≡ Some (outcome.Fault error.Closed) → failure_of why ≡ None → is_fault why ≡ false → f.shut ≡ true

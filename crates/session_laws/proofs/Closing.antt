@@ -9,6 +9,7 @@ use Rattle.driver_model.specs.declared.outcome.Shape.{Shape}
 use Rattle.link_core.specs.declared.message.Queued.{Queued}
 use Rattle.link_core.specs.Link.{LinkState}
 use Rattle.link_laws.specs.Settles.{awaited_ids}
+use Rattle.mux_conn.specs.declared.again.Again.{Again}
 use Rattle.mux_conn.specs.declared.life.Greeting.{Greeting}
 use Rattle.mux_conn.specs.declared.life.Life.{Life}
 use Rattle.mux_conn.specs.declared.life.Life.TheVariants.{Resting, Dialing, Wanting, SettingUp, Ready}
@@ -18,11 +19,10 @@ use Rattle.mux_conn.specs.declared.request.Request.{Request}
 use Rattle.mux_conn.specs.declared.request.Waiting.{Waiting}
 use Rattle.mux_conn.specs.declared.request.Progress.{Progress}
 use Rattle.mux_conn.specs.Requests.{is_open as is_open_progress, is_waiting, is_admitted, is_placed, is_waiting_at, is_admitted_at, name_at, with_permits, is_open_at}
-use Rattle.legal_trace.specs.Ledger.{Ledger}
+use Rattle.legal_trace.specs.Ledger.{Ledger, setup_count}
 use Rattle.legal_trace.specs.Story.{Story, is_open, is_told, shape, packed_in, shape_in, awaited_in}
 use Rattle.legal_trace.specs.Book.{if_own}
 use Rattle.session_laws.proofs.Numbers.{IsIn, Rising}
-use Rattle.legal_trace.specs.Ledger.{setup_count}
 use Rattle.session_laws.proofs.Server.{setup_owners}
 use Rattle.session_laws.proofs.Tied.{link_in, owners_each, queue_ids, IsRefused, IsRequest, TiedStory, TiedTries, TiedNames, IsOf, IsQueued, IsPacked, IsKept, AreQueued, shown_wait, TiedWaits, AreLate}
 use Rattle.session_laws.proofs.Names.{name_placed, permits_other, permits_with, same_name, name_of_some, name_with, owners_with, length_with, was_with, there_within, with_same, with_other, with_then}
@@ -199,7 +199,7 @@ AreOthers requests p life after = (q : ℕ) → IsIn q (awaited_ids (link_in aft
 
 -- what is shown of a request that waits for the connection, or for a permit: nothing, or one of these
 abbrev pub IsOneOf : Option WaitKind → Type 0
-IsOneOf x = (x ≡ None) ⊎ ((x ≡ Some wait.Backoff) ⊎ ((x ≡ Some wait.Connect) ⊎ ((x ≡ Some wait.Creds) ⊎ ((x ≡ Some wait.Setup) ⊎ (x ≡ Some wait.Permit)))))
+IsOneOf x = (x ≡ None) ⊎ ((x ≡ Some wait.Backoff) ⊎ ((x ≡ Some wait.Connect) ⊎ ((x ≡ Some wait.Creds) ⊎ ((x ≡ Some wait.Setup) ⊎ ((x ≡ Some wait.Resubscribe) ⊎ (x ≡ Some wait.Permit))))))
 
 -- with another left side
 pub one_of : (x y : Option WaitKind) → x ≡ y → IsOneOf y → IsOneOf x
@@ -218,10 +218,10 @@ abbrev pub WasSettingUp : Life → Life → Type 0
 WasSettingUp life after = (link : LinkState) (greeting : Greeting) → after ≡ SettingUp link greeting → (x : LinkState) × (life ≡ SettingUp x greeting)
 
 -- the waits of the others stay
-pub waits_closed : (table : List (Option Pending)) (story : ℕ → Story) (requests : List Request) (p : ℕ) (closed : ℕ → Story) (life after : Life) (fresh moved : List ℕ) → TiedNames table requests → p < length requests
-    → (after ≡ Resting → life ≡ Resting) → (after ≡ Dialing → life ≡ Dialing) → WasWanting life after → WasSettingUp life after → WasReady life after → AreOthers requests p life after → TiedWaits story requests life fresh moved
-    → TiedWaits (with_closed story requests p closed) (with_permits requests p progress.Closed 0) after fresh moved
-waits_closed table story requests p closed life after fresh moved names l rests dials wants sets ready others h =
+pub waits_closed : (table : List (Option Pending)) (story : ℕ → Story) (requests : List Request) (p : ℕ) (closed : ℕ → Story) (a : Again) (life after : Life) (fresh moved : List ℕ) → TiedNames table requests → p < length requests
+    → (after ≡ Resting → life ≡ Resting) → (after ≡ Dialing → life ≡ Dialing) → WasWanting life after → WasSettingUp life after → WasReady life after → AreOthers requests p life after → TiedWaits story requests a life fresh moved
+    → TiedWaits (with_closed story requests p closed) (with_permits requests p progress.Closed 0) a after fresh moved
+waits_closed table story requests p closed a life after fresh moved names l rests dials wants sets ready others h =
     let waits : (q : ℕ) → is_waiting_at (with_permits requests p progress.Closed 0) q ≡ true → (p ≢ q) × (is_waiting_at requests q ≡ true) = λ q w. with_then is_waiting requests p q progress.Closed 0 refl l w in
     let admits : (q : ℕ) → is_admitted_at (with_permits requests p progress.Closed 0) q ≡ true → (p ≢ q) × (is_admitted_at requests q ≡ true) = λ q a. with_then is_admitted requests p q progress.Closed 0 refl l a in
     let same : (q : ℕ) → p ≢ q → q < length requests → shown_wait (with_closed story requests p closed) (with_permits requests p progress.Closed 0) q ≡ shown_wait story requests q = λ q other m. shown_closed table story requests p q closed names l m other in
@@ -243,10 +243,14 @@ waits_closed table story requests p closed life after fresh moved names l rests 
           let k = waits q w in
           let x = sets link greeting s in
           elim (h.setup q x.0 greeting k.1 x.1) [ inl i ↦ inl i | inr e ↦ inr (same q k.0 (there_within is_waiting requests q k.1) ∙ e) ];
-      permit = λ q link w r.
+      resubscribe = λ q link w r goes.
           let k = waits q w in
           let x = ready link r in
-          elim (h.permit q x.0 k.1 x.1) [ inl i ↦ inl i | inr e ↦ inr (same q k.0 (there_within is_waiting requests q k.1) ∙ e) ];
+          elim (h.resubscribe q x.0 k.1 x.1 goes) [ inl i ↦ inl i | inr e ↦ inr (same q k.0 (there_within is_waiting requests q k.1) ∙ e) ];
+      permit = λ q link w r none.
+          let k = waits q w in
+          let x = ready link r in
+          elim (h.permit q x.0 k.1 x.1 none) [ inl i ↦ inl i | inr e ↦ inr (same q k.0 (there_within is_waiting requests q k.1) ∙ e) ];
       place = λ q a.
           let k = admits q a in
           elim (h.place q k.1) [ inl i ↦ inl i | inr e ↦ inr (same q k.0 (there_within is_admitted requests q k.1) ∙ e) ];
@@ -259,7 +263,9 @@ waits_closed table story requests p closed life after fresh moved names l rests 
       no_connect = λ q i w d e. let k = waits q w in h.no_connect q i k.1 (dials d) (sym (same q k.0 (there_within is_waiting requests q k.1)) ∙ e);
       no_creds = λ q link i w c e. let k = waits q w in let x = wants link c in h.no_creds q x.0 i k.1 x.1 (sym (same q k.0 (there_within is_waiting requests q k.1)) ∙ e);
       no_setup = λ q link greeting i w s e. let k = waits q w in let x = sets link greeting s in h.no_setup q x.0 greeting i k.1 x.1 (sym (same q k.0 (there_within is_waiting requests q k.1)) ∙ e);
-      no_permit = λ q link i w r e. let k = waits q w in let x = ready link r in h.no_permit q x.0 i k.1 x.1 (sym (same q k.0 (there_within is_waiting requests q k.1)) ∙ e);
+      no_resubscribe = λ q link i w r goes e. let k = waits q w in let x = ready link r in h.no_resubscribe q x.0 i k.1 x.1 goes (sym (same q k.0 (there_within is_waiting requests q k.1)) ∙ e);
+      unpermitted = λ q link w r goes e. let k = waits q w in let x = ready link r in h.unpermitted q x.0 k.1 x.1 goes (sym (same q k.0 (there_within is_waiting requests q k.1)) ∙ e);
+      no_permit = λ q link i w r none e. let k = waits q w in let x = ready link r in h.no_permit q x.0 i k.1 x.1 none (sym (same q k.0 (there_within is_waiting requests q k.1)) ∙ e);
       no_place = λ q i a e. let k = admits q a in h.no_place q i k.1 (sym (same q k.0 (there_within is_admitted requests q k.1)) ∙ e);
       seatless = λ q a e. let k = admits q a in h.seatless q k.1 (sym (same q k.0 (there_within is_admitted requests q k.1)) ∙ e);
       no_room = λ q i r e. let k = others q r in h.no_room q i k.2 (sym (same q k.0 k.1) ∙ e);

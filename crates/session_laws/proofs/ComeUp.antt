@@ -36,18 +36,18 @@ use Rattle.legal_trace.specs.Book.{Book, blank_book, book, entered, use_for, if_
 use Rattle.legal_trace.specs.Story.{Story}
 use Rattle.legal_trace.specs.Legal.{AllStand, MayBeCreated, MayNeed}
 use Rattle.legal_trace.proofs.Setups.{ends_where_set, silent_is_set, silent_is_greeted}
-use Rattle.session_laws.proofs.Rounded.{rounds_down, rounds_new, unbegun_waits}
+use Rattle.session_laws.proofs.Served.{fresh_rises, numbers_is}
+use Rattle.session_laws.proofs.Rounded.{rounds_down, rounds_new, unbegun_waits, early_on}
 use Rattle.session_laws.proofs.Server.{AreSetups, HasCredentials, IsSettingUp, IsSetupDue, IsSetUp, AreSought, HasSaid, AreSetupsAlone, IsWatching, greeting_at, owners_of, setup_owners, watch_queued}
 use Rattle.session_laws.proofs.Tied.{shown_creation, Sound, TiedCreation, AreQueued, IsEntry, IsQueued, Inner, Tied, TiedLines, TiedNotices, TiedWaits, has_ended, inner, link_in, no_link, owner_of, queue_ids, shown_wait, waiting_ids, AreUses, is_reading, TiedRounds, is_begun}
-use Rattle.session_laws.proofs.Unrepeated.{unrepeated_lined}
 use Rattle.session_laws.proofs.States.{Between, HasApplied, IsFit, IsFitIn}
 use Rattle.session_laws.proofs.Creds.{has_credentials, IsOfRenewals, down_sourced}
 use Rattle.session_laws.proofs.Said.{PushesOf, ending_setting, readied, setup_recredited, well_readied}
 use Rattle.session_laws.proofs.Entered.{all_stand-append, book_more, sound_more, book-append}
 use Rattle.session_laws.proofs.Settle.{Tells, seen, trace_of_acts}
 use Rattle.session_laws.proofs.InLine.{kept_ids}
-use Rattle.session_laws.proofs.Numbers.{IsIn, Rising, rising_right, requests_in}
-use Rattle.session_laws.proofs.Announce.{IsNewsKind, comes_as, heard_book, heard_is, heard_starts, heard_tied, may_turn, turn_of, turned, ComesTo, heard_tied_by, others_heard, renews_hear, uses_asked, uses_more, protocol_still, still_unrepeated, heard_hearing, asked_hear}
+use Rattle.session_laws.proofs.Numbers.{IsIn, Rising, requests_in}
+use Rattle.session_laws.proofs.Announce.{IsNewsKind, comes_as, heard_book, heard_is, heard_starts, heard_tied, may_turn, turn_of, turned, ComesTo, heard_tied_by, others_heard, renews_hear, uses_asked, uses_more, protocol_still, heard_hearing, asked_hear}
 use Rattle.session_laws.proofs.Heard.{book_kind, book_news, fresh_applied, heard_by, none_ends, none_hears, hushed_there, going_awake}
 use Rattle.session_laws.proofs.Ahead.{waiting_open}
 use Rattle.session_laws.proofs.Renewals.{early_renewal, renewed_first}
@@ -58,6 +58,10 @@ use Rattle.mux_conn.specs.declared.life.Greeting.TheVariants as greet
 use Rattle.mux_conn.specs.declared.life.Greeting.{Greeting}
 use Rattle.driver_model.specs.Hearing.{is_watching}
 use Rattle.session_laws.proofs.Comes.{tied_live, tied_unopened}
+use Rattle.session_laws.proofs.Serving.{unready_serves}
+use Rattle.mux_conn.specs.declared.again.Again.{Again}
+use Rattle.session_laws.proofs.Held.{held_hears}
+use Rattle.session_laws.proofs.Repeats.{held_alike, held_ready}
 
 -- the waits
 --
@@ -72,11 +76,6 @@ bare_lines story requests link waiting admitted started queue row h = record {
   there = λ p e. elim (h.there p e) [ inl i ↦ absurd i | inr k ↦ inr k ];
 }
 
--- the numbers of those that wait
-pub numbers_is : (ws : List Waiting) → numbers_of ws ≡ waiting_ids ws
-numbers_is [] = refl
-numbers_is (w ∷ ws) = ap (λ ns. w.number ∷ ns) (numbers_is ws)
-
 -- who waits for the connection is one of them
 bare_waits : (b : Book) (t : Inner) (p : ℕ) → Tied b t → t.pending ≡ [] → t.admitted ≡ [] → link_in t.life ≡ no_link → is_waiting_at t.requests p ≡ true → IsIn p (waiting_ids t.waiting)
 bare_waits b t p h none nobody e w =
@@ -89,14 +88,6 @@ bare_waits b t p h none nobody e w =
 anew_rounds : {ready : Bool} (b : Book) (t : Inner) → Tied b t → t.pending ≡ [] → t.admitted ≡ [] → link_in t.life ≡ no_link → TiedRounds (has_generations b) b.story t.requests ready (numbers_of t.waiting) t.rounds
 anew_rounds b t h none nobody bare = rounds_new b.story t.requests t.fresh (numbers_of t.waiting)
     (λ p shows up u. subst (IsIn p) (sym (numbers_is t.waiting)) (bare_waits b t p h none nobody bare (unbegun_waits t.requests p u))) h.rounds
-
--- those that wait, in line
-fresh_rises : (b : Book) (t : Inner) → Tied b t → Rising 0 (numbers_of t.waiting) (length t.requests)
-fresh_rises b t h =
-    let queue = queue_ids (link_in t.life).queue in
-    let last = waiting_ids t.waiting in
-    subst (λ ns. Rising 0 ns (length t.requests)) (sym (numbers_is t.waiting))
-    (rising_right 0 (waiting_ids t.admitted) last (length t.requests) (rising_right 0 queue (kept_ids t.admitted t.waiting) (length t.requests) (rising_right 0 (requests_in t.started) (queue ++ kept_ids t.admitted t.waiting) (length t.requests) h.lines.line)))
 
 -- where no wait is to be shown, who waits for the connection has shown what it waits for
 shown_early : (b : Book) (t : Inner) (p : ℕ) (life : Life) → Tied b t → t.fresh ≡ [] → t.life ≡ life → is_ready life ≡ false → has_ended life ≡ false → is_waiting_at t.requests p ≡ true → shown_wait b.story t.requests p ≡ Some (early_wait life)
@@ -111,16 +102,26 @@ shown_early b t p (Ended x) h none e f g w = cc
 same_kind : (a b : WaitKind) → ◌≡◌ {A = Option WaitKind} (Some a) (Some b) → a ≡ b
 same_kind a b e = cc
 
+-- by a life alone nobody waits for what is subscribed again
+not_resubscribing : (life : Life) → early_wait life ≢ wait.Resubscribe
+not_resubscribing Resting same = cc
+not_resubscribing Dialing same = cc
+not_resubscribing (Wanting link) same = cc
+not_resubscribing (SettingUp link greeting) same = cc
+not_resubscribing (Ready link) same = cc
+not_resubscribing (Ended e) same = cc
+
 -- the waits in a life in which something else is waited for, where all that waited are to show theirs anew
 pub fresh_waits : (b : Book) (t : Inner) (life after : Life) → Tied b t → t.pending ≡ [] → t.admitted ≡ [] → t.fresh ≡ [] → t.life ≡ life → link_in life ≡ no_link → is_ready life ≡ false → has_ended life ≡ false → early_wait life ≢ early_wait after → is_resting after ≡ false
-    → (link_in after).queue ≡ [] → TiedWaits b.story t.requests after (numbers_of t.waiting) t.moved
+    → (link_in after).queue ≡ [] → TiedWaits b.story t.requests t.again after (numbers_of t.waiting) t.moved
 fresh_waits b t life after h none nobody no_fresh e bare f g other goes queue = record {
   early = h.waits.early;
   backoff = λ p w d. inl (here p w);
   connect = λ p w d. inl (here p w);
   creds = λ p x w d. inl (here p w);
   setup = λ p x u w d. inl (here p w);
-  permit = λ p x w d. inl (here p w);
+  resubscribe = λ p x w d goes. inl (here p w);
+  permit = λ p x w d none. inl (here p w);
   place = h.waits.place;
   room = λ p i. absurd (subst (λ (qs : List Queued). IsIn p (awaited_ids qs)) queue i);
   newer = fresh_rises b t h;
@@ -129,7 +130,9 @@ fresh_waits b t life after h none nobody no_fresh e bare f g other goes queue = 
   no_connect = λ p i w d. anew p w wait.Connect (ap early_wait d);
   no_creds = λ p x i w d. anew p w wait.Creds (ap early_wait d);
   no_setup = λ p x u i w d. anew p w wait.Setup (ap early_wait d);
-  no_permit = λ p x i w d. anew p w wait.Permit (ap early_wait d);
+  no_resubscribe = λ p x i w d goes shown. not_resubscribing life (same_kind (early_wait life) wait.Resubscribe (sym (shown_early b t p life h no_fresh e f g w) ∙ shown));
+  unpermitted = λ p x w d goes. anew p w wait.Permit (ap early_wait d);
+  no_permit = λ p x i w d none. anew p w wait.Permit (ap early_wait d);
   no_place = h.waits.no_place;
   seatless = h.waits.seatless;
   no_room = λ p i r. absurd (subst (λ (qs : List Queued). IsIn p (awaited_ids qs)) queue r);
@@ -203,7 +206,7 @@ readied_comes b c started n info link untold more created some_created h0 fit no
     let made = facts.made in
     let asked = if more then true else l.creds.asked in
     let renews = if more then l.creds.asked else l.creds.renews in
-    let nobody = fit.none (λ x r. not_both (is_ready conn.life) early.unready (ap is_ready r)) in
+    let nobody = fit.none (unready_serves conn.life conn.again early.unready) in
     let none = none_hears (b.link c.single.link) c.turns n conn.renewal other (early_renewal (b.link c.single.link) conn.renewal conn.life early.unready early.alive h0.renewal) in
     let once : l.creds.renews ≡ false = renews_hear (b.link c.single.link) c.turns n ∙ early_sources (b.link c.single.link).creds conn.life early.unready early.alive h0.creds.sought in
     let said = setup_recredited l asked renews l.creds.renewals l.creds.over l.creds.timed l.creds.lost info started link (record { info_is = facts.info_is; sent = facts.sent; said = made.said }) in
@@ -233,6 +236,7 @@ readied_comes b c started n info link untold more created some_created h0 fit no
         kept = none.kept;
         found = none.found;
       });
+      repeat_is = held_ready (readied more l) b.tracked conn.renewal.within conn.again (held_alike l (readied more l) b.tracked conn.renewal.within conn.again refl refl (held_hears b c started n h0 early.there early.unready early.alive));
       said = said;
       linked = λ z. said_tied (owner_of conn.requests) l link l.info (readied more l).creds l.heard made.tied;
       lines = bare_lines b.story conn.requests link conn.waiting conn.admitted started made.queue made.row (subst (λ (x : LinkState). TiedLines b.story conn.requests x conn.waiting conn.admitted [] started) early.bare h0.lines);
@@ -242,7 +246,7 @@ readied_comes b c started n info link untold more created some_created h0 fit no
       };
       waits = fresh_waits b (inner c started) conn.life (Ready link) h0 refl nobody no_fresh refl early.bare early.unready early.alive early.other refl made.queue;
       rounds = anew_rounds b (inner c started) h0 refl nobody early.bare;
-      early = λ up. cc;
+      early = early_on conn.requests conn.again conn.again conn.life (Ready link) (unready_serves conn.life conn.again early.unready) early.alive made.queue h0.early;
       notices = facts.notices;
     }
 
@@ -344,7 +348,7 @@ makes_ready before c started word kind n info link untold h good k is other earl
         let comes = readied_comes b c started n info link untold true (b.created + 1) ((shown_creation b.created).after refl) h0 h.fit h.fresh other early facts spoken wanted (λ x. asked) in
         let used : AreUses uses mine true l.creds.asked = uses_more c.sources mine true l.creds.asked (source.Renewal mine) (omega arith, λ same. asked) (uses_asked c.sources mine (b.link mine).creds.asked (b.link mine).creds.renews l.creds.asked once h0.uses) in
         let tied : Tied (entered created needs) t =
-        heard_tied_by b c started word (b.created + 1) (b.failed || false) true true kind info (Ready link) ns [] untold links after (b.sources ++ what ∷ []) uses h0 (shown_creation b.created) (λ some none. absurd (omega arith)) (others_kept now mine sources others) (unrepeated_lined now.link mine sources refl (still_unrepeated b c started kind h0)) ledger_is
+        heard_tied_by b c started word (b.created + 1) (b.failed || false) true true kind info (Ready link) ns [] untold links after (b.sources ++ what ∷ []) uses h0 (shown_creation b.created) (λ some none. absurd (omega arith)) (others_kept now mine sources others) ledger_is
         (λ i. h0.numbers.sources i ++ what_is i ∷ []) used comes in
         let need : MayNeed created count mine = record {
           due = ap source_due own ∙ (λ i. facts.made.up i && wanted i && (not (asked i) || (facts.made.said.well i && not (renews i))));
@@ -405,7 +409,7 @@ makes_ready before c started word kind n info link untold h good k is other earl
         let comes = readied_comes b c started n info link untold true b.created (h0.creation.after told) h0 h.fit h.fresh other early facts spoken wanted (λ x. asked) in
         let used : AreUses uses mine true l.creds.asked = uses_more c.sources mine true l.creds.asked (source.Renewal mine) (omega arith, λ same. asked) (uses_asked c.sources mine (b.link mine).creds.asked (b.link mine).creds.renews l.creds.asked once h0.uses) in
         let tied : Tied (entered now needs) t =
-        heard_tied_by b c started word b.created b.failed true true kind info (Ready link) ns [] untold links after (b.sources ++ what ∷ []) uses h0 (again_creation told) (λ some. some) (others_kept now mine sources others) (unrepeated_lined now.link mine sources refl (still_unrepeated b c started kind h0)) ledger_is
+        heard_tied_by b c started word b.created b.failed true true kind info (Ready link) ns [] untold links after (b.sources ++ what ∷ []) uses h0 (again_creation told) (λ some. some) (others_kept now mine sources others) ledger_is
         (λ i. h0.numbers.sources i ++ what_is i ∷ []) used comes in
         let need : MayNeed now count mine = record {
           due = ap source_due own ∙ (λ i. facts.made.up i && wanted i && (not (asked i) || (facts.made.said.well i && not (renews i))));
@@ -452,9 +456,9 @@ made_is w link = by_wanted w.conn.renewal.wanted
     by_wanted false = refl
 
 -- so the event has had its effect, where the link need not end
-pub ready_applied : (front : List Action) (f : Core) (conn : MultiplexedConnection) (link : LinkState) (l : Ledger) (started : List ℕ) → f.turns ≢ 0 → f.shut ≡ false → conn.moved ≡ [] → IsFit conn.size conn.boundary link → ending l ≡ None
+pub ready_applied : (front : List Action) (f : Core) (conn : MultiplexedConnection) (link : LinkState) (l : Ledger) (started : List ℕ) → f.turns ≢ 0 → f.shut ≡ false → conn.admitted ≡ [] → conn.moved ≡ [] → IsFit conn.size conn.boundary link → ending l ≡ None
     → IsShownReady front f (made_ready (record { conn = conn; acts = [] }) link) l [] started → HasApplied front (with_work (record { core = f; acts = [] }) (made_ready (record { conn = conn; acts = [] }) link)) started
-ready_applied front f conn link l started began awake none_moved fit none h =
+ready_applied front f conn link l started began awake nobody none_moved fit none h =
     let first : Work = record { conn = conn; acts = [] } in
     let w = made_ready first link in
     let same = made_conn first link in
@@ -467,7 +471,7 @@ ready_applied front f conn link l started began awake none_moved fit none h =
         wanting = λ x e. cc;
         setup = λ x u e. cc;
         link = λ x e. (let same : link ≡ x = cc in subst (IsFit conn.size conn.boundary) same fit);
-        none = λ none. absurd (none link refl);
+        none = λ down. nobody;
       });
       hushed = λ over. absurd (not_both f.shut awake over);
     }
@@ -520,7 +524,7 @@ comes_ready before c started word kind n info link h good k is other shutless ea
     let silent : says_nothing (setup_steps l 0) ≡ true = says_same l info u.info_is ∙ nothing in
     let said : IsSetUp l = record { well = silent_is_set l (ap is_watching notices.hearing_is ∙ plain) (has_credentials l.creds has) silent; none = λ t. ap setup_count u.starts } in
     let made : IsMade l (book before).created conn.requests link = record { asked = u.asked; up = u.up; alive = u.alive; said = said; tied = u.tied (owner_of conn.requests); queue = u.queue; row = u.row } in
-    ready_applied (before ++ turn_of c word kind ∷ []) (turned c kind) conn link (readied more l) started (λ z. absurd (omega arith)) (going_awake c kind n is shutless early.there early.alive h.hushed) h.moved u.fit (ends_where_set (readied more l) u.up (well_readied more l ∙ said.well) ∙ calm more)
+    ready_applied (before ++ turn_of c word kind ∷ []) (turned c kind) conn link (readied more l) started (λ z. absurd (omega arith)) (going_awake c kind n is shutless early.there early.alive h.hushed) (h.fit.none (unready_serves c.single.connection.life c.single.connection.again early.unready)) h.moved u.fit (ends_where_set (readied more l) u.up (well_readied more l ∙ said.well) ∙ calm more)
     (makes_ready before c started word kind n info link [] h good k is other early (record { info_is = u.info_is; sent = u.sent; wanted_is = u.wanted_is; has = has; made = made; notices = notices }))
 
 -- on a link on which nothing has started setups stand alone
@@ -544,7 +548,7 @@ comes_to_say before c started word kind n info link h good k is other shutless e
     let given : lacks_credentials l ≡ false = has_credentials l.creds has in
     let says : says_nothing (setup_steps l 0) ≡ false = says_same l info u.info_is ∙ something in
     let count : setup_count l.starts ≡ 0 = ap setup_count u.starts in
-    let nobody = h.fit.none (λ x r. not_both (is_ready conn.life) early.unready (ap is_ready r)) in
+    let nobody = h.fit.none (unready_serves conn.life conn.again early.unready) in
     let due : IsSetupDue l next greet.WithUser = record {
       due = subst (λ m. setup_after l m ≡ Some m) (sym count) (left_if (lacks_credentials l || says_nothing (setup_steps l 0)) None (Some 0) (λ i. given i || says i));
       user = subst (λ m. greet.WithUser ≡ greeting_at m) (sym count) refl;
@@ -569,13 +573,14 @@ comes_to_say before c started word kind n info link h good k is other shutless e
       course = setting_course b c started n h0 early.there early.unready early.alive;
       creds = record { wanted_is = u.wanted_is; sought = (has, renews_hear (b.link c.single.link) c.turns n ∙ early_sources (b.link c.single.link).creds conn.life early.unready early.alive h0.creds.sought) };
       renewal_is = none_hears (b.link c.single.link) c.turns n conn.renewal other (early_renewal (b.link c.single.link) conn.renewal conn.life early.unready early.alive h0.renewal);
+      repeat_is = held_hears b c started n h0 early.there early.unready early.alive;
       said = record { info_is = u.info_is; sent = u.sent; said = (u.none, said) };
       linked = λ z. enqueued_tied _ l link q (u.tied _);
       lines = subst (λ (x : LinkState). TiedLines b.story conn.requests x conn.waiting conn.admitted [] started) early.bare h0.lines;
       told = λ z. subst (λ (x : LinkState). AreQueued b.story conn.requests c.single.link x) early.bare (h0.told early.alive);
       waits = fresh_waits b (inner c started) conn.life life h0 refl nobody h.fresh refl early.bare early.unready early.alive early.other refl refl;
       rounds = rounds_down b.story conn.requests conn.fresh (numbers_of conn.waiting) refl h0.rounds;
-      early = λ unready alive. h0.early early.unready early.alive;
+      early = early_on conn.requests conn.again conn.again conn.life life (unready_serves conn.life conn.again early.unready) early.alive refl h0.early;
       notices = notices;
     })
     (ending_setting l next greet.WithUser u.up said ∙ calm)
@@ -588,14 +593,15 @@ comes_to_say before c started word kind n info link h good k is other shutless e
     (hushed_there c kind n life is shutless early.there early.alive h.hushed)
 
 -- where there are no requests nobody waits
-none_wait : (story : ℕ → Story) (requests : List Request) (life : Life) (link : LinkState) (greeting : Greeting) (fresh moved : List ℕ) → requests ≡ [] → TiedWaits story requests life fresh moved → TiedWaits story requests (SettingUp link greeting) fresh moved
-none_wait story requests life link greeting fresh moved empty h = record {
+none_wait : (story : ℕ → Story) (requests : List Request) (a : Again) (life : Life) (link : LinkState) (greeting : Greeting) (fresh moved : List ℕ) → requests ≡ [] → TiedWaits story requests a life fresh moved → TiedWaits story requests a (SettingUp link greeting) fresh moved
+none_wait story requests a life link greeting fresh moved empty h = record {
   early = h.early;
   backoff = λ p w d. absurd (nobody p w);
   connect = λ p w d. absurd (nobody p w);
   creds = λ p x w d. absurd (nobody p w);
   setup = λ p x u w d. absurd (nobody p w);
-  permit = λ p x w d. absurd (nobody p w);
+  resubscribe = λ p x w d goes. absurd (nobody p w);
+  permit = λ p x w d none. absurd (nobody p w);
   place = h.place;
   room = λ p i. absurd i;
   newer = h.newer;
@@ -604,7 +610,9 @@ none_wait story requests life link greeting fresh moved empty h = record {
   no_connect = λ p i w d. absurd (nobody p w);
   no_creds = λ p x i w d. absurd (nobody p w);
   no_setup = λ p x u i w d. absurd (nobody p w);
-  no_permit = λ p x i w d. absurd (nobody p w);
+  no_resubscribe = λ p x i w d goes. absurd (nobody p w);
+  unpermitted = λ p x w d goes. absurd (nobody p w);
+  no_permit = λ p x i w d none. absurd (nobody p w);
   no_place = h.no_place;
   seatless = h.seatless;
   no_room = λ p i j. absurd j;
@@ -632,7 +640,7 @@ comes_to_watch before c started word kind n info link h good k is other shutless
     let life = SettingUp next greet.Monitor in
     let silent : says_nothing (setup_steps l 0) ≡ true = says_same l info u.info_is ∙ nothing in
     let count : setup_count l.starts ≡ 0 = ap setup_count u.starts in
-    let nobody = h.fit.none (λ x r. not_both (is_ready conn.life) early.unready (ap is_ready r)) in
+    let nobody = h.fit.none (unready_serves conn.life conn.again early.unready) in
     let said : IsWatching l next = record {
       watches = ap is_watching notices.hearing_is ∙ watches;
       greeted = silent_is_greeted l (has_credentials l.creds has) silent;
@@ -656,13 +664,14 @@ comes_to_watch before c started word kind n info link h good k is other shutless
       course = setting_course b c started n h0 early.there early.unready early.alive;
       creds = record { wanted_is = u.wanted_is; sought = (has, renews_hear (b.link c.single.link) c.turns n ∙ early_sources (b.link c.single.link).creds conn.life early.unready early.alive h0.creds.sought) };
       renewal_is = none_hears (b.link c.single.link) c.turns n conn.renewal other (early_renewal (b.link c.single.link) conn.renewal conn.life early.unready early.alive h0.renewal);
+      repeat_is = held_hears b c started n h0 early.there early.unready early.alive;
       said = record { info_is = u.info_is; sent = u.sent; said = (u.none, said) };
       linked = λ z. enqueued_tied _ l link watch_queued (u.tied _);
       lines = subst (λ (x : LinkState). TiedLines b.story conn.requests x conn.waiting conn.admitted [] started) early.bare h0.lines;
       told = λ z. subst (λ (x : LinkState). AreQueued b.story conn.requests c.single.link x) early.bare (h0.told early.alive);
-      waits = none_wait b.story conn.requests conn.life next greet.Monitor conn.fresh conn.moved (none_asked b (inner c started) h0 watches) h0.waits;
+      waits = none_wait b.story conn.requests conn.again conn.life next greet.Monitor conn.fresh conn.moved (none_asked b (inner c started) h0 watches) h0.waits;
       rounds = rounds_down b.story conn.requests conn.fresh conn.fresh refl h0.rounds;
-      early = λ unready alive. h0.early early.unready early.alive;
+      early = early_on conn.requests conn.again conn.again conn.life life (unready_serves conn.life conn.again early.unready) early.alive refl h0.early;
       notices = notices;
     })
     (ending_setting l next greet.Monitor u.up said ∙ calm)

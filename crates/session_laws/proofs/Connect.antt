@@ -28,18 +28,17 @@ use Rattle.legal_trace.specs.Owed.{owed_by}
 use Rattle.legal_trace.specs.Ledger.{Ledger, hears, lacks_credentials, noted, noted_each, ending, ending_alive, is_over, by_opening, ends, dials, refused_in, failure_in, failure_of, source_due, sources, is_set_up, ending_asked, lasting, renewal_count}
 use Rattle.legal_trace.specs.Book.{Book, blank_book, book, entered, if_mine, use_for, hearing_in}
 use Rattle.legal_trace.specs.Legal.{AllStand, MayNeed, is_attempt, is_by_attempt}
-use Rattle.session_laws.proofs.Rounded.{rounds_down}
+use Rattle.session_laws.proofs.Rounded.{rounds_down, early_on}
 use Rattle.session_laws.proofs.Aside.{unfailed, not_up_ends}
 use Rattle.session_laws.proofs.Server.{AreSought, HasSaid, on_link, hearing_there}
 use Rattle.session_laws.proofs.Tied.{shown_creation, AreQueued, inner, no_link, link_in, carried, whole_link, owner_of, Tied, TiedLife, TiedLines, has_ended, AreUses, IsOver}
-use Rattle.session_laws.proofs.Unrepeated.{unrepeated_lined}
 use Rattle.session_laws.proofs.Creds.{down_sourced}
 use Rattle.session_laws.proofs.Said.{ending_wanting, ready_heard, setting_heard, setup_hears, dropped_end, PushesOf, pushes_there, renoticed}
 use Rattle.session_laws.proofs.Failing.{IsFailing, failing_applied, unready_shown, unstarted_owed, IsUnready}
 use Rattle.session_laws.proofs.States.{IsFit, Between, HasApplied, HasEffect, HasRetired}
 use Rattle.session_laws.proofs.Entered.{all_stand-append, book_more, sound_more, shown_more}
 use Rattle.session_laws.proofs.Settle.{seen, trace_of_acts, book_of_more}
-use Rattle.session_laws.proofs.Announce.{IsNewsKind, comes_as, heard_book, heard_is, heard_starts, heard_tied, heard_tied_by, may_turn, others_heard, turn_of, turned, uses_asked, uses_more, timed_hear, still_unrepeated, heard_hearing, asked_hear, uses_hear}
+use Rattle.session_laws.proofs.Announce.{IsNewsKind, comes_as, heard_book, heard_is, heard_starts, heard_tied, heard_tied_by, may_turn, others_heard, turn_of, turned, uses_asked, uses_more, timed_hear, heard_hearing, asked_hear, uses_hear}
 use Rattle.session_laws.proofs.Heard.{heard_by, book_kind, book_news, lives_as, none_ends, leads_still, quiet_applied, ended_quiet, pushes_still, none_hears, still_none, hushed_there, hushed_news, resting_quiet, tame_between}
 use Rattle.session_laws.proofs.End.{up_tied, setting_tied, setting_overdue, wanting_tied, wanting_overdue, plain_begins, IsPlain, dropped_up, plain_is, notices_there}
 use Rattle.session_laws.proofs.Kept.{mine_noted, others_kept}
@@ -53,6 +52,9 @@ use Rattle.redis_error.specs.declared.redis_error.RedisError.{RedisError}
 use Rattle.session_laws.proofs.Comes.{tied_live, tied_unopened, resting_down}
 use Rattle.session_laws.proofs.Retire.{IsAttempted, retires, closed_retires}
 use Rattle.session_laws.proofs.Owes.{get_behind}
+use Rattle.session_laws.proofs.Serving.{unready_serves}
+use Rattle.session_laws.proofs.Held.{held_hears, failed_served}
+use Rattle.session_laws.proofs.Repeats.{held_alike}
 
 -- news of no account
 --
@@ -154,7 +156,7 @@ connected_wants before c started word kind h good k is e wants =
     let now = heard_book b c.turns word kind in
     let shown = action.NeedCreds (length c.sources) mine in
     let early = early_dialing conn.life wait.Creds e (λ same. cc) in
-    let nobody = h.fit.none (λ x r. (let no : Dialing ≡ Ready x = sym e ∙ r in cc)) in
+    let nobody = h.fit.none (unready_serves conn.life conn.again (ap is_ready e)) in
     let live = tied_live b (inner c started) h0 early.there early.alive in
     let same = connects l0 c.turns (ap is_some (subst (λ (x : Life). TiedLife l0 b.created x) e h0.life).2) in
     let sought = subst (λ (x : Life). AreSought l0.creds x) e h0.creds.sought in
@@ -176,7 +178,7 @@ connected_wants before c started word kind h good k is e wants =
     let none = none_hears l0 c.turns connected conn.renewal (λ x. x) (early_renewal l0 conn.renewal conn.life early.unready early.alive h0.renewal) in
     let t = record (seen f [] (comes_as c conn.info life ns) [] started) { sources = uses } in
     let tied : Tied (entered now shown) t = heard_tied_by b c started word b.created b.failed conn.told conn.opened kind conn.info life ns [] [] links after (b.sources ++ what ∷ []) uses h0 h0.creation (λ some. some)
-    (others_kept now mine sources others) (unrepeated_lined now.link mine sources refl (still_unrepeated b c started kind h0)) asked (λ i. h0.numbers.sources i ++ what_is i ∷ []) used
+    (others_kept now mine sources others) asked (λ i. h0.numbers.sources i ++ what_is i ∷ []) used
     (record {
       starts = heard_starts l0 c.turns connected;
       hearing_kept = heard_hearing l0 c.turns connected;
@@ -185,13 +187,14 @@ connected_wants before c started word kind h good k is e wants =
       course = (live.links, live.begun, tied_unopened b (inner c started) h0 early.unready early.alive, (asked_hear l0 c.turns connected).last ∙ live.lasts);
       creds = record { wanted_is = u.wanted_is; sought = (wanted_is, refl, ungiven, unasked) };
       renewal_is = record { over_is = none.over_is; came = none.came; waits = none.waits; untimed = none.untimed; unstarted = none.unstarted; unasked = none.unasked; unpending = none.unpending; told = none.told; kept = none.kept; found = none.found };
+      repeat_is = held_alike l after b.tracked conn.renewal.within conn.again refl refl (held_hears b c started connected h0 early.there early.unready early.alive);
       said = record { info_is = u.info_is; sent = u.sent; said = (u.starts, u.none, refl, refl) };
       linked = λ z. sourced_tied _ l link (u.tied _);
       lines = subst (λ (x : LinkState). TiedLines b.story conn.requests x conn.waiting conn.admitted [] started) early.bare h0.lines;
       told = λ z. subst (λ (x : LinkState). AreQueued b.story conn.requests c.single.link x) early.bare (h0.told early.alive);
       waits = fresh_waits b (inner c started) conn.life life h0 refl nobody h.fresh refl early.bare early.unready early.alive early.other refl refl;
       rounds = rounds_down b.story conn.requests conn.fresh ns refl h0.rounds;
-      early = λ unready alive. h0.early early.unready early.alive;
+      early = early_on conn.requests conn.again conn.again conn.life life (unready_serves conn.life conn.again early.unready) early.alive refl h0.early;
       notices = pushes_there conn.life Dialing (hearing_in b.config) conn.hears l e (pushes_still before c started connected h (inl tt));
     }) in
     let may : MayNeed now (length c.sources) mine = record {
@@ -296,11 +299,12 @@ refused_fails before c started word kind f h good k is e last =
       );
       creds = record { wanted_is = ap (λ (x : Ledger). x.creds.wanted) over ∙ on_link conn.life (l0.creds.wanted ≡ conn.renewal.wanted) (ap is_resting e) h0.creds.wanted_is; sought = tt };
       renewal_is = renewal_ended l0 l conn.renewal conn.life (timed_hear l0 c.turns (refused f)) (heard_starts l0 c.turns (refused f)) h0.renewal;
+      repeat_is = failed_served l.end conn.again (error.Io f) failure;
       said = record { info_is = on_link conn.life (l.info ≡ conn.info) (ap is_resting e) said.info_is; sent = said.sent; said = tt };
       linked = λ n. cc;
       lines = subst (λ (x : Life). TiedLines b.story conn.requests (link_in x) conn.waiting conn.admitted [] started) e h0.lines;
       told = λ n. cc;
-      waits = ended_waits b.story conn.requests conn.life (error.Io f) conn.fresh conn.moved h0.waits;
+      waits = ended_waits b.story conn.requests conn.again conn.life (error.Io f) conn.fresh conn.moved h0.waits;
       rounds = rounds_down b.story conn.requests conn.fresh conn.fresh refl h0.rounds;
       early = λ unready alive. cc;
       notices = pushes_there conn.life Dialing (hearing_in b.config) conn.hears l e (pushes_still before c started (refused f) h (inl tt));
@@ -345,7 +349,7 @@ refused_retires before c started word kind f h good k is e last =
     let book_is : book front ≡ now = book_more before (turn_of c word kind) ∙ heard_is b c.turns word kind (book_kind b c kind h0.numbers.timers k) in
     let w : Work = record { conn = conn; acts = [] } in
     subst (λ (y : Work). HasRetired front (with_work (record { core = turned c kind; acts = [] }) y)) (sym (left_if conn.last (given_up w (error.Io f)) (record w { conn = afresh conn }) last))
-    (retires before c started word kind (refused f) [] now.link l h is (λ z. cc) unready last refl refl (others_heard b c started kind b.created h0 good (λ some. some)) (still_unrepeated b c started kind h0) own_ledger a
+    (retires before c started word kind (refused f) [] now.link l h is (λ z. cc) unready last refl refl (others_heard b c started kind b.created h0 good (λ some. some)) own_ledger a
     (uses_hear c.sources c.single.link l0 c.turns (refused f) h0.uses) (subst (AllStand blank_book) (sym (append-nil front)) all) (ap book (append-nil front) ∙ book_is))
 
 -- a link that is up doesn't dial

@@ -1,6 +1,6 @@
 -- The next link of a session is asked for.
 use Rattle.std.proofs.Common.{◌≡◌, inl, inr, ℕ, ◌+◌, ◌<◌, ◌==◌, Bool, true, false, List, [], ◌∷◌, ◌++◌, length, Option, Some, None, is_some, slice_get, refl, sym, ap, ◌∙◌, subst, arith}
-use Rattle.containers.proofs.Choices.{chosen, if_false, ne_test, not_both}
+use Rattle.containers.proofs.Choices.{if_false, ne_test, not_both}
 use Rattle.driver_model.specs.declared.action.Action.TheVariants as action
 use Rattle.driver_model.specs.declared.action.Purpose.{Purpose}
 use Rattle.driver_model.specs.declared.action.WaitKind.{WaitKind}
@@ -14,7 +14,7 @@ use Rattle.mux_conn.specs.declared.life.Life.{Life}
 use Rattle.mux_conn.specs.declared.life.Life.TheVariants.{Resting, Dialing}
 use Rattle.legal_trace.specs.Again.{repeats_in}
 use Rattle.legal_trace.specs.Book.{Book, entered, hearing_in, info_in, wanted_in}
-use Rattle.legal_trace.specs.Ledger.{Line, Start, asks, noted, noted_each, setup_count}
+use Rattle.legal_trace.specs.Ledger.{Line, Start, asks, noted, noted_each, setup_count, again_among}
 use Rattle.legal_trace.specs.Legal.{IsTimed}
 use Rattle.legal_trace.specs.Managers.{is_last, settings_in}
 use Rattle.session_laws.proofs.Ahead.{waiting_open}
@@ -23,7 +23,10 @@ use Rattle.session_laws.proofs.Numbers.{IsIn, Rising, requests_in, rising_right}
 use Rattle.session_laws.proofs.Rounded.{rounds_down}
 use Rattle.session_laws.proofs.Server.{AreSought, HasSaid, NoneRenewed, TiedRenewal, owners_of, setup_owners}
 use Rattle.session_laws.proofs.Tied.{AreAimed, AreQueued, HasCourse, IsAside, IsUse, Inner, Tied, TiedLife, TiedLines, carried, has_ended, is_begun, link_in, no_link, owner_of, owners_each, waiting_ids, whole_link}
-use Rattle.session_laws.proofs.Unrepeated.{sound_repeats_not}
+use Rattle.session_laws.proofs.Serving.{unready_serves}
+use Rattle.session_laws.proofs.Subscribes.{RepeatsNext, asked_repeat}
+use Rattle.mux_conn.specs.declared.again.Again.{Again}
+use Rattle.driver_model.specs.Hearing.{is_watching}
 
 -- the line that its connect is
 abbrev pub asks_line : Book → Line
@@ -34,11 +37,11 @@ abbrev pub dialled_book : Book → ℕ → List ℕ → ℕ → List Purpose →
 dialled_book b l host port timers timed = record (entered b (action.Connect l host port)) { timers = timers; timed = timed }
 
 -- the session then
-abbrev pub dialled_in : Inner → Bool → List Purpose → Inner
-dialled_in t last timers = record t { timers = timers; links = t.links + 1; life = Dialing; last = last; fresh = waiting_ids t.waiting }
+abbrev pub dialled_in : Inner → Bool → Again → List Purpose → Inner
+dialled_in t last a timers = record t { timers = timers; links = t.links + 1; again = a; life = Dialing; last = last; fresh = waiting_ids t.waiting }
 
--- a session without a link, of which nothing is to be answered, and nobody waits for a place
-pub record CanDial (b : Book) (t : Inner) (last : Bool) : Type 0 where
+-- a session without a link, of which nothing is to be answered, and nobody waits for a place, and what is subscribed again on its next link
+pub record CanDial (b : Book) (t : Inner) (last : Bool) (a : Again) : Type 0 where
   pub tied : Tied b t
   pub rests : t.life ≡ Resting
   pub settled : t.pending ≡ []
@@ -49,11 +52,13 @@ pub record CanDial (b : Book) (t : Inner) (last : Bool) : Type 0 where
   pub begun : is_begun t.manager ≡ true
   pub last_is : is_last (settings_in b.config) b.attempt ≡ last
   pub unended : (b.link t.link).creds.over ≡ false
+  pub unwatched : is_watching t.hears ≡ false
+  pub again_is : RepeatsNext (repeats_in (settings_in b.config) b.tracked) b.tracked a
 
 -- so it is tied once its link is asked for
-pub dials_tied : (b : Book) (t : Inner) (host : List ℕ) (port : ℕ) (last : Bool) (timers : List Purpose) (timed : ℕ) → CanDial b t last → AreAimed timers t.link (length t.table) → IsTimed (dialled_book b t.link host port timers timed)
-    → Tied (dialled_book b t.link host port timers timed) (dialled_in t last timers)
-dials_tied b t host port last timers timed c aimed bounded =
+pub dials_tied : (b : Book) (t : Inner) (host : List ℕ) (port : ℕ) (last : Bool) (a : Again) (timers : List Purpose) (timed : ℕ) → CanDial b t last a → AreAimed timers t.link (length t.table) → IsTimed (dialled_book b t.link host port timers timed)
+    → Tied (dialled_book b t.link host port timers timed) (dialled_in t last a timers)
+dials_tied b t host port last a timers timed c aimed bounded =
     let h = c.tied in
     let n = h.numbers in
     let l = b.link t.link in
@@ -67,7 +72,7 @@ dials_tied b t host port last timers timed c aimed bounded =
     let r : NoneRenewed l t.renewal = subst (TiedRenewal l t.renewal) c.rests h.renewal in
     let k = asked_tied (owner_of t.requests) l (info_in b.config) (wanted_in b.config) (hearing_in b.config) (is_last (settings_in b.config) b.attempt) (repeats_in (settings_in b.config) b.tracked) no_link
     (subst (λ (y : Life). TiedLink (carried y t.requests) l (whole_link y)) c.rests (h.link (ap has_ended c.rests))) in
-    tied_by d (dialled_in t last timers) x (mine_noted l t.link line) (record {
+    tied_by d (dialled_in t last a timers) x (mine_noted l t.link line) (record {
       numbers = record {
         turns = n.turns;
         links = ap (λ m. m + 1) n.links;
@@ -80,10 +85,9 @@ dials_tied b t host port last timers timed c aimed bounded =
         shut = n.shut;
         within = n.within;
         few = n.few;
-        unrepeated = λ m. chosen (λ (ls : List Line). (noted_each (b.link m) ls).again.wanted ≡ false) (t.link == m) (line ∷ []) [] (λ e. repeats_none) (λ e. n.unrepeated m);
         settings = record { size_is = n.settings.size_is; bound_is = n.settings.bound_is; limit_is = n.settings.limit_is; some = n.settings.some; limited = n.settings.limited };
         kind_is = n.kind_is;
-        quiet = n.quiet;
+        quiet = λ w. absurd (not_both (is_watching t.hears) c.unwatched w);
         comes_back = n.comes_back;
         lazy = n.lazy;
         alone = λ none. absurd (not_both (is_some t.manager) none course.1);
@@ -98,12 +102,13 @@ dials_tied b t host port last timers timed c aimed bounded =
       life = (refl, life.1, life.2);
       course = (ap (λ m. m + 1) course.0, c.begun, course.2, c.last_is, course.3);
       calm = λ up runs. h.calm (ap has_ended c.rests) runs;
-      early = λ down alive. h.early (ap is_ready c.rests) (ap has_ended c.rests);
+      early = λ down alive. record { unbegun = (h.early (unready_serves t.life t.again (ap is_ready c.rests)) (ap has_ended c.rests)).unbegun; empty = refl };
       rounds = rounds_down b.story t.requests t.fresh (waiting_ids t.waiting) refl h.rounds;
       creation = h.creation;
       creds = record { wanted_is = n.wants; sought = (refl, refl, refl) };
       uses = λ m what i. subst (λ y. IsUse what t.link y false) sought.0 (subst (λ y. IsUse what t.link l.creds.asked y) sought.2 (h.uses m what i));
       renewal = record { over_is = sym c.unended ∙ r.over_is; came = refl; waits = r.waits; untimed = refl; unstarted = r.unstarted; unasked = r.unasked; unpending = r.unpending; told = r.told; kept = refl; found = r.found };
+      repeat = asked_repeat x b.tracked t.renewal.within a refl refl (ap (λ (ss : List Start). again_among ss 0) said.0) c.again_is;
       setup = record { info_is = n.address_is ∙ sym course.3; sent = λ m s less i. absurd (none_sent said.0 m less); said = (said.0, said.1) };
       link = λ up. k;
       names = h.names;
@@ -123,7 +128,8 @@ dials_tied b t host port last timers timed c aimed bounded =
         connect = λ p w e. inl (is_kept p w);
         creds = λ p link w e. cc;
         setup = λ p link u w e. cc;
-        permit = λ p link w e. cc;
+        resubscribe = λ p link w e goes. cc;
+        permit = λ p link w e none. cc;
         place = h.waits.place;
         room = λ p i. absurd i;
         newer = rises;
@@ -135,7 +141,9 @@ dials_tied b t host port last timers timed c aimed bounded =
         ];
         no_creds = λ p link i w e. cc;
         no_setup = λ p link u i w e. cc;
-        no_permit = λ p link i w e. cc;
+        no_resubscribe = λ p link i w e goes. cc;
+        unpermitted = λ p link w e goes. cc;
+        no_permit = λ p link i w e none. cc;
         no_place = h.waits.no_place;
         seatless = h.waits.seatless;
         no_room = λ p i j. absurd j;
@@ -144,9 +152,6 @@ dials_tied b t host port last timers timed c aimed bounded =
       late = h.late;
     })
   where
-    repeats_none : repeats_in (settings_in b.config) b.tracked ≡ false
-    repeats_none = subst (λ (o : Option Config). repeats_in (settings_in o) b.tracked ≡ false) (sym c.told) (sound_repeats_not c.config b.tracked c.sound)
-
     none_sent : (b.link t.link).starts ≡ [] → (m : ℕ) → m < setup_count (b.link t.link).starts → ⊥
     none_sent none m less = let count = ap setup_count none in omega (arith, less, count)
 

@@ -9,7 +9,7 @@ use Rattle.driver_model.specs.declared.action.SourceUse.TheVariants as source
 use Rattle.driver_model.specs.declared.event.EventKind.{EventKind}
 use Rattle.driver_model.specs.declared.event.EventKind.TheVariants as event
 use Rattle.driver_model.specs.declared.news.LinkFault.TheVariants as fault
-use Rattle.driver_model.specs.News.{News, connected, took, came, failed, authorized, denied, deserted, for_link, news_of, of_source, of_timer, refused, overdue, silence, renewed, unrenewed, late}
+use Rattle.driver_model.specs.News.{News, connected, took, came, failed, authorized, denied, deserted, for_link, news_of, of_source, of_timer, refused, overdue, silence, renewed, unrenewed, late, unrepeated}
 use Rattle.mux_conn.specs.declared.life.Life.{Life}
 use Rattle.mux_conn.specs.declared.life.Life.TheVariants.{Resting, Dialing, Ready, Ended, SettingUp, Wanting}
 use Rattle.mux_conn.specs.Effects.{CanTake, applied}
@@ -32,6 +32,7 @@ use Rattle.driver_model.specs.declared.action.Purpose.TheVariants as purpose
 use Rattle.session_laws.proofs.Asked.{submit_applied}
 use Rattle.session_laws.proofs.Renewed.{renewed_applied, unrenewed_applied, renewal_late}
 use Rattle.session_laws.proofs.Heard.{silent_no_end, still_none}
+use Rattle.session_laws.proofs.RepeatOver.{repeat_over}
 
 -- the news of an event that names the connection's link
 by_news : (before : List Action) (c : Core) (started : List ℕ) (word : ℕ) (kind : EventKind) (heard n : News) → heard ≡ n
@@ -81,7 +82,9 @@ fired before c started word n (purpose.Response owner.Monitor) h good is = absur
 fired before c started word n (purpose.Backoff g) h good is =
     let silent_is : news_of c.timers c.sources c.single.link (event.Fired n) ≡ silence = ap (of_timer c.single.link) is in
     by_news before c started word (event.Fired n) (news_of c.timers c.sources c.single.link (event.Fired n)) silence silent_is (unheard before c started word (event.Fired n) h good (λ m. ap (is_clock_of m) is) silent_is)
-fired before c started word n (purpose.Resubscription l) h good is = absurd (h.sound.tied.numbers.aims n (purpose.Resubscription l) is)
+fired before c started word n (purpose.Resubscription l) h good is =
+    by_link before c started word l (event.Fired n) unrepeated h good (λ m. ap (is_clock_of m) is) (ap (of_timer c.single.link) is)
+    (λ same own. inl (repeat_over before c started word (event.Fired n) h good (λ m. ap (is_clock_of m) is) own))
 fired before c started word n (purpose.Response (owner.Try m round)) h good is =
     let aim : (m < length c.table) × (round ≡ 0) = h.sound.tied.numbers.aims n (purpose.Response (owner.Try m round)) is in
     let first = is ∙ ap (λ k. Some (purpose.Response (owner.Try m k))) aim.1 in

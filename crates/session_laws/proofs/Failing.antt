@@ -28,7 +28,6 @@ use Rattle.session_laws.proofs.Rounded.{rounds_down}
 use Rattle.session_laws.proofs.Numbers.{IsIn}
 use Rattle.session_laws.proofs.Server.{AreSetups}
 use Rattle.session_laws.proofs.Tied.{shown_creation, inner, link_in, no_link, TiedLines, Tied, has_ended}
-use Rattle.session_laws.proofs.Unrepeated.{unrepeated_lined}
 use Rattle.session_laws.proofs.States.{Between, HasApplied}
 use Rattle.session_laws.proofs.Entered.{all_stand-append, shown_more}
 use Rattle.session_laws.proofs.Creds.{down_sourced}
@@ -39,13 +38,14 @@ use Rattle.session_laws.proofs.Answer.{after_end}
 use Rattle.session_laws.proofs.Aside.{aside_ends, others_created, unfailed}
 use Rattle.session_laws.proofs.Settle.{seen, sound_act, trace_of_acts, Holds, book_of_more}
 use Rattle.session_laws.proofs.Close.{ended_applied, ended_waits, waiting_ends, waiting_leaves, ends_so}
-use Rattle.session_laws.proofs.Announce.{turn_of, turned, IsNewsKind, first_book, heard_book, heard_is, heard_starts, heard_tied_by, may_turn, others_heard, uses_hear, uses_on, timed_hear, asked_hear, still_unrepeated, heard_hearing}
+use Rattle.session_laws.proofs.Announce.{turn_of, turned, IsNewsKind, first_book, heard_book, heard_is, heard_starts, heard_tied_by, may_turn, others_heard, uses_hear, uses_on, timed_hear, asked_hear, heard_hearing}
 use Rattle.session_laws.proofs.Heard.{heard_by, book_kind, book_news}
 use Rattle.session_laws.proofs.Said.{PushesOf, sources_asked}
 use Rattle.session_laws.proofs.Renewals.{renewal_ended}
 use Rattle.driver_model.specs.declared.hearing.Hearing.{Hearing}
 use Rattle.driver_model.specs.Hearing.{hears_something}
 use Rattle.session_laws.proofs.Comes.{tied_live, tied_unopened}
+use Rattle.session_laws.proofs.Held.{failed_served}
 
 -- the failure is shown
 --
@@ -214,7 +214,7 @@ setup_fails before c started word kind n x h good k is u fails lasts =
     let closed : links c.single.link ≡ noted l line = mine_noted (now.link c.single.link) c.single.link line ∙ ap (λ (y : Ledger). noted y line) own in
     let t = seen f (act.Close ∷ []) (record conn { life = Ended x; told = true }) [] started in
     let tied : (created : ℕ) (halted : Bool) → created ≢ 0 → Tied (record (entered now close) { created = created; failed = halted }) t = λ created halted some. heard_tied_by b c started word created halted true conn.opened kind conn.info (Ended x) conn.fresh [] [] links (noted l line) b.sources (c.sources ++ []) h0 (record { before = λ z. cc; after = λ z. some }) (λ z. some)
-    (others_created c.single.link created _ (λ z. some) (others_kept now c.single.link line others)) (unrepeated_lined now.link c.single.link line refl (still_unrepeated b c started kind h0)) closed (h0.numbers.sources ∙ sym (append-nil c.sources)) (uses_on c.sources c.single.link (uses_hear c.sources c.single.link l0 c.turns n h0.uses))
+    (others_created c.single.link created _ (λ z. some) (others_kept now c.single.link line others)) closed (h0.numbers.sources ∙ sym (append-nil c.sources)) (uses_on c.sources c.single.link (uses_hear c.sources c.single.link l0 c.turns n h0.uses))
     (record {
       starts = heard_starts l0 c.turns n;
       hearing_kept = heard_hearing l0 c.turns n;
@@ -230,11 +230,12 @@ setup_fails before c started word kind n x h good k is u fails lasts =
       lived = (refl, ap owed_by why, λ y shown. some, asked);
       creds = record { wanted_is = fails.wanted_is; sought = tt };
       renewal_is = renewal_ended l0 (noted l line) conn.renewal conn.life (timed_hear l0 c.turns n) (heard_starts l0 c.turns n) h0.renewal;
+      repeat_is = failed_served (noted l line).end conn.again x (ap failure_of why);
       said = record { info_is = fails.info_is; sent = fails.sent; said = tt };
       linked = λ z. cc;
       lines = subst (λ (y : LinkState). TiedLines b.story conn.requests y conn.waiting conn.admitted [] started) u.bare h0.lines;
       told = λ z. cc;
-      waits = ended_waits b.story conn.requests conn.life x conn.fresh conn.moved h0.waits;
+      waits = ended_waits b.story conn.requests conn.again conn.life x conn.fresh conn.moved h0.waits;
       rounds = rounds_down b.story conn.requests conn.fresh conn.fresh refl h0.rounds;
       early = λ unready alive. cc;
       notices = record {

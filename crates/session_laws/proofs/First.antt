@@ -1,5 +1,5 @@
 -- A session that waits for its first submission: nothing is asked of its connection until that comes.
-use Rattle.std.proofs.Common.{◌≡◌, ◌≢◌, ◌⊎◌, inl, inr, ℕ, ◌-◌, ◌==◌, true, false, ◌&&◌, List, [], ◌∷◌, ◌++◌, length, length-append, Option, Some, None, slice_get, unwrap_or, refl, sym, ap, ◌∙◌, subst, arith}
+use Rattle.std.proofs.Common.{◌≡◌, ◌≢◌, ◌⊎◌, inl, inr, ℕ, ◌-◌, ◌==◌, true, false, ◌&&◌, List, [], ◌∷◌, ◌++◌, length, length-append, Option, Some, None, slice_get, unwrap_or, refl, sym, ap, ◌∙◌, subst, arith, if◌then◌else◌}
 use Rattle.containers.proofs.Choices.{chosen, left_if, not_both, or_right}
 use Rattle.redis_error.specs.declared.redis_error.RedisError.{RedisError}
 use Rattle.redis_error.specs.declared.redis_error.RedisError.TheVariants as error
@@ -15,8 +15,8 @@ use Rattle.driver_model.specs.Hearing.{hears_messages}
 use Rattle.driver_model.specs.Kind.{has_timeouts}
 use Rattle.driver_model.specs.News.{News, silence, connected, refused, overdue, took, came, failed, authorized, denied, deserted, renewed, unrenewed, late, unrepeated, dropped, news_of, shut as down}
 use Rattle.driver_model.specs.Request.{packed_bytes, shape_of, is_reply_awaited, lacks_resp3}
-use Rattle.mux_conn.specs.Connection.{Work, is_ready}
-use Rattle.mux_conn.specs.Effects.{applied, connected_at, dropped_at, failed_at, authorized_at, unauthorized_at, overdue_at, read_at, refused_at, taken_at, timed_out}
+use Rattle.mux_conn.specs.Connection.{Work, is_ready, is_outstanding}
+use Rattle.mux_conn.specs.Effects.{applied, connected_at, dropped_at, failed_at, authorized_at, unauthorized_at, overdue_at, read_at, refused_at, taken_at, timed_out, all_fresh}
 use Rattle.mux_conn.specs.Renewals.{is_unanswered, none_follow, takes_more}
 use Rattle.mux_conn.specs.Requests.{answered, is_open, is_open_at, waiting_of}
 use Rattle.mux_conn.specs.declared.connection.MultiplexedConnection.{MultiplexedConnection}
@@ -33,8 +33,10 @@ use Rattle.shared_session.specs.Turn.{Turning, asked_for, counted, effect, fired
 use Rattle.legal_trace.specs.Book.{Book, shuts}
 use Rattle.legal_trace.specs.Story.{is_open as is_story_open}
 use Rattle.legal_trace.proofs.Plain.{last_item}
+use Rattle.mux_conn.specs.declared.again.Again.TheVariants as again
 use Rattle.session_laws.proofs.Judge.{news_not_shut}
 use Rattle.session_laws.proofs.Tied.{Tied, TiedStory, inner, waiting_ids}
+use Rattle.mux_conn.specs.Repeats.{repeating}
 
 -- nothing was asked of the connection, and it has no link
 pub record IsIdle (c : MultiplexedConnection) : Type 0 where
@@ -81,7 +83,7 @@ applied_idle w deserted other h = at_rest_idle w (unauthorized_at w (error.AuthF
 applied_idle w (renewed c) other h = (chosen IsIdle (is_ready w.conn.life && takes_more w.conn.renewal) _ w.conn (λ t. idle_renewed w.conn _ refl h) (λ f. h), refl)
 applied_idle w unrenewed other h = (idle_renewed w.conn (none_follow w.conn) refl h, refl)
 applied_idle w (late k) other h = (chosen IsIdle (is_unanswered w.conn.renewal k) _ w.conn (λ t. idle_renewed w.conn _ refl h) (λ f. h), refl)
-applied_idle w unrepeated other h = (h, refl)
+applied_idle w unrepeated other h = at_rest_idle w (λ x. if is_ready x && is_outstanding w.conn.again then all_fresh (repeating w again.Nothing) else w) refl h
 applied_idle w dropped other h = chosen (IsIdleAs w) (hears_messages w.conn.hears) (dropped_at w w.conn.life) w (λ t. at_rest_idle w (dropped_at w) refl h) (λ f. (h, refl))
 applied_idle w down other h = absurd (other refl)
 

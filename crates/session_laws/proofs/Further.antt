@@ -14,16 +14,16 @@ use Rattle.mux_conn.specs.declared.request.Progress.{Progress}
 use Rattle.mux_conn.specs.declared.request.Request.{Request}
 use Rattle.mux_conn.specs.declared.request.Waiting.{Waiting}
 use Rattle.mux_conn.specs.Requests.{is_open as is_open_progress, is_waiting, is_admitted, is_placed, is_open_at, is_waiting_at, is_unbegun_at, is_admitted_at, is_placed_at, if_there, name_or_none, name_at, permits_or_none, permits_at}
+use Rattle.mux_conn.specs.declared.again.Again.{Again}
 use Rattle.mux_conn.specs.declared.life.Life.{Life}
 use Rattle.mux_conn.specs.declared.life.Life.TheVariants.{Resting, Dialing, Ended, Ready, Wanting, SettingUp}
 use Rattle.link_core.specs.Link.{LinkState}
 use Rattle.link_laws.specs.Settles.{awaited_ids}
 use Rattle.legal_trace.specs.Ledger.{Ledger, setup_count}
 use Rattle.legal_trace.specs.Story.{Story, is_told, shape}
-use Rattle.mux_conn.specs.Renewals.{renewal_id}
-use Rattle.session_laws.proofs.Numbers.{IsIn, Rising}
+use Rattle.session_laws.proofs.Numbers.{IsIn, Rising, is_own, below_own}
 use Rattle.session_laws.proofs.Server.{setup_owners}
-use Rattle.session_laws.proofs.Tied.{carried, link_in, no_link, owner_of, owners_each, queue_ids, waiting_ids, whole_link, IsRequest, TiedStory, TiedTries, TiedNames, IsOf, IsQueued, IsEntry, IsPacked, AreQueued, AreLate, shown_wait, TiedWaits, TiedPermits}
+use Rattle.session_laws.proofs.Tied.{carried, link_in, no_link, owner_of, owners_each, queue_ids, waiting_ids, whole_link, IsRequest, TiedStory, TiedTries, TiedNames, IsOf, IsQueued, IsEntry, IsPacked, AreQueued, AreLate, shown_wait, TiedWaits, TiedPermits, own_owner}
 use Rattle.session_laws.proofs.Permits.{held_same}
 use Rattle.legal_trace.specs.Steps.{is_let_in, permits_held, permits_on}
 use Rattle.driver_model.specs.declared.action.WaitKind.{WaitKind}
@@ -121,19 +121,19 @@ further_story table story after requests more link x names same longer h new n =
 -- the tries
 --
 -- the owners of starts stay
-owner_longer : (requests more : List Request) (p : ℕ) → IsLonger requests more → (p ≢ renewal_id → p < length requests) → owner_of more p ≡ owner_of requests p
-owner_longer requests more p longer within = by_test (p == renewal_id) _
-    (λ t. taken_if (p == renewal_id) owner.Auth (owner.Try (name_at more p) 0) t ∙ sym (taken_if (p == renewal_id) owner.Auth (owner.Try (name_at requests p) 0) t))
-    (λ f. let other = ne_from p renewal_id f in owner_below more p other ∙ ap (λ n. owner.Try n 0) (name_longer requests more p longer (within other)) ∙ sym (owner_below requests p other))
+owner_longer : (requests more : List Request) (p : ℕ) → IsLonger requests more → (is_own p ≡ false → p < length requests) → owner_of more p ≡ owner_of requests p
+owner_longer requests more p longer within = by_test (is_own p) _
+    (λ t. taken_if (is_own p) (own_owner p) (owner.Try (name_at more p) 0) t ∙ sym (taken_if (is_own p) (own_owner p) (owner.Try (name_at requests p) 0) t))
+    (λ f. owner_below more p f ∙ ap (λ n. owner.Try n 0) (name_longer requests more p longer (within f)) ∙ sym (owner_below requests p f))
 
 -- of all starts
-owners_longer : (requests more : List Request) (started : List ℕ) → IsLonger requests more → ((p : ℕ) → p ≢ renewal_id → IsIn p started → p < length requests) → owners_each more started ≡ owners_each requests started
+owners_longer : (requests more : List Request) (started : List ℕ) → IsLonger requests more → ((p : ℕ) → is_own p ≡ false → IsIn p started → p < length requests) → owners_each more started ≡ owners_each requests started
 owners_longer requests more [] longer within = refl
 owners_longer requests more (p ∷ ps) longer within = (λ i. owner_longer requests more p longer (λ other. within p other (inl refl)) i ∷ owners_longer requests more ps longer (λ q other j. within q other (inr j)) i)
 
 -- and so do the tries
 pub tries_longer : (table : List (Option Pending)) (l : Ledger) (story after : ℕ → Story) (requests more : List Request) (link : ℕ) (started : List ℕ) → TiedNames table requests → SameBefore story after (length table) → IsLonger requests more
-    → length more ≤ 2 ^ 32 → ((p : ℕ) → p ≢ renewal_id → IsIn p started → p < length requests) → ((k p : ℕ) → p ≢ renewal_id → slice_get started k ≡ Some p → p < length requests) → ((p : ℕ) (r : Request) → slice_get more p ≡ Some r → length requests ≤ p → (after r.name).tries ≡ [])
+    → length more ≤ 2 ^ 32 → ((p : ℕ) → is_own p ≡ false → IsIn p started → p < length requests) → ((k p : ℕ) → is_own p ≡ false → slice_get started k ≡ Some p → p < length requests) → ((p : ℕ) (r : Request) → slice_get more p ≡ Some r → length requests ≤ p → (after r.name).tries ≡ [])
     → TiedTries l story requests link started → TiedTries l after more link started
 tries_longer table l story after requests more link started names same longer few within at new h = record {
   owners = λ plain. h.owners plain ∙ ap (setup_owners (setup_count l.starts)) (sym (owners_longer requests more started longer within));
@@ -149,8 +149,8 @@ tries_longer table l story after requests more link started names same longer fe
       (λ past. new p r i past);
 }
   where
-    numbered : (p : ℕ) → p < length more → p ≢ renewal_id
-    numbered p inside e = omega (arith, e, inside, few)
+    numbered : (p : ℕ) → p < length more → is_own p ≡ false
+    numbered p inside = below_own p (omega (arith, inside, few))
 
 -- the lines
 --
@@ -200,7 +200,7 @@ entries_longer requests more (e ∷ es) longer all = (
 -- the owners of a row's messages are the same
 pub owners_of_row : (requests more : List Request) (row : List Entry) → IsLonger requests more → AllByRecursion (IsEntry requests) row → SameNames (owner_of requests) (owner_of more) row
 owners_of_row requests more [] longer all = tt
-owners_of_row requests more (e ∷ es) longer all = (sym (owner_longer requests more e.id longer (λ other. elim all.0 [ inl r ↦ r.below | inr a ↦ absurd (other a.is) ])), owners_of_row requests more es longer all.1)
+owners_of_row requests more (e ∷ es) longer all = (sym (owner_longer requests more e.id longer (λ other. elim all.0 [ inl r ↦ r.below | inr a ↦ absurd (not_both (is_own e.id) other a.is) ])), owners_of_row requests more es longer all.1)
 
 -- so the link is tied
 pub link_longer : (l : Ledger) (requests more : List Request) (life : Life) → IsLonger requests more → AllByRecursion (IsEntry requests) (link_in life).row → TiedLink (carried life requests) l (whole_link life) → TiedLink (carried life more) l (whole_link life)
@@ -253,9 +253,9 @@ pub no_wait : (x : Option WaitKind) (kind : WaitKind) → x ≡ None → x ≢ S
 no_wait x kind none e = let no : ◌≡◌ {A = Option WaitKind} None (Some kind) = sym none ∙ e in cc
 
 -- so the waits stay
-pub waits_longer : (table : List (Option Pending)) (story after : ℕ → Story) (requests more : List Request) (life : Life) (fresh later moved : List ℕ) → TiedNames table requests → SameBefore story after (length table) → IsLonger requests more
-    → ((p : ℕ) → IsIn p (awaited_ids (link_in life).queue) → p < length requests) → fresh ≡ [] → IsNext after requests more later → TiedWaits story requests life fresh moved → TiedWaits after more life later moved
-waits_longer table story after requests more life fresh later moved names same longer within no_fresh next h =
+pub waits_longer : (table : List (Option Pending)) (story after : ℕ → Story) (requests more : List Request) (a : Again) (life : Life) (fresh later moved : List ℕ) → TiedNames table requests → SameBefore story after (length table) → IsLonger requests more
+    → ((p : ℕ) → IsIn p (awaited_ids (link_in life).queue) → p < length requests) → fresh ≡ [] → IsNext after requests more later → TiedWaits story requests a life fresh moved → TiedWaits after more a life later moved
+waits_longer table story after requests more a life fresh later moved names same longer within no_fresh next h =
     let still : (p : ℕ) → p < length requests → shown_wait after more p ≡ shown_wait story requests p = λ p l. shown_longer table story after requests more p names same longer l in
     let was : (p : ℕ) → p < length requests → is_waiting_at more p ≡ true → is_waiting_at requests p ≡ true = λ p l w. sym (there_longer is_waiting requests more p longer l) ∙ w in
     let old_one : (p : ℕ) → IsIn p fresh → ⊥ = λ p i. subst (IsIn p) no_fresh i in
@@ -275,8 +275,11 @@ waits_longer table story after requests more life fresh later moved names same l
       setup = λ p link u w r. before_or_new requests more p _
           (λ old. elim (h.setup p link u (was p old w) r) [ inl i ↦ absurd (old_one p i) | inr e ↦ inr (still p old ∙ e) ])
           (λ past. inl (next.shown p w past).1);
-      permit = λ p link w r. before_or_new requests more p _
-          (λ old. elim (h.permit p link (was p old w) r) [ inl i ↦ absurd (old_one p i) | inr e ↦ inr (still p old ∙ e) ])
+      resubscribe = λ p link w r goes. before_or_new requests more p _
+          (λ old. elim (h.resubscribe p link (was p old w) r goes) [ inl i ↦ absurd (old_one p i) | inr e ↦ inr (still p old ∙ e) ])
+          (λ past. inl (next.shown p w past).1);
+      permit = λ p link w r none. before_or_new requests more p _
+          (λ old. elim (h.permit p link (was p old w) r none) [ inl i ↦ absurd (old_one p i) | inr e ↦ inr (still p old ∙ e) ])
           (λ past. inl (next.shown p w past).1);
       place = λ p a. before_or_new requests more p _
           (λ old. elim (h.place p (sym (there_longer is_admitted requests more p longer old) ∙ a)) [ inl i ↦ inl i | inr e ↦ inr (still p old ∙ e) ])
@@ -288,7 +291,11 @@ waits_longer table story after requests more life fresh later moved names same l
       no_connect = λ p i w d. no_wait (shown_wait after more p) wait.Connect (next.shown p w (next.only p i)).0;
       no_creds = λ p link i w r. no_wait (shown_wait after more p) wait.Creds (next.shown p w (next.only p i)).0;
       no_setup = λ p link u i w r. no_wait (shown_wait after more p) wait.Setup (next.shown p w (next.only p i)).0;
-      no_permit = λ p link i w r. no_wait (shown_wait after more p) wait.Permit (next.shown p w (next.only p i)).0;
+      no_resubscribe = λ p link i w r goes. no_wait (shown_wait after more p) wait.Resubscribe (next.shown p w (next.only p i)).0;
+      unpermitted = λ p link w r goes. before_or_new requests more p _
+          (λ old e. h.unpermitted p link (was p old w) r goes (sym (still p old) ∙ e))
+          (λ past. no_wait (shown_wait after more p) wait.Permit (next.shown p w past).0);
+      no_permit = λ p link i w r none. no_wait (shown_wait after more p) wait.Permit (next.shown p w (next.only p i)).0;
       seatless = λ p a. before_or_new requests more p _
           (λ old e. h.seatless p (sym (there_longer is_admitted requests more p longer old) ∙ a) (sym (still p old) ∙ e))
           (λ past. absurd (next.none p (inl a) past));

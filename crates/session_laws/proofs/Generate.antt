@@ -1,5 +1,5 @@
 -- A generation begins: of the link before it nothing stays, and the session goes to its next one.
-use Rattle.std.proofs.Common.{◌≡◌, ◌≢◌, inl, inr, ℕ, ◌+◌, ◌^◌, ◌<◌, ◌==◌, true, false, [], length, Option, Some, None, is_some, slice_get, refl, sym, ap, ◌∙◌, subst, arith}
+use Rattle.std.proofs.Common.{◌≡◌, ◌≢◌, inl, inr, ℕ, ◌+◌, ◌^◌, ◌<◌, ◌==◌, true, false, [], length, Option, Some, None, is_some, slice_get, refl, sym, ap, ◌∙◌, subst, arith, List}
 use Rattle.std.specs.List.{AllByRecursion}
 use Rattle.std.specs.Prelude.{option_map, unwrap_or}
 use Rattle.containers.proofs.Choices.{by_test, eq_from, left_if, ne_from, ne_test, not_both}
@@ -9,6 +9,8 @@ use Rattle.driver_model.specs.declared.config.Config.{Config}
 use Rattle.driver_model.specs.declared.outcome.Outcome.TheVariants as outcome
 use Rattle.driver_model.specs.Hearing.{hears_pushes, hears_something}
 use Rattle.link_laws.proofs.TiedLink.{TiedLink}
+use Rattle.mux_conn.specs.declared.again.Again.{Again}
+use Rattle.mux_conn.specs.declared.again.Again.TheVariants as again
 use Rattle.mux_conn.specs.Connection.{is_ready}
 use Rattle.mux_conn.specs.Renewals.{no_renewal}
 use Rattle.mux_conn.specs.Requests.{is_admitted_at, is_open_at, is_waiting_at}
@@ -26,9 +28,13 @@ use Rattle.session_laws.proofs.Numbers.{Rising}
 use Rattle.session_laws.proofs.Owes.{ends_told, notices_told}
 use Rattle.session_laws.proofs.Renewals.{down_renewed_due}
 use Rattle.session_laws.proofs.Reopen.{ArePast, HasNoLink, aim_later, at_rest, none_held, use_later}
-use Rattle.session_laws.proofs.Rounded.{unbegun_waits}
+use Rattle.session_laws.proofs.Rounded.{unbegun_waits, early_on}
 use Rattle.session_laws.proofs.Server.{AreSought, HasSaid, NoneRenewed, TiedRenewal}
 use Rattle.session_laws.proofs.Tied.{AreLate, AreQueued, HasCourse, IsAside, IsPacked, Inner, TiedTries, carried, has_ended, whole_link, Tied, TiedLife, TiedLines, TiedManager, TiedPermits, TiedRounds, TiedStory, TiedWaits, no_link, link_in, waiting_ids}
+use Rattle.session_laws.proofs.Repeats.{serves}
+use Rattle.session_laws.proofs.Serving.{unready_serves}
+use Rattle.legal_trace.specs.Story.{Story}
+use Rattle.mux_conn.specs.declared.request.Request.{Request}
 
 -- that one begins of these generations
 manager_begins : (config : Option Config) (generation attempts number : ℕ) (m : Option Generations) → number ≢ 0 → TiedManager config generation attempts m → TiedManager config number 0 (option_map (λ g. begun_with g number) m)
@@ -43,6 +49,7 @@ begun_in t number = record t {
   free = unwrap_or t.limit 0;
   info = t.address;
   renewal = no_renewal t.renewal.wanted t.renewal.within;
+  again = again.Nothing;
   opened = false;
   fresh = waiting_ids t.waiting;
 }
@@ -93,10 +100,9 @@ over_begins b t e number h over untold parting few comes one nobody closed some 
         shut = n.shut;
         within = n.within;
         few = n.few;
-        unrepeated = n.unrepeated;
         settings = record { size_is = n.settings.size_is; bound_is = n.settings.bound_is; limit_is = n.settings.limit_is; some = n.settings.some; limited = n.settings.limited };
         kind_is = n.kind_is;
-        quiet = λ w. let q = n.quiet w in record { none = q.none; unwanted = q.unwanted; unrenewed = refl };
+        quiet = λ w. let q = n.quiet w in record { none = q.none; unwanted = q.unwanted; unrenewed = refl; unrepeated = refl };
         comes_back = manager_begins b.config b.generation b.attempt number t.manager some n.comes_back;
         lazy = n.lazy;
         alone = λ none. absurd (not_both (is_some (option_map (λ g. begun_with g number) t.manager)) none (same_some t.manager number ∙ comes));
@@ -118,6 +124,7 @@ over_begins b t e number h over untold parting few comes one nobody closed some 
       creation = h.creation;
       uses = λ k what i. use_later what t.link t.links _ _ (omega (arith, one)) (h.uses k what i);
       renewal = record { over_is = refl; came = refl; waits = refl; untimed = refl; unstarted = refl; unasked = refl; unpending = refl; told = refl; kept = refl; found = refl };
+      repeat = refl;
       names = h.names;
       story = λ m. by_entry m (slice_get t.table m) (h.story m);
       untried = λ p r i on. absurd (behind r.name on);
@@ -129,7 +136,8 @@ over_begins b t e number h over untold parting few comes one nobody closed some 
         connect = λ p w x. cc;
         creds = λ p link w x. cc;
         setup = λ p link u w x. cc;
-        permit = λ p link w x. cc;
+        resubscribe = λ p link w x goes. cc;
+        permit = λ p link w x none. cc;
         place = λ p a. absurd (none_admitted p a);
         room = λ p i. absurd i;
         newer = subst (λ ws. Rising 0 (waiting_ids ws) (length t.requests)) (sym nobody) (omega arith);
@@ -138,7 +146,9 @@ over_begins b t e number h over untold parting few comes one nobody closed some 
         no_connect = λ p i w x. cc;
         no_creds = λ p link i w x. cc;
         no_setup = λ p link u i w x. cc;
-        no_permit = λ p link i w x. cc;
+        no_resubscribe = λ p link i w x goes. cc;
+        unpermitted = λ p link w x goes. cc;
+        no_permit = λ p link i w x none. cc;
         no_place = λ p i. absurd i;
         seatless = λ p a. absurd (none_admitted p a);
         no_room = λ p i. absurd i;
@@ -177,6 +187,32 @@ over_begins b t e number h over untold parting few comes one nobody closed some 
 
 -- behind none
 --
+-- while the connection has no link, what is subscribed again is of no account for waits
+resting_waits : (story : ℕ → Story) (requests : List Request) (a next : Again) (fresh moved : List ℕ) → TiedWaits story requests a Resting fresh moved → TiedWaits story requests next Resting fresh moved
+resting_waits story requests a next fresh moved h = record {
+  early = h.early;
+  backoff = h.backoff;
+  connect = λ p w e. cc;
+  creds = λ p link w e. cc;
+  setup = λ p link u w e. cc;
+  resubscribe = λ p link w e goes. cc;
+  permit = λ p link w e answered. cc;
+  place = h.place;
+  room = h.room;
+  newer = h.newer;
+  rising = h.rising;
+  no_backoff = h.no_backoff;
+  no_connect = λ p i w e. cc;
+  no_creds = λ p link i w e. cc;
+  no_setup = λ p link u i w e. cc;
+  no_resubscribe = λ p link i w e goes. cc;
+  unpermitted = λ p link w e goes. cc;
+  no_permit = λ p link i w e answered. cc;
+  no_place = h.no_place;
+  seatless = h.seatless;
+  no_room = h.no_room;
+}
+
 -- the first begins of a session that waits for its first submission, where all its permits are free, and all that wait came in this turn
 pub first_begins : (b : Book) (t : Inner) (number : ℕ) → Tied b t → t.life ≡ Resting → t.pending ≡ [] → t.letting ≡ [] → t.moved ≡ [] → t.admitted ≡ [] → t.untold ≡ [] → t.parting ≡ false → t.free ≡ unwrap_or t.limit 0 → t.fresh ≡ waiting_ids t.waiting → (b.link t.link).creds.over ≡ false → number ≢ 0
     → Tied (entered b (action.Generation number)) (at_rest (begun_in t number))
@@ -202,10 +238,9 @@ first_begins b t number h rests settled alone still nobody untold parting free f
         shut = n.shut;
         within = n.within;
         few = n.few;
-        unrepeated = n.unrepeated;
         settings = record { size_is = n.settings.size_is; bound_is = n.settings.bound_is; limit_is = n.settings.limit_is; some = n.settings.some; limited = n.settings.limited };
         kind_is = n.kind_is;
-        quiet = λ w. let q = n.quiet w in record { none = q.none; unwanted = q.unwanted; unrenewed = refl };
+        quiet = λ w. let q = n.quiet w in record { none = q.none; unwanted = q.unwanted; unrenewed = refl; unrepeated = refl };
         comes_back = manager_begins b.config b.generation b.attempt number t.manager some n.comes_back;
         lazy = n.lazy;
         alone = λ none. absurd (not_both (is_some (option_map (λ g. begun_with g number) t.manager)) none (same_some t.manager number ∙ course.1));
@@ -223,6 +258,7 @@ first_begins b t number h rests settled alone still nobody untold parting free f
       creds = record { wanted_is = tt; sought = sought };
       uses = h.uses;
       renewal = record { over_is = unended; came = r.came; waits = refl; untimed = r.untimed; unstarted = r.unstarted; unasked = refl; unpending = refl; told = refl; kept = r.kept; found = refl };
+      repeat = refl;
       setup = record { info_is = tt; sent = h.setup.sent; said = (said.0, refl) };
       link = λ up. subst (λ (y : Life). TiedLink (carried y t.requests) l (whole_link y)) rests (h.link (ap has_ended rests));
       names = h.names;
@@ -235,11 +271,11 @@ first_begins b t number h rests settled alone still nobody untold parting free f
           (subst (λ (x : Life). TiedLines b.story t.requests (link_in x) t.waiting t.admitted t.pending t.started) rests h.lines)));
       told = λ up. subst (λ (x : Life). AreQueued b.story t.requests t.link (link_in x)) rests (h.told (ap has_ended rests));
       waits =
-          subst (λ ns. TiedWaits b.story t.requests Resting ns []) fresh
-          (subst (λ ns. TiedWaits b.story t.requests Resting t.fresh ns) still
-          (subst (λ (x : Life). TiedWaits b.story t.requests x t.fresh t.moved) rests h.waits));
-      rounds = subst (λ ns. TiedRounds (has_generations b) b.story t.requests false ns t.rounds) fresh (subst (λ (x : Life). TiedRounds (has_generations b) b.story t.requests (is_ready x) t.fresh t.rounds) rests h.rounds);
-      early = λ down alive. h.early (ap is_ready rests) (ap has_ended rests);
+          subst (λ ns. TiedWaits b.story t.requests again.Nothing Resting ns []) fresh
+          (subst (λ ns. TiedWaits b.story t.requests again.Nothing Resting t.fresh ns) still
+          (resting_waits b.story t.requests t.again again.Nothing t.fresh t.moved (subst (λ (x : Life). TiedWaits b.story t.requests t.again x t.fresh t.moved) rests h.waits)));
+      rounds = subst (λ ns. TiedRounds (has_generations b) b.story t.requests false ns t.rounds) fresh (subst (λ (x : Life). TiedRounds (has_generations b) b.story t.requests (serves x t.again) t.fresh t.rounds) rests h.rounds);
+      early = early_on t.requests t.again again.Nothing t.life Resting (unready_serves t.life t.again (ap is_ready rests)) (ap has_ended rests) refl h.early;
       permits = subst (λ k. TiedPermits b.story b.submissions t.requests t.link t.limit k []) free (subst (λ ns. TiedPermits b.story b.submissions t.requests t.link t.limit t.free ns) alone h.permits);
       late = subst (λ ns. AreLate b.story t.requests ns) settled h.late;
     })

@@ -7,7 +7,7 @@ use Rattle.driver_model.specs.declared.action.Action.{Action}
 use Rattle.driver_model.specs.declared.action.WaitKind.TheVariants as wait
 use Rattle.link_core.specs.Link.{LinkState, holds_back, is_full_beside}
 use Rattle.link_laws.proofs.TiedLink.{TiedLink}
-use Rattle.mux_conn.specs.Connection.{has_no_permit, in_front, is_due as is_renewal_due, is_ready, is_resting}
+use Rattle.mux_conn.specs.Connection.{has_no_permit, in_front, is_due as is_renewal_due, is_ready, is_resting, is_outstanding}
 use Rattle.mux_conn.specs.Effects.{setup_queued, setup_id}
 use Rattle.mux_conn.specs.Requests.{is_unbegun_at, name_at}
 use Rattle.mux_conn.specs.declared.renewal.Renewal.{Renewal}
@@ -16,9 +16,9 @@ use Rattle.mux_conn.specs.declared.life.Life.{Life}
 use Rattle.mux_conn.specs.declared.life.Life.TheVariants.{Resting, Dialing, Ended, Ready, SettingUp, Wanting}
 use Rattle.legal_trace.specs.Book.{Book, blank_book, book, entered, if_mine}
 use Rattle.legal_trace.specs.Ledger.{Ledger, Line, dials, ending, is_set_up, lacks_credentials, noted, noted_each, renewal_count, renewal_due, renewals_asked, setup_count, setup_due, setup_steps, monitor_due, is_greeted, setup_result}
-use Rattle.legal_trace.specs.Legal.{AllStand, CanMove, IsApplied, IsBegun, IsFirstToMove, IsMoved, MayStand, NoneEnds, RenewalsAreStarted, RenewalsAreTimed, SetupsAreStarted, MonitorsAreStarted, IsShown}
+use Rattle.legal_trace.specs.Legal.{AllStand, CanMove, IsApplied, IsBegun, IsFirstToMove, IsMoved, MayStand, NoneEnds, RenewalsAreStarted, RenewalsAreTimed, SetupsAreStarted, MonitorsAreStarted, IsShown, RepeatsAreTimed, RepeatsAreStarted}
 use Rattle.legal_trace.specs.Steps.{Step, is_due, is_held_back, next_step, starts_or_waits, step_down, step_ready, unready_wait, waits}
-use Rattle.session_laws.proofs.Ahead.{HasSeats, IsRunning, creds_step, full_step, held_by, permit_step, queue_step, ready_alive, running_of, setup_step}
+use Rattle.session_laws.proofs.Ahead.{HasSeats, IsRunning, creds_step, full_step, held_by, permit_step, queue_step, ready_alive, running_of, setup_step, repeat_step}
 use Rattle.session_laws.proofs.Behind.{alive_behind}
 use Rattle.session_laws.proofs.Comes.{NoneComes, live_comes, none_rests}
 use Rattle.session_laws.proofs.Creds.{lacking_undue, wanting_lacks, lacking_undecided}
@@ -32,12 +32,15 @@ use Rattle.session_laws.proofs.Renewals.{all_timed, down_renewed_due, due_is, no
 use Rattle.session_laws.proofs.Said.{sources_asked}
 use Rattle.session_laws.proofs.SetUp.{down_undue, none_due, sent_undue, set_up_undue, setting_undecided}
 use Rattle.session_laws.proofs.States.{AreBegun, IsFit}
-use Rattle.session_laws.proofs.Unrepeated.{repeats_started, repeats_timed}
 use Rattle.session_laws.proofs.Server.{AreSought, HasSaid, IsSetUp, TiedRenewal, AreRenewed, IsGreeting, watch_queued}
 use Rattle.session_laws.proofs.Tied.{Inner, Sound, Tied, TiedLife, carried, has_ended, link_in, owner_of, queue_ids, waiting_ids, whole_link, IsToldIn, greeter}
 use Rattle.mux_conn.specs.declared.life.Greeting.TheVariants as greet
 use Rattle.legal_trace.proofs.Setups.{IsUndecided, greeted_is_undue}
 use Rattle.legal_trace.proofs.Watching.{watch_is_up, watch_is_greeted, watch_is_new, watch_is_unset}
+use Rattle.session_laws.proofs.Repeats.{serves}
+use Rattle.session_laws.proofs.Serving.{unready_serves, answered_serves}
+use Rattle.session_laws.proofs.Repeating.{HasRepeated}
+use Rattle.session_laws.proofs.RepeatsDue.{served_repeated, repeating_timed, repeating_started}
 
 -- where new credentials are to be told on a link that is set up, their timer was asked for, and the link is held back
 abbrev pub HasRenewed : Renewal → Life → Type 0
@@ -55,18 +58,20 @@ StaysPut b life = goes_on life ≡ false → NoneComes b
 abbrev pub IsHushedIn : Inner → Type 0
 IsHushedIn t = t.shut ≡ true → is_resting t.life ≡ true → t.waiting ≡ []
 
--- nothing must end, and all new credentials are told that may be
+-- nothing must end, all new credentials are told that may be, and a link that is set up takes requests
 pub record IsGoing (trace : List Action) (t : Inner) : Type 0 where
   pub sound : Sound trace t
   pub ended : NoneEnds (book trace)
   pub renewed : HasRenewed t.renewal t.life
+  pub served : is_ready t.life ≡ true → is_outstanding t.again ≡ false
 
 -- one more action that may stand
-pub going_more : (trace : List Action) (a : Action) (t : Inner) → AllStand blank_book trace → MayStand (book trace) a → Tied (entered (book trace) a) t → NoneEnds (entered (book trace) a) → HasRenewed t.renewal t.life → IsGoing (trace ++ a ∷ []) t
-going_more trace a t stands may tied none renewed = record {
+pub going_more : (trace : List Action) (a : Action) (t : Inner) → AllStand blank_book trace → MayStand (book trace) a → Tied (entered (book trace) a) t → NoneEnds (entered (book trace) a) → HasRenewed t.renewal t.life → (is_ready t.life ≡ true → is_outstanding t.again ≡ false) → IsGoing (trace ++ a ∷ []) t
+going_more trace a t stands may tied none renewed served = record {
   sound = sound_more trace a t stands may tied;
   ended = subst NoneEnds (sym (book_more trace a)) none;
   renewed = renewed;
+  served = served;
 }
 
 -- what is shown is all that the event does, where no generation begins, and no link is to be asked for
@@ -212,8 +217,8 @@ begun_up b t h r told ended renewed = record {
   applied = applied_up b t h r.settled told (ready_there t.life r.up) (ready_alive t.life r.up) ended;
   setups = setups_started b t h (λ link greeting e. absurd (ready_not_setting t.life link greeting r.up e));
   monitors = monitors_started b t h (λ link e. absurd (ready_not_setting t.life link greet.Monitor r.up e));
-  repeats_timed = repeats_timed b h.numbers.unrepeated;
-  repeated = repeats_started b h.numbers.unrepeated;
+  repeats_timed = repeating_timed b t h (served_repeated t.again t.life r.served);
+  repeated = repeating_started b t h (λ link e. ap (λ (x : Life). (link_in x).boundary) (sym e) ∙ r.fit.bound_is) (served_repeated t.again t.life r.served);
   timed = renewals_timed b t h (λ link e due. (renewed link e due).0);
   renewed = renewals_started b t h (λ link e. ap (λ (x : Life). (link_in x).boundary) (sym e) ∙ r.fit.bound_is) renewed;
 }
@@ -354,6 +359,12 @@ setting_moves_none b t link greeting h e n m =
     let a = alive_behind b t n h (unstarted_alive (b.story n) m.unstarted) in
     not_both (is_due (next_step b n)) (ap (λ k. is_due (next_step b k)) (sym a.name) ∙ ap is_due (setup_step b t a.p link greeting h e (ap (λ k. (b.story k).link) a.name ∙ moves_here b t n h m))) m.due
 
+-- nor does one on a link on which what is subscribed again isn't answered
+repeating_moves_none : (b : Book) (t : Inner) (link : LinkState) → Tied b t → t.life ≡ Ready link → is_outstanding t.again ≡ true → (n : ℕ) → CanMove b n → ⊥
+repeating_moves_none b t link h e goes n m =
+    let a = alive_behind b t n h (unstarted_alive (b.story n) m.unstarted) in
+    not_both (is_due (next_step b n)) (ap (λ k. is_due (next_step b k)) (sym a.name) ∙ ap is_due (repeat_step b t a.p link h e goes (ap (λ k. (b.story k).link) a.name ∙ moves_here b t n h m))) m.due
+
 -- what gives no number is nothing
 pub none_given : (o : Option ℕ) → ((k : ℕ) → o ≡ Some k → ⊥) → o ≡ None
 none_given None never = refl
@@ -397,9 +408,9 @@ watching_done b t link h e fit held =
       | inr stuck ↦ inr (setting_held b t link greet.Monitor h e fit stuck)
     ]
 
--- on a link that is up what is in the queue is held back, those that wait for a place find it full, and the others no permit
+-- on a link that takes requests what is in the queue is held back, those that wait for a place find it full, and the others no permit
 up_moves_none : (b : Book) (t : Inner) → Tied b t → IsRunning t → t.letting ≡ [] → ((link_in t.life).queue ≡ []) ⊎ (holds_back (link_in t.life) ≡ true) → (t.admitted ≡ []) ⊎ (is_full_beside (link_in t.life) (in_front t.renewal) ≡ true)
-    → (t.waiting ≡ []) ⊎ (has_no_permit t.limit t.free ≡ true) → AreBegun t.rounds t.life t.requests → (n : ℕ) → CanMove b n → ⊥
+    → (t.waiting ≡ []) ⊎ (has_no_permit t.limit t.free ≡ true) → AreBegun t.rounds t.again t.life t.requests → (n : ℕ) → CanMove b n → ⊥
 up_moves_none b t h r nobody still full none begun n m =
     let l = moves_later b t n h r m in
     let stays : is_due (next_step b (name_at t.requests l.p)) ≡ false → ⊥ = λ e. not_both (is_due (next_step b n)) (ap (λ x. is_due (next_step b x)) (sym l.name) ∙ e) m.due in
@@ -412,7 +423,7 @@ up_moves_none b t h r nobody still full none begun n m =
         ]
         | inr w ↦ elim none [
           | inl empty ↦ absurd (subst (λ ws. IsIn l.p (waiting_ids ws)) empty w.1)
-          | inr held ↦ stays (ap is_due (permit_step b t l.p h r w.0 (λ shows. begun shows r.up l.p) (λ i. subst (IsIn l.p) nobody i) held))
+          | inr held ↦ stays (ap is_due (permit_step b t l.p h r w.0 (λ shows. begun shows (answered_serves t.life t.again r.up r.served) l.p) (λ i. subst (IsIn l.p) nobody i) held))
         ]
       ]
     ]
@@ -439,18 +450,24 @@ first_round b t p h r nobody still full none within begun n before m =
     ]
 
 -- where nothing is to be answered, nothing must end, nothing moves, and no generation begins
-pub is_moved : (b : Book) (t : Inner) → Tied b t → t.pending ≡ [] → IsToldIn t → t.letting ≡ [] → NoneEnds b → ((link : LinkState) → t.life ≡ Ready link → IsFit t.size t.bound link) → (((link : LinkState) → t.life ≡ Ready link → ⊥) → t.admitted ≡ [])
+pub is_moved : (b : Book) (t : Inner) → Tied b t → t.pending ≡ [] → IsToldIn t → t.letting ≡ [] → NoneEnds b → ((link : LinkState) → t.life ≡ Ready link → IsFit t.size t.bound link) → (serves t.life t.again ≡ false → t.admitted ≡ [])
     → ((link : LinkState) → t.life ≡ Ready link → (link.queue ≡ []) ⊎ (holds_back link ≡ true)) → ((link : LinkState) → t.life ≡ Ready link → (t.admitted ≡ []) ⊎ (is_full_beside link (in_front t.renewal) ≡ true))
-    → ((link : LinkState) → t.life ≡ Ready link → (t.waiting ≡ []) ⊎ (has_no_permit t.limit t.free ≡ true)) → (has_ended t.life ≡ true → t.waiting ≡ []) → IsHushedIn t → StaysPut b t.life
+    → ((link : LinkState) → t.life ≡ Ready link → is_outstanding t.again ≡ false → (t.waiting ≡ []) ⊎ (has_no_permit t.limit t.free ≡ true)) → (has_ended t.life ≡ true → t.waiting ≡ []) → IsHushedIn t → StaysPut b t.life
     → ((link : LinkState) (greeting : Greeting) → t.life ≡ SettingUp link greeting → IsFit t.size t.bound link) → ((link : LinkState) (greeting : Greeting) → t.life ≡ SettingUp link greeting → (link.queue ≡ []) ⊎ (holds_back link ≡ true))
-    → HasSeats t.moved (in_front t.renewal) (link_in t.life) t.size → HasRenewed t.renewal t.life → AreBegun t.rounds t.life t.requests → IsMoved b
-is_moved b t h none told alone ends fit nobody held full stuck gone hushed comes setup_fit setup_held seats renewed rounded = by_life t.life refl
+    → HasSeats t.moved (in_front t.renewal) (link_in t.life) t.size → HasRepeated t.again t.life → HasRenewed t.renewal t.life → AreBegun t.rounds t.again t.life t.requests → IsMoved b
+is_moved b t h none told alone ends fit nobody held full stuck gone hushed comes setup_fit setup_held seats repeated renewed rounded = by_life t.life refl
   where
     setups : SetupsAreStarted b
     setups = setups_started b t h (λ link greeting e. setting_done b t link greeting h e (setup_fit link greeting e) (setup_held link greeting e))
 
     monitors : MonitorsAreStarted b
     monitors = monitors_started b t h (λ link e. watching_done b t link h e (setup_fit link greet.Monitor e) (setup_held link greet.Monitor e))
+
+    repeats_asked : RepeatsAreTimed b
+    repeats_asked = repeating_timed b t h repeated
+
+    repeats_told : RepeatsAreStarted b
+    repeats_told = repeating_started b t h (λ link e. (fit link e).bound_is) repeated
 
     timed : RenewalsAreTimed b
     timed = renewals_timed b t h (λ link e due. (renewed link e due).0)
@@ -460,37 +477,40 @@ is_moved b t h none told alone ends fit nobody held full stuck gone hushed comes
 
     by_life : (life : Life) → t.life ≡ life → IsMoved b
     by_life Resting e = record {
-      begun = record { applied = applied_resting b t h (comes (ap goes_on e)) hushed none told e (nobody (λ link r. (let no : Resting ≡ Ready link = sym e ∙ r in cc))) ends; setups = setups; monitors = monitors; repeats_timed = repeats_timed b h.numbers.unrepeated; repeated = repeats_started b h.numbers.unrepeated; timed = timed; renewed = told_all };
+      begun = record { applied = applied_resting b t h (comes (ap goes_on e)) hushed none told e (nobody (unready_serves t.life t.again (ap is_ready e))) ends; setups = setups; monitors = monitors; repeats_timed = repeats_asked; repeated = repeats_told; timed = timed; renewed = told_all };
       moved = down_moves_none b t h (subst (TiedLife (b.link t.link) b.created) e h.life).1;
     }
     by_life Dialing e = record {
-      begun = record { applied = applied_up b t h none told (ap is_resting e) (ap has_ended e) ends; setups = setups; monitors = monitors; repeats_timed = repeats_timed b h.numbers.unrepeated; repeated = repeats_started b h.numbers.unrepeated; timed = timed; renewed = told_all };
+      begun = record { applied = applied_up b t h none told (ap is_resting e) (ap has_ended e) ends; setups = setups; monitors = monitors; repeats_timed = repeats_asked; repeated = repeats_told; timed = timed; renewed = told_all };
       moved = down_moves_none b t h (dialing_down (b.link t.link) b.created t.life e h.life);
     }
     by_life (Wanting link) e = record {
-      begun = record { applied = applied_up b t h none told (ap is_resting e) (ap has_ended e) ends; setups = setups; monitors = monitors; repeats_timed = repeats_timed b h.numbers.unrepeated; repeated = repeats_started b h.numbers.unrepeated; timed = timed; renewed = told_all };
+      begun = record { applied = applied_up b t h none told (ap is_resting e) (ap has_ended e) ends; setups = setups; monitors = monitors; repeats_timed = repeats_asked; repeated = repeats_told; timed = timed; renewed = told_all };
       moved = wanting_moves_none b t link h e;
     }
     by_life (SettingUp link greeting) e = record {
-      begun = record { applied = applied_up b t h none told (ap is_resting e) (ap has_ended e) ends; setups = setups; monitors = monitors; repeats_timed = repeats_timed b h.numbers.unrepeated; repeated = repeats_started b h.numbers.unrepeated; timed = timed; renewed = told_all };
+      begun = record { applied = applied_up b t h none told (ap is_resting e) (ap has_ended e) ends; setups = setups; monitors = monitors; repeats_timed = repeats_asked; repeated = repeats_told; timed = timed; renewed = told_all };
       moved = setting_moves_none b t link greeting h e;
     }
     by_life (Ready link) e =
         let here : link_in t.life ≡ link = ap link_in e in
         record {
-          begun = record { applied = applied_up b t h none told (ap is_resting e) (ap has_ended e) ends; setups = setups; monitors = monitors; repeats_timed = repeats_timed b h.numbers.unrepeated; repeated = repeats_started b h.numbers.unrepeated; timed = timed; renewed = told_all };
-          moved = up_moves_none b t h (running_of t link none e (fit link e) (subst (λ (x : LinkState). HasSeats t.moved (in_front t.renewal) x t.size) here seats)) alone
+          begun = record { applied = applied_up b t h none told (ap is_resting e) (ap has_ended e) ends; setups = setups; monitors = monitors; repeats_timed = repeats_asked; repeated = repeats_told; timed = timed; renewed = told_all };
+          moved = λ n m. by_test (is_outstanding t.again) ⊥
+              (λ goes. repeating_moves_none b t link h e goes n m)
+              (λ served.
+              up_moves_none b t h (running_of t link none e served (fit link e) (subst (λ (x : LinkState). HasSeats t.moved (in_front t.renewal) x t.size) here seats)) alone
               (subst (λ (x : LinkState). (x.queue ≡ []) ⊎ (holds_back x ≡ true)) (sym here) (held link e))
               (subst (λ (x : LinkState). (t.admitted ≡ []) ⊎ (is_full_beside x (in_front t.renewal) ≡ true)) (sym here) (full link e))
-              (stuck link e) rounded;
+              (stuck link e served) rounded n m);
         }
     by_life (Ended x) e = record {
       begun = record {
-        applied = applied_over b t (Ended x) refl h (comes (ap goes_on e)) none told e (λ i. kept_ids (nobody (λ link r. (let no : Ended x ≡ Ready link = sym e ∙ r in cc)) i) (gone (ap has_ended e) i)) ends;
+        applied = applied_over b t (Ended x) refl h (comes (ap goes_on e)) none told e (λ i. kept_ids (nobody (unready_serves t.life t.again (ap is_ready e)) i) (gone (ap has_ended e) i)) ends;
         setups = setups;
         monitors = monitors;
-        repeats_timed = repeats_timed b h.numbers.unrepeated;
-        repeated = repeats_started b h.numbers.unrepeated;
+        repeats_timed = repeats_asked;
+        repeated = repeats_told;
         timed = timed;
         renewed = told_all;
       };

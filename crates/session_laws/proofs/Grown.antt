@@ -36,13 +36,11 @@ use Rattle.mux_conn.specs.declared.life.Life.TheVariants.{Resting, Dialing, Want
 use Rattle.mux_conn.specs.declared.request.Pending.{Pending}
 use Rattle.mux_conn.specs.declared.request.Progress.TheVariants as progress
 use Rattle.mux_conn.specs.declared.request.Waiting.{Waiting}
-use Rattle.mux_conn.specs.Connection.{Work, acted, admits_none, at_life, has_room, is_due, is_ready, with_link, with_setup, with_wanting, work_with}
+use Rattle.mux_conn.specs.Connection.{Work, acted, admits_none, at_life, has_room, is_due, is_ready, with_link, with_setup, with_wanting, work_with, is_repeating, is_serving}
 use Rattle.mux_conn.specs.Requests.{answered, is_admitted_at, is_open_at, is_waiting_at, name_at, is_unbegun_at, progressed}
-use Rattle.mux_conn.specs.Renewals.{is_done, renewal_asked, renewal_id, renewal_moved, renewing, replied, takes_more, is_unanswered, asked_next, renewal_timed}
-use Rattle.mux_conn.specs.Renewals.{renewed as auth_told}
-use Rattle.mux_conn.specs.Effects.{all_answered, all_fresh, answered_setup, creation_told, given_up, applied, authorized_at, behind_first, broken_at, cancelled_in, come_up, comes_to_want, connected_at, cut_short, failed_at, failed_each, heard_on, judged_by, made_ready, new_link, nobody_waits, opening_failed, overdue_at, parted, read_at, refused_at, set_up_by, sets_up, settled_each, settled_one, shut_at, steps_of, taken_at, timed_out, told_each, unauthorized_at, waiting_failed, with_credentials, dropped_at, dropped_by, ended_by, greeted, greeted_by, greeting_error, is_unreadable, noticed, noticed_each}
-use Rattle.mux_conn.specs.Passes.{admitted, admitted_at, admitted_each, let_in, moved_up, moved_up_all, moved_up_each, passed, permits_taken, placed_at, put_behind, seated, greeted_each, greeting_act, shown_each, started, started_at, still_admitted, still_waiting, timer_asked, told_at_place, took_shown, moved_all, round_begun, rounds_begun, rounds_of}
-use Rattle.mux_conn.specs.Passes.{took as took_permits}
+use Rattle.mux_conn.specs.Renewals.{is_done, renewal_asked, renewal_id, renewal_moved, renewing, replied, takes_more, is_unanswered, asked_next, renewal_timed, renewed as auth_told}
+use Rattle.mux_conn.specs.Effects.{all_answered, all_fresh, answered_setup, creation_told, given_up, applied, authorized_at, behind_first, broken_at, cancelled_in, come_up, comes_to_want, connected_at, cut_short, failed_at, failed_each, heard_on, judged_by, made_ready, new_link, nobody_waits, opening_failed, overdue_at, parted, read_at, refused_at, set_up_by, sets_up, settled_each, settled_one, shut_at, steps_of, taken_at, timed_out, told_each, unauthorized_at, waiting_failed, with_credentials, dropped_at, dropped_by, ended_by, greeted, greeted_by, greeting_error, is_unreadable, noticed, noticed_each, settled_other, served}
+use Rattle.mux_conn.specs.Passes.{admitted, admitted_at, admitted_each, let_in, moved_up, moved_up_all, moved_up_each, passed, permits_taken, placed_at, put_behind, seated, greeted_each, greeting_act, shown_each, started, started_at, still_admitted, still_waiting, timer_asked, told_at_place, took_shown, moved_all, round_begun, rounds_begun, rounds_of, took as took_permits}
 use Rattle.mux_conn.specs.Turn.{flushed, fresh_each_shown, fresh_wait, moved_each_shown, moved_shown, moved_wait, wait_shown, written, written_at}
 use Rattle.shared_session.specs.declared.core_state.Core.{Core}
 use Rattle.shared_session.specs.Turn.{Turning, asked_for, counted, effect, fired_by, heard, late_by, left_by, refused_with, requested, submitted, work_of, next_turn, numbered, passed_by, ended_apart, flushed_on, come_back_behind, own_part}
@@ -54,6 +52,9 @@ use Rattle.driver_model.specs.declared.hearing.Hearing.TheVariants as hearing
 use Rattle.shared_session.specs.Generations.{came_back, has_ended, heeding}
 use Rattle.shared_session.specs.declared.generations.Comeback.{Comeback}
 use Rattle.shared_session.specs.declared.generations.Comeback.TheVariants as comeback
+use Rattle.mux_conn.specs.Repeats.{is_to_start, is_untimed, repeat_asked, repeat_id, repeat_moved, repeat_timed, repeat_told, repeated, repeating, with_timer}
+use Rattle.mux_conn.specs.declared.again.Again.{Again}
+use Rattle.mux_conn.specs.declared.again.Again.TheVariants as again
 
 -- no more than so many were asked for
 abbrev HasAsked : ℕ → Work → Type 0
@@ -65,9 +66,18 @@ HasAsked n w = w.conn.renewal.asked ≤ n
 answered_asked : (n : ℕ) (w : Work) (p : ℕ) (o : Outcome) → HasAsked n w → HasAsked n (answered w p o)
 answered_asked n w p o h = chosen (HasAsked n) (is_open_at w.conn.requests p) _ w (λ t. h) (λ f. h)
 
+-- or that what is subscribed again is answered
+served_asked : (n : ℕ) (w : Work) → HasAsked n w → HasAsked n (served w)
+served_asked n w h = chosen (HasAsked n) (is_repeating w.conn) (all_fresh (repeating w again.Nothing)) w (λ t. h) (λ f. h)
+
 -- one message that was settled
 one_asked : (n : ℕ) (w : Work) (s : Settled) → HasAsked n w → HasAsked n (settled_one w s)
-one_asked n w s h = chosen (HasAsked n) (s.id == renewal_id) (renewing w (replied w.conn.renewal (is_done s.verdict))) (answered w s.id (outcome_of s.verdict)) (λ t. h) (λ f. answered_asked n w s.id (outcome_of s.verdict) h)
+one_asked n w s h = chosen (HasAsked n) (s.id == renewal_id) (renewing w (replied w.conn.renewal (is_done s.verdict))) (settled_other w s)
+    (λ t. h)
+    (λ f.
+    chosen (HasAsked n) (s.id == repeat_id) (served w) (answered w s.id (outcome_of s.verdict))
+    (λ t. served_asked n w h)
+    (λ o. answered_asked n w s.id (outcome_of s.verdict) h))
 
 -- each that was
 settled_asked : (n : ℕ) (w : Work) (ss : List Settled) → HasAsked n w → HasAsked n (settled_each w ss)
@@ -266,7 +276,7 @@ applied_asked n w deserted h = unauthorized_asked n w (error.AuthFailed []) w.co
 applied_asked n w (renewed c) h = chosen (λ (x : MultiplexedConnection). x.renewal.asked ≤ n) (is_ready w.conn.life && takes_more w.conn.renewal) _ w.conn (λ t. h) (λ f. h)
 applied_asked n w unrenewed h = h
 applied_asked n w (late k) h = chosen (λ (x : MultiplexedConnection). x.renewal.asked ≤ n) (is_unanswered w.conn.renewal k) _ w.conn (λ t. h) (λ f. h)
-applied_asked n w unrepeated h = h
+applied_asked n w unrepeated h = served_asked n w h
 applied_asked n w dropped h = dropped_asked n w h
 applied_asked n w shut h = shut_asked n w w.conn.life h
 
@@ -446,7 +456,36 @@ rounds_grown n w [] h = h
 rounds_grown n w (p ∷ ps) h = rounds_grown n (round_begun w p) ps (round_grown n w p h)
 
 begun_grown : (n : ℕ) (w : Work) → HasGrown n w.conn → HasGrown n (rounds_begun w).conn
-begun_grown n w h = chosen (λ (x : Work). HasGrown n x.conn) (w.conn.rounds && is_ready w.conn.life) (rounds_of w w.conn.fresh) w (λ t. rounds_grown n w w.conn.fresh h) (λ f. h)
+begun_grown n w h = chosen (λ (x : Work). HasGrown n x.conn) (w.conn.rounds && is_serving w.conn) (rounds_of w w.conn.fresh) w (λ t. rounds_grown n w w.conn.fresh h) (λ f. h)
+
+-- what is subscribed again starts, behind its timer
+--
+-- the message
+repeat_moved_asked : (n : ℕ) (w : Work) (life : Life) (a : Again) → HasAsked n w → HasAsked n (repeat_moved w life a)
+repeat_moved_asked n w (Ready link) (again.Due packed of_shape timed) h = chosen (HasAsked n) (holds_back link) w (repeat_told w link packed of_shape) (λ t. h) (λ f. h)
+repeat_moved_asked n w (Ready link) again.Nothing h = h
+repeat_moved_asked n w (Ready link) again.Sent h = h
+repeat_moved_asked n w Resting a h = h
+repeat_moved_asked n w Dialing a h = h
+repeat_moved_asked n w (Wanting link) a h = h
+repeat_moved_asked n w (SettingUp link greeting) a h = h
+repeat_moved_asked n w (Ended e) a h = h
+
+-- the timer
+repeat_timed_asked : (n : ℕ) (w : Work) → HasAsked n w → HasAsked n (repeat_asked w)
+repeat_timed_asked n w h =
+    let a = w.conn.again in
+    chosen (HasAsked n) (is_untimed a) (repeat_timed (repeating w (with_timer a)) w.conn.renewal.within) (repeating w (with_timer a)) (λ t. by_time w.conn.renewal.within) (λ f. h)
+  where
+    by_time : (o : Option ℕ) → HasAsked n (repeat_timed (repeating w (with_timer w.conn.again)) o)
+    by_time None = h
+    by_time (Some ms) = h
+
+-- both
+repeated_asked : (n : ℕ) (w : Work) → HasAsked n w → HasAsked n (repeated w)
+repeated_asked n w h = chosen (HasAsked n) (is_ready w.conn.life && is_to_start w.conn.again) (repeat_moved (repeat_asked w) w.conn.life w.conn.again) w
+    (λ t. repeat_moved_asked n (repeat_asked w) w.conn.life w.conn.again (repeat_timed_asked n w h))
+    (λ f. h)
 
 -- new credentials are asked for, and told
 told_grown : (n : ℕ) (w : Work) (life : Life) (cs : List Credentials) → HasGrown n w.conn → HasGrown n (renewal_moved w life cs).conn
@@ -507,9 +546,10 @@ flushed_grown n w h =
 -- all moves
 passed_grown : (n : ℕ) (w : Work) → HasAsked n w → HasGrown n (passed w).conn
 passed_grown n w h =
-    let v = started (auth_told w) in
+    let s = repeated w in
+    let v = started (auth_told s) in
     let u = moved_up_all v in
-    begun_grown n (moved_all w) (each_grown n (still_waiting u []) u.conn.waiting (moved_grown n (still_admitted v []) v.conn.admitted (started_grown n (auth_told w) (renewal_grown n w h))))
+    begun_grown n (moved_all w) (each_grown n (still_waiting u []) u.conn.waiting (moved_grown n (still_admitted v []) v.conn.admitted (started_grown n (auth_told s) (renewal_grown n s (repeated_asked n w h)))))
 
 -- behind what is done of its own
 --

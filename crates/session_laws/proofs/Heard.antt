@@ -22,11 +22,10 @@ use Rattle.legal_trace.specs.Ledger.{Ledger, Ending, Sourced, hears, noted, endi
 use Rattle.legal_trace.specs.Book.{Book, book, entered, hearing_in, has_generations}
 use Rattle.legal_trace.specs.Story.{Story}
 use Rattle.legal_trace.specs.Legal.{NoneEnds}
-use Rattle.session_laws.proofs.Said.{mild_end, setup_on, setup_unheard, BringsNothing, pushes_hear, IsTame, is_tame, renoticed, PushesAt}
+use Rattle.session_laws.proofs.Said.{mild_end, setup_on, setup_unheard, BringsNothing, pushes_hear, IsTame, is_tame, renoticed, PushesAt, brings_in_time}
 use Rattle.session_laws.proofs.Creds.{creds_hear, down_unawaited, unawaited_is, down_may_renew, IsOfRenewals}
 use Rattle.session_laws.proofs.Server.{TiedCreds, TiedSetup, TiedRenewal, NoneRenewed}
 use Rattle.session_laws.proofs.Tied.{Inner, inner, link_in, carried, whole_link, TiedLife, TiedLines, AreQueued, TiedWaits, Tied, has_ended, HasCourse, TiedRounds, AreEarly}
-use Rattle.session_laws.proofs.Unrepeated.{down_repeats_not}
 use Rattle.session_laws.proofs.Comes.{course_alike}
 use Rattle.session_laws.proofs.States.{IsFit, IsFitIn, IsHushed, Between, HasApplied, IsStopped}
 use Rattle.session_laws.proofs.Answer.{some_end, ended_over}
@@ -40,6 +39,9 @@ use Rattle.mux_conn.specs.declared.life.Greeting.{Greeting}
 use Rattle.mux_conn.specs.Connection.{is_ready, is_resting}
 use Rattle.mux_conn.specs.declared.request.Waiting.{Waiting}
 use Rattle.driver_model.specs.declared.action.SourceUse.{SourceUse}
+use Rattle.session_laws.proofs.Repeats.{TiedRepeat, again_hear, down_repeats_not, repeat_alike, serves}
+use Rattle.session_laws.proofs.Serving.{unready_serves}
+use Rattle.mux_conn.specs.declared.again.Again.{Again}
 
 -- what a turn of news does to the ledger of the connection's link
 abbrev pub heard_by : Book → Core → News → Ledger
@@ -67,13 +69,14 @@ pub record Leads (b : Book) (c : Core) (n : News) (life : Life) (pending started
   pub course : HasCourse (heard_by b c n).last (heard_by b c n).end c.links c.single.link c.shut c.manager c.single.connection.last c.single.connection.opened c.single.connection.info c.single.connection.address life
   pub creds : TiedCreds (heard_by b c n).creds c.single.connection.renewal.wanted life
   pub renewal_is : TiedRenewal (heard_by b c n) c.single.connection.renewal life
+  pub repeat_is : TiedRepeat (heard_by b c n) b.tracked c.single.connection.renewal.within c.single.connection.again life
   pub said : TiedSetup (heard_by b c n) c.single.connection.info started life
   pub linked : has_ended life ≡ false → TiedLink (carried life c.single.connection.requests) (heard_by b c n) (whole_link life)
   pub lines : TiedLines b.story c.single.connection.requests (link_in life) c.single.connection.waiting c.single.connection.admitted pending started
   pub told : has_ended life ≡ false → AreQueued b.story c.single.connection.requests c.single.link (link_in life)
-  pub waits : TiedWaits b.story c.single.connection.requests life c.single.connection.fresh c.single.connection.moved
-  pub rounds : TiedRounds (has_generations b) b.story c.single.connection.requests (is_ready life) c.single.connection.fresh c.single.connection.rounds
-  pub early : AreEarly c.single.connection.requests life
+  pub waits : TiedWaits b.story c.single.connection.requests c.single.connection.again life c.single.connection.fresh c.single.connection.moved
+  pub rounds : TiedRounds (has_generations b) b.story c.single.connection.requests (serves life c.single.connection.again) c.single.connection.fresh c.single.connection.rounds
+  pub early : AreEarly c.single.connection.requests c.single.connection.again life
   pub notices : PushesAt life (hearing_in b.config) c.single.connection.hears (heard_by b c n)
 
 -- the news by the timers and the sources of the book
@@ -106,7 +109,7 @@ pub heard_begins : (before : List Action) (c : Core) (started : List ℕ) (word 
     → Leads (book before) c n life pending started → Begins (before ++ turn_of c word kind ∷ []) (turned c kind) (lives_as c life) (heard_by (book before) c n) (book before).story pending started
 heard_begins before c started word kind n life pending h good k is g =
     let s = fresh_begins before c started word kind n c.single.connection.info life c.single.connection.fresh pending h good k is
-    (record { starts = heard_starts ((book before).link c.single.link) c.turns n; hearing_kept = heard_hearing ((book before).link c.single.link) c.turns n; spoken = refl; lived = g.lived; course = g.course; creds = g.creds; renewal_is = g.renewal_is; said = g.said; linked = g.linked; lines = g.lines; told = g.told; waits = g.waits; rounds = g.rounds; early = g.early; notices = g.notices }) in
+    (record { starts = heard_starts ((book before).link c.single.link) c.turns n; hearing_kept = heard_hearing ((book before).link c.single.link) c.turns n; spoken = refl; lived = g.lived; course = g.course; creds = g.creds; renewal_is = g.renewal_is; repeat_is = g.repeat_is; said = g.said; linked = g.linked; lines = g.lines; told = g.told; waits = g.waits; rounds = g.rounds; early = g.early; notices = g.notices }) in
     record { holds = s.holds; ledger = s.ledger; stories = s.stories }
 
 -- where everything is shut down, no link goes on, and without one nobody waits
@@ -229,7 +232,7 @@ creds_still l turn deserted (inl k) = refl
 creds_still l turn (renewed c) (inl k) = absurd k
 creds_still l turn unrenewed (inl k) = absurd k
 creds_still l turn (late m) (inl k) = absurd k
-creds_still l turn unrepeated (inl k) = chosen (λ (x : Ledger). x.creds ≡ l.creds) (is_repeating l) (unrepeated_by l) l (λ t. refl) (λ f. refl)
+creds_still l turn unrepeated (inl k) = absurd k
 creds_still l turn dropped (inl k) = refl
 creds_still l turn shut (inl k) = refl
 
@@ -332,11 +335,23 @@ course_hears b c started n h =
     course_alike conn.life l.last (heard_by b c n).last l.end (heard_by b c n).end c.links c.single.link c.shut c.manager conn.last conn.opened conn.info conn.address (asked_hear l c.turns n).last
     (λ over. end_hear l c.turns n (ended_over l b.created conn.life over h.life)) h.course
 
+-- such news don't end the time of what is subscribed again while that isn't answered
+again_quiet : (l : Ledger) (n : News) → BringsNothing n ⊎ (l.up ≡ false) → n ≡ unrepeated → is_repeating l ≡ false
+again_quiet l n (inl k) is = absurd (brings_in_time n k is)
+again_quiet l n (inr down) is = down_repeats_not l down
+
+-- so they leave that
+pub repeat_still : (b : Book) (c : Core) (started : List ℕ) (n : News) → Tied b (inner c started) → BringsNothing n ⊎ ((b.link c.single.link).up ≡ false) → (let conn = c.single.connection in TiedRepeat (heard_by b c n) b.tracked conn.renewal.within conn.again conn.life)
+repeat_still b c started n h k =
+    let l = b.link c.single.link in
+    let conn = c.single.connection in
+    repeat_alike l (heard_by b c n) b.tracked conn.renewal.within conn.again conn.life (again_hear l c.turns n (again_quiet l n k)) (heard_starts l c.turns n) (dealt_still l c.turns n k) (λ e over. end_hear l c.turns n (ended_over l b.created conn.life (ap has_ended over) h.life)) h.repeat
+
 -- what is alike of any life
 pub leads_on : (before : List Action) (c : Core) (started : List ℕ) (n : News) → Between before c started → BringsNothing n ⊎ (((book before).link c.single.link).up ≡ false) → (let l = heard_by (book before) c n in let life = c.single.connection.life in
     TiedLife l (book before).created life × TiedCreds l.creds c.single.connection.renewal.wanted life × TiedSetup l c.single.connection.info started life × (has_ended life ≡ false → TiedLink (carried life c.single.connection.requests) l (whole_link life)))
     → Leads (book before) c n c.single.connection.life [] started
-leads_on before c started n h k g = record { lived = g.0; course = course_hears (book before) c started n h.sound.tied; creds = g.1; renewal_is = renewal_still ((book before).link c.single.link) c.turns n c.single.connection.renewal c.single.connection.life k h.sound.tied.renewal; said = g.2; linked = g.3; lines = h.sound.tied.lines; told = h.sound.tied.told; waits = h.sound.tied.waits; rounds = h.sound.tied.rounds; early = h.sound.tied.early; notices = pushes_still before c started n h k }
+leads_on before c started n h k g = record { lived = g.0; course = course_hears (book before) c started n h.sound.tied; creds = g.1; renewal_is = renewal_still ((book before).link c.single.link) c.turns n c.single.connection.renewal c.single.connection.life k h.sound.tied.renewal; repeat_is = repeat_still (book before) c started n h.sound.tied k; said = g.2; linked = g.3; lines = h.sound.tied.lines; told = h.sound.tied.told; waits = h.sound.tied.waits; rounds = h.sound.tied.rounds; early = h.sound.tied.early; notices = pushes_still before c started n h k }
 
 -- what the news are is of no account for how far a link has come
 pub told_life : (l : Ledger) (created : ℕ) (life : Life) (n : News) → TiedLife l created life → TiedLife (record l { heard = n }) created life
@@ -360,6 +375,7 @@ leads_still before c started n h stays =
       course = course_hears b c started n t;
       creds = subst (λ (x : Ledger). TiedCreds x.creds conn.renewal.wanted conn.life) (sym stays) t.creds;
       renewal_is = subst (λ (x : Ledger). TiedRenewal x conn.renewal conn.life) (sym stays) (renewal_alike l (record l { heard = n }) conn.renewal conn.life refl refl refl t.renewal);
+      repeat_is = subst (λ (x : Ledger). TiedRepeat x b.tracked conn.renewal.within conn.again conn.life) (sym stays) (repeat_alike l (record l { heard = n }) b.tracked conn.renewal.within conn.again conn.life refl refl refl (λ e over. refl) t.repeat);
       said = subst (λ (x : Ledger). TiedSetup x conn.info started conn.life) (sym stays) (setup_on l l.asked l.up l.end l.taken l.offer l.rest n conn.info started conn.life t.setup);
       linked = λ alive. subst (λ (x : Ledger). TiedLink name x (whole_link conn.life)) (sym stays) (told_tied name l (whole_link conn.life) l.asked l.up n (t.link alive));
       lines = t.lines;
@@ -589,18 +605,19 @@ setting_fit c link after was greeting fresh e h k = record {
   wanting = λ x is. cc;
   setup = λ x u is. (let same : after ≡ x = cc in subst (IsFit c.size c.boundary) same k);
   link = λ x is. cc;
-  none = λ n. h.none (λ x r. (let no : SettingUp link was ≡ Ready x = sym e ∙ r in cc));
+  none = λ down. h.none (unready_serves c.life c.again (ap is_ready e));
 }
 
 -- its waits stay as long as it is set up
-pub setting_waits : (story : ℕ → Story) (requests : List Request) (link after : LinkState) (was greeting : Greeting) (fresh moved : List ℕ) → TiedWaits story requests (SettingUp link was) fresh moved → TiedWaits story requests (SettingUp after greeting) fresh moved
-setting_waits story requests link after was greeting fresh moved h = record {
+pub setting_waits : (story : ℕ → Story) (requests : List Request) (a : Again) (link after : LinkState) (was greeting : Greeting) (fresh moved : List ℕ) → TiedWaits story requests a (SettingUp link was) fresh moved → TiedWaits story requests a (SettingUp after greeting) fresh moved
+setting_waits story requests a link after was greeting fresh moved h = record {
   early = h.early;
   backoff = λ p w d. cc;
   connect = λ p w d. cc;
   creds = λ p x w s. cc;
   setup = λ p x u w s. h.setup p link was w refl;
-  permit = λ p x w r. cc;
+  resubscribe = λ p x w r goes. cc;
+  permit = λ p x w r none. cc;
   place = h.place;
   room = λ p i. absurd i;
   newer = h.newer;
@@ -609,7 +626,9 @@ setting_waits story requests link after was greeting fresh moved h = record {
   no_connect = λ p i w d. cc;
   no_creds = λ p x i w s. cc;
   no_setup = λ p x u i w s. h.no_setup p link was i w refl;
-  no_permit = λ p x i w r. cc;
+  no_resubscribe = λ p x i w r goes. cc;
+  unpermitted = λ p x w r goes. cc;
+  no_permit = λ p x i w r none. cc;
   no_place = h.no_place;
   seatless = h.seatless;
   no_room = λ p i r. absurd r;
@@ -623,18 +642,19 @@ wanting_fit c link after e h k = record {
   wanting = λ x is. (let same : after ≡ x = cc in subst (IsFit c.size c.boundary) same k);
   setup = λ x u is. cc;
   link = λ x is. cc;
-  none = λ n. h.none (λ x r. (let no : Wanting link ≡ Ready x = sym e ∙ r in cc));
+  none = λ down. h.none (unready_serves c.life c.again (ap is_ready e));
 }
 
 -- and its waits stay
-pub wanting_waits : (story : ℕ → Story) (requests : List Request) (link after : LinkState) (fresh moved : List ℕ) → TiedWaits story requests (Wanting link) fresh moved → TiedWaits story requests (Wanting after) fresh moved
-wanting_waits story requests link after fresh moved h = record {
+pub wanting_waits : (story : ℕ → Story) (requests : List Request) (a : Again) (link after : LinkState) (fresh moved : List ℕ) → TiedWaits story requests a (Wanting link) fresh moved → TiedWaits story requests a (Wanting after) fresh moved
+wanting_waits story requests a link after fresh moved h = record {
   early = h.early;
   backoff = λ p w d. cc;
   connect = λ p w d. cc;
   creds = λ p x w s. h.creds p link w refl;
   setup = λ p x u w s. cc;
-  permit = λ p x w r. cc;
+  resubscribe = λ p x w r goes. cc;
+  permit = λ p x w r none. cc;
   place = h.place;
   room = λ p i. absurd i;
   newer = h.newer;
@@ -643,7 +663,9 @@ wanting_waits story requests link after fresh moved h = record {
   no_connect = λ p i w d. cc;
   no_creds = λ p x i w s. h.no_creds p link i w refl;
   no_setup = λ p x u i w s. cc;
-  no_permit = λ p x i w r. cc;
+  no_resubscribe = λ p x i w r goes. cc;
+  unpermitted = λ p x w r goes. cc;
+  no_permit = λ p x i w r none. cc;
   no_place = h.no_place;
   seatless = h.seatless;
   no_room = λ p i r. absurd r;

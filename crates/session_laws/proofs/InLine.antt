@@ -1,6 +1,6 @@
 -- The line that open requests stand in: those to be answered, those whose messages take items, those in the queue, and
 -- those that wait for a place.
-use Rattle.std.proofs.Common.{◌≡◌, inl, inr, ℕ, zero, suc, ◌≤◌, ◌==◌, Bool, true, false, List, [], ◌∷◌, ◌++◌, length, Some, slice_get, if◌then◌else◌, sym, subst, append_assoc, arith}
+use Rattle.std.proofs.Common.{◌≡◌, inl, inr, ℕ, zero, suc, ◌≤◌, Bool, true, false, List, [], ◌∷◌, ◌++◌, length, Some, slice_get, if◌then◌else◌, sym, subst, append_assoc, arith}
 use Rattle.legal_trace.specs.Story.{Story}
 use Rattle.link_core.specs.declared.message.Entry.{Entry}
 use Rattle.link_core.specs.declared.message.Queued.{Queued}
@@ -9,8 +9,7 @@ use Rattle.link_laws.specs.Settles.{wanted, awaited_ids}
 use Rattle.mux_conn.specs.declared.request.Request.{Request}
 use Rattle.mux_conn.specs.declared.request.Waiting.{Waiting}
 use Rattle.mux_conn.specs.Requests.{is_open_at}
-use Rattle.mux_conn.specs.Renewals.{renewal_id}
-use Rattle.session_laws.proofs.Numbers.{IsIn, in_left, in_right, in_either, requests_in, Rising, rising_from, rising_in, rising_right}
+use Rattle.session_laws.proofs.Numbers.{IsIn, in_left, in_right, in_either, requests_in, Rising, rising_from, rising_in, rising_right, is_own}
 use Rattle.session_laws.proofs.Tied.{queue_ids, waiting_ids, IsKept, TiedLines}
 
 -- who the entries of a row are of
@@ -95,10 +94,10 @@ left_rises true lo n ids rest ys hi f h = f lo h
 left_rises false lo n ids rest ys hi f h = rising_from (suc n) lo (rest ++ ys) hi (let l : lo ≤ n = h.0 in omega arith) (f (suc n) h.1)
 
 -- as one is awaited or not
-by_awaited : (a : Bool) (lo n : ℕ) (ids ws ys : List ℕ) (hi : ℕ) → ((low : ℕ) → Rising low (ids ++ ys) hi → Rising low (requests_in ws ++ ys) hi) → Rising lo ((if n == renewal_id then ids else n ∷ ids) ++ ys) hi
+by_awaited : (a : Bool) (lo n : ℕ) (ids ws ys : List ℕ) (hi : ℕ) → ((low : ℕ) → Rising low (ids ++ ys) hi → Rising low (requests_in ws ++ ys) hi) → Rising lo ((if is_own n then ids else n ∷ ids) ++ ys) hi
     → Rising lo (requests_in ((if a then n ∷ [] else []) ++ ws) ++ ys) hi
-by_awaited true lo n ids ws ys hi f h = asked_rises (n == renewal_id) lo n ids (requests_in ws) ys hi f h
-by_awaited false lo n ids ws ys hi f h = left_rises (n == renewal_id) lo n ids (requests_in ws) ys hi f h
+by_awaited true lo n ids ws ys hi f h = asked_rises (is_own n) lo n ids (requests_in ws) ys hi f h
+by_awaited false lo n ids ws ys hi f h = left_rises (is_own n) lo n ids (requests_in ws) ys hi f h
 
 -- the wanted of a row
 pub wanted_rises : (lo : ℕ) (row : List Entry) (ys : List ℕ) (hi : ℕ) → Rising lo (requests_in (row_ids row) ++ ys) hi → Rising lo (requests_in (wanted row) ++ ys) hi
@@ -133,7 +132,7 @@ places_rise lo [] k (n ∷ ids) ys hi all h = absurd (cc all.0)
 places_rise lo (x ∷ xs) zero (n ∷ ids) ys hi all h =
     let same : x ≡ n = let e = all.0 in cc in
     let rest : (low : ℕ) → Rising low (requests_in xs ++ ys) hi → Rising low (requests_in ids ++ ys) hi = λ low k. places_rise low xs zero ids ys hi (places_behind x xs zero ids all.1) k in
-    subst (λ m. Rising lo (requests_in (m ∷ ids) ++ ys) hi) same (asked_rises (x == renewal_id) lo x (requests_in xs) (requests_in ids) ys hi rest h)
+    subst (λ m. Rising lo (requests_in (m ∷ ids) ++ ys) hi) same (asked_rises (is_own x) lo x (requests_in xs) (requests_in ids) ys hi rest h)
 places_rise lo (x ∷ xs) (suc k) (n ∷ ids) ys hi all h =
     let rest : (low : ℕ) → Rising low (requests_in xs ++ ys) hi → Rising low (requests_in (n ∷ ids) ++ ys) hi = λ low r. places_rise low xs k (n ∷ ids) ys hi (all.0, places_behind x xs (suc k) ids all.1) r in
-    left_rises (x == renewal_id) lo x (requests_in xs) (requests_in (n ∷ ids)) ys hi rest h
+    left_rises (is_own x) lo x (requests_in xs) (requests_in (n ∷ ids)) ys hi rest h

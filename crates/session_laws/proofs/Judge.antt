@@ -32,6 +32,11 @@ use Rattle.session_laws.proofs.Owes.{lives}
 use Rattle.session_laws.proofs.Past.{ends_before}
 use Rattle.session_laws.proofs.States.{Between}
 use Rattle.session_laws.proofs.Tied.{HasCourse, Inner, IsOver, Tied, TiedLife, has_ended}
+use Rattle.session_laws.proofs.Repeats.{HasServed, TiedRepeat}
+use Rattle.mux_conn.specs.declared.again.Again.{Again}
+use Rattle.mux_conn.specs.Connection.{is_outstanding}
+use Rattle.session_laws.proofs.Informed.{HasInformed, IsInformed, event_informed}
+use Rattle.shared_session.specs.declared.generations.Generations.{Generations}
 
 -- no shutdown is heard
 --
@@ -70,9 +75,9 @@ news_not_shut timers sources m event.Shutdown other = cc
 
 -- how a link ended
 --
--- one that was set up ended by a fault, while it took requests, where its opening didn't fail and nothing was shut down
-by_fault_alone : (turn : ℕ) (end : End) (e : RedisError) (opened stopped : Bool) → stopped ≡ false → IsEndOf turn end → owed_unstarted (Some end) ≡ Some (outcome.Fault e) → IsOver (Some end) stopped opened → (is_fault end.why && end.served) ≡ opened
-by_fault_alone turn end e opened stopped runs ends owes over = by_why end.why refl
+-- one that was set up ended by a fault, while it took requests where it did, where its opening didn't fail and nothing was shut down
+by_fault_alone : (turn : ℕ) (end : End) (e : RedisError) (opened stopped : Bool) (a : Again) → stopped ≡ false → IsEndOf turn end → HasServed (Some end) a → owed_unstarted (Some end) ≡ Some (outcome.Fault e) → IsOver (Some end) stopped opened → (is_fault end.why && end.served) ≡ (opened && not (is_outstanding a))
+by_fault_alone turn end e opened stopped a runs ends serving owes over = by_why end.why refl
   where
     failed : (x : RedisError) → end.why ≡ by_opening x → opened ≡ false
     failed x is = by_test opened _ (λ t. (let no : ◌≡◌ {A = Option RedisError} (Some x) None = sym (ap failure_of is) ∙ over.unfailed t in cc)) (λ f. f)
@@ -80,10 +85,13 @@ by_fault_alone turn end e opened stopped runs ends owes over = by_why end.why re
     well : failure_of end.why ≡ None → opened ≡ true
     well none = by_test opened _ (λ t. t) (λ f. absurd (over.failed f runs none))
 
-    by_why : (why : Ending) → end.why ≡ why → (is_fault end.why && end.served) ≡ opened
+    served : Bool
+    served = not (is_outstanding a)
+
+    by_why : (why : Ending) → end.why ≡ why → (is_fault end.why && end.served) ≡ (opened && served)
     by_why by_shutdown is = absurd (not_both (is_shut_down end.why) ends.well (ap is_shut_down is))
-    by_why (by_fault f) is = (λ i. is_fault (is i) && ends.served (ap is_fault is) i) ∙ sym (well (ap failure_of is))
-    by_why (by_opening x) is = ap (λ why. is_fault why && end.served) is ∙ sym (failed x is)
+    by_why (by_fault f) is = (λ i. is_fault (is i) && serving end refl (ap is_fault is) i) ∙ sym (ap (λ x. x && served) (well (ap failure_of is)))
+    by_why (by_opening x) is = ap (λ why. is_fault why && end.served) is ∙ sym (ap (λ y. y && served) (failed x is))
     by_why (by_attempt x) is = absurd (none_owed (sym (ap owed_by is) ∙ owes))
       where
         none_owed : ◌≡◌ {A = Option outcome.the_data} None (Some (outcome.Fault e)) → ⊥
@@ -146,6 +154,12 @@ has_acted before c word kind acts stands =
 -- what the acts have added
 pub acted_adds : (before : List Action) (c : Core) (word : ℕ) (kind : EventKind) (b : Book) (acts : List LinkAct) → HasActed before c word kind b acts → AreAdded (turn_book before c word kind) b acts
 acted_adds before c word kind b acts h = subst (λ (x : Book). AreAdded (turn_book before c word kind) x acts) h.is (acts_add (turn_book before c word kind) c.single.link (length c.timers) (length c.sources) acts)
+
+-- what is known of subscriptions then
+pub acted_informed : (before : List Action) (c : Core) (word : ℕ) (kind : EventKind) (b : Book) (acts : List LinkAct) (g : Generations) → HasActed before c word kind b acts → c.manager ≡ Some g → IsInformed (book before) c.manager → HasInformed b (machine.heeded g kind acts).subscribed
+acted_informed before c word kind b acts g h is informed =
+    subst (λ (x : Book). HasInformed x (machine.heeded g kind acts).subscribed) h.is
+    (event_informed (book before) c.turns word kind c.single.link (length c.timers) (length c.sources) g.subscribed acts (subst (IsInformed (book before)) is informed))
 
 -- where everything wasn't shut down, its event is no shutdown
 pub runs_on : (before : List Action) (c : Core) (word : ℕ) (kind : EventKind) (b : Book) (acts : List LinkAct) → HasActed before c word kind b acts → b.shut ≡ false → shuts kind ≡ false
@@ -226,7 +240,7 @@ new_so before c started word kind b acts t h alive =
     let now : (book before).turns + 1 - 1 ≡ c.turns = omega (arith, turns) in
     subst (λ (x : Book). IsNewEnd c.turns (x.link mine)) h.acted.is
     (acts_end (turn_book before c word kind) mine (length c.timers) (length c.sources) c.turns acts h.acted.stands now
-    (new_heard l c.turns (news_of (book before).timers (book before).sources mine kind) (news_not_shut (book before).timers (book before).sources mine kind (runs_on before c word kind b acts h.acted h.runs)) (was.numbers.unrepeated mine) none))
+    (new_heard l c.turns (news_of (book before).timers (book before).sources mine kind) (news_not_shut (book before).timers (book before).sources mine kind (runs_on before c word kind b acts h.acted h.runs)) none))
 
 -- or it had, in a turn before
 old_so : (before : List Action) (c : Core) (started : List ℕ) (word : ℕ) (kind : EventKind) (b : Book) (acts : List LinkAct) (t : Inner) → IsActed before c started word kind b acts t → machine.has_ended c.single.connection.life ≡ true → (end : End) → (b.link c.single.link).end ≡ Some end → (end.turn == (b.turns - 1)) ≡ false
@@ -248,7 +262,7 @@ old_so before c started word kind b acts t h over end is =
 
 -- so whether it was lost is the same for both
 lost_so : (before : List Action) (c : Core) (started : List ℕ) (word : ℕ) (kind : EventKind) (b : Book) (acts : List LinkAct) (t : Inner) → IsActed before c started word kind b acts t → (end : End) → (b.link t.link).end ≡ Some end → (e : RedisError) → t.life ≡ Ended e
-    → ((end.turn == (b.turns - 1)) && (is_fault end.why && end.served)) ≡ (not (machine.has_ended c.single.connection.life) && t.opened)
+    → ((end.turn == (b.turns - 1)) && (is_fault end.why && end.served)) ≡ (not (machine.has_ended c.single.connection.life) && (t.opened && not (is_outstanding t.again)))
 lost_so before c started word kind b acts t h end is e over = by_before (machine.has_ended c.single.connection.life) refl
   where
     own : (b.link c.single.link).end ≡ Some end
@@ -260,7 +274,10 @@ lost_so before c started word kind b acts t h end is e over = by_before (machine
     course : IsOver (b.link t.link).end t.shut t.opened
     course = (subst (HasCourse (b.link t.link).last (b.link t.link).end t.links t.link t.shut t.manager t.last t.opened t.info t.address) over h.tied.course).2
 
-    by_before : (x : Bool) → machine.has_ended c.single.connection.life ≡ x → ((end.turn == (b.turns - 1)) && (is_fault end.why && end.served)) ≡ (not x && t.opened)
+    serving : HasServed (b.link t.link).end t.again
+    serving = subst (TiedRepeat (b.link t.link) b.tracked t.renewal.within t.again) over h.tied.repeat
+
+    by_before : (x : Bool) → machine.has_ended c.single.connection.life ≡ x → ((end.turn == (b.turns - 1)) && (is_fault end.why && end.served)) ≡ (not x && (t.opened && not (is_outstanding t.again)))
     by_before true is_over = ap (λ (y : Bool). y && (is_fault end.why && end.served)) (old_so before c started word kind b acts t h is_over end own)
     by_before false alive =
         let ends = (new_so before c started word kind b acts t h alive).end end own in
@@ -268,16 +285,16 @@ lost_so before c started word kind b acts t h end is e over = by_before (machine
         let first = h.between.sound.tied.numbers.turns in
         let here = ends.turn_is in
         (λ i. eq_test end.turn (b.turns - 1) (omega (arith, here, turns, first)) i && (is_fault end.why && end.served))
-        ∙ by_fault_alone c.turns end e t.opened t.shut (sym h.tied.numbers.shut ∙ h.runs) ends (subst (λ o. owed_unstarted o ≡ Some (outcome.Fault e)) is life.1) (subst (λ o. IsOver o t.shut t.opened) is course)
+        ∙ by_fault_alone c.turns end e t.opened t.shut t.again (sym h.tied.numbers.shut ∙ h.runs) ends (subst (λ o. HasServed o t.again) is serving) (subst (λ o. owed_unstarted o ≡ Some (outcome.Fault e)) is life.1) (subst (λ o. IsOver o t.shut t.opened) is course)
 
 -- and so is what is a cause
 pub judged : (before : List Action) (c : Core) (started : List ℕ) (word : ℕ) (kind : EventKind) (b : Book) (acts : List LinkAct) (t : Inner) → IsActed before c started word kind b acts t
-    → is_caused b ≡ (machine.has_ended t.life && (((not (machine.has_ended c.single.connection.life) && t.opened) && is_resp3 t.info.protocol) || machine.has_cause t.opened acts))
+    → is_caused b ≡ (machine.has_ended t.life && (((not (machine.has_ended c.single.connection.life) && (t.opened && not (is_outstanding t.again))) && is_resp3 t.info.protocol) || machine.has_cause t.opened acts))
 judged before c started word kind b acts t h =
     let tied = h.tied in
     let l = b.link t.link in
     let here : current_link b ≡ l = ap b.link tied.numbers.current_is in
-    caused_is b (machine.has_ended c.single.connection.life) t.opened (machine.has_ended t.life) (is_resp3 t.info.protocol) acts (record {
+    caused_is b (machine.has_ended c.single.connection.life) t.opened (t.opened && not (is_outstanding t.again)) (machine.has_ended t.life) (is_resp3 t.info.protocol) acts (record {
       errors_are = (acted_adds before c word kind b acts h.acted).errors;
       ended_is = ap is_over here ∙ ended_so l b.created t.life tied.life;
       speaks = ap is_resp3 tied.numbers.speaks;

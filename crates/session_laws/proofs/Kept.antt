@@ -7,7 +7,6 @@ use Rattle.driver_model.specs.declared.hearing.Hearing.{Hearing}
 use Rattle.driver_model.specs.declared.outcome.Shape.{Shape}
 use Rattle.link_core.specs.declared.message.Queued.{Queued}
 use Rattle.link_laws.proofs.TiedLink.{TiedLink}
-use Rattle.mux_conn.specs.Connection.{is_ready}
 use Rattle.mux_conn.specs.Requests.{name_at}
 use Rattle.mux_conn.specs.declared.request.Request.{Request}
 use Rattle.mux_conn.specs.declared.request.Waiting.{Waiting}
@@ -16,6 +15,7 @@ use Rattle.legal_trace.specs.Ledger.{Ledger, Line, noted, noted_each}
 use Rattle.legal_trace.specs.Story.{Story, awaited_in, packed_in, shape_in, tried}
 use Rattle.session_laws.proofs.Names.{name_placed}
 use Rattle.session_laws.proofs.Owes.{request_story}
+use Rattle.session_laws.proofs.Repeats.{TiedRepeat, serves}
 use Rattle.session_laws.proofs.Server.{TiedCreds, TiedSetup, hearing_at, TiedRenewal}
 use Rattle.session_laws.proofs.Tied.{AreAside, AreLate, AreQueued, Inner, IsAside, IsOf, IsPacked, IsQueued, IsRequest, StaysCalm, Tied, TiedCourse, TiedCreation, TiedLife, TiedLines, TiedNames, TiedNumbers, TiedPermits, TiedNotices, TiedRounds, TiedStory, TiedTries, TiedWaits, carried, has_ended, link_in, whole_link, is_reading, AreUses, AreEarly}
 
@@ -31,6 +31,7 @@ pub record TiedBy (b : Book) (t : Inner) (l : Ledger) : Type 0 where
   pub creds : TiedCreds l.creds t.renewal.wanted t.life
   pub uses : AreUses t.sources t.link l.creds.asked l.creds.renews
   pub renewal : TiedRenewal l t.renewal t.life
+  pub repeat : TiedRepeat l b.tracked t.renewal.within t.again t.life
   pub setup : TiedSetup l t.info t.started t.life
   pub link : has_ended t.life ≡ false → TiedLink (carried t.life t.requests) l (whole_link t.life)
   pub names : TiedNames t.table t.requests
@@ -38,10 +39,10 @@ pub record TiedBy (b : Book) (t : Inner) (l : Ledger) : Type 0 where
   pub tries : TiedTries l b.story t.requests t.link t.started
   pub lines : TiedLines b.story t.requests (link_in t.life) t.waiting t.admitted t.pending t.started
   pub told : has_ended t.life ≡ false → AreQueued b.story t.requests t.link (link_in t.life)
-  pub waits : TiedWaits b.story t.requests t.life t.fresh t.moved
+  pub waits : TiedWaits b.story t.requests t.again t.life t.fresh t.moved
   pub permits : TiedPermits b.story b.submissions t.requests t.link t.limit t.free t.letting
-  pub rounds : TiedRounds (has_generations b) b.story t.requests (is_ready t.life) t.fresh t.rounds
-  pub early : AreEarly t.requests t.life
+  pub rounds : TiedRounds (has_generations b) b.story t.requests (serves t.life t.again) t.fresh t.rounds
+  pub early : AreEarly t.requests t.again t.life
   pub late : AreLate b.story t.requests t.pending
 
 -- so the session is tied to the book
@@ -57,6 +58,7 @@ tied_by b t l e h = record {
   creds = subst (λ (x : Ledger). TiedCreds x.creds t.renewal.wanted t.life) (sym e) h.creds;
   uses = subst (λ (x : Ledger). AreUses t.sources t.link x.creds.asked x.creds.renews) (sym e) h.uses;
   renewal = subst (λ (x : Ledger). TiedRenewal x t.renewal t.life) (sym e) h.renewal;
+  repeat = subst (λ (x : Ledger). TiedRepeat x b.tracked t.renewal.within t.again t.life) (sym e) h.repeat;
   setup = subst (λ (x : Ledger). TiedSetup x t.info t.started t.life) (sym e) h.setup;
   link = λ up. subst (λ (x : Ledger). TiedLink (carried t.life t.requests) x (whole_link t.life)) (sym e) (h.link up);
   names = h.names;

@@ -20,12 +20,13 @@ use Rattle.link_core.specs.Waiting.{is_wanted, without}
 use Rattle.link_laws.specs.Settles.{wanted, awaited_ids}
 use Rattle.mux_conn.specs.declared.act.LinkAct.TheVariants as act
 use Rattle.mux_conn.specs.declared.connection.MultiplexedConnection.{MultiplexedConnection}
+use Rattle.mux_conn.specs.declared.again.Again.{Again}
 use Rattle.mux_conn.specs.declared.life.Life.{Life}
 use Rattle.mux_conn.specs.declared.life.Life.TheVariants.{Resting, Dialing, Wanting, SettingUp, Ready, Ended}
 use Rattle.mux_conn.specs.declared.request.Pending.{Pending}
 use Rattle.mux_conn.specs.declared.request.Request.{Request}
 use Rattle.mux_conn.specs.declared.request.Waiting.{Waiting}
-use Rattle.mux_conn.specs.Connection.{Work, acted, at_life, is_resting}
+use Rattle.mux_conn.specs.Connection.{Work, acted, at_life, is_ready, is_resting}
 use Rattle.mux_conn.specs.Requests.{is_open_at, name_at, permits_at, given_back, with_permits, closed, answered as answered_in}
 use Rattle.mux_conn.specs.declared.request.Progress.TheVariants as progress
 use Rattle.mux_conn.specs.Effects.{cancelled_in, timed_out}
@@ -36,10 +37,9 @@ use Rattle.legal_trace.specs.Owed.{owed, owed_to_try}
 use Rattle.legal_trace.specs.Story.{Story, answered, awaited_in, bytes_of, fires, is_no_error, is_open, is_told, last_of}
 use Rattle.legal_trace.specs.Book.{Book, after_event, book, entered, if_own, is_clock_of, kind_in, timeout_after, has_generations}
 use Rattle.legal_trace.specs.Legal.{NoneEnds}
-use Rattle.mux_conn.specs.Renewals.{renewal_id}
 use Rattle.session_laws.proofs.Rounded.{rounds_same}
 use Rattle.session_laws.proofs.Renewals.{renewal_alike}
-use Rattle.session_laws.proofs.Numbers.{IsIn, in_left, in_right, in_either, Rising, rising_in, rising_right, rising_tail, requests_in, request_in, request_of, request_other}
+use Rattle.session_laws.proofs.Numbers.{IsIn, in_left, in_right, in_either, Rising, rising_in, rising_right, rising_tail, requests_in, request_in, request_of, request_other, is_own}
 use Rattle.session_laws.proofs.Tied.{Inner, inner, no_link, link_in, queue_ids, IsEntry, IsQueued, IsRequest, AreQueued, TiedLines, TiedPermits, TiedStory, TiedWaits, Tied, has_ended, shown_wait, TiedRounds}
 use Rattle.session_laws.proofs.States.{Between, HasApplied, IsStopped}
 use Rattle.session_laws.proofs.Behind.{open_untold}
@@ -53,12 +53,14 @@ use Rattle.session_laws.proofs.Answer.{answer_apart, may_answer, owed_untold, no
 use Rattle.session_laws.proofs.Settle.{book_of_more, holds_more, seen, trace_of_acts}
 use Rattle.session_laws.proofs.Announce.{announced_sound, first_book, holds_first, turn_of, turned, uses_on, time_still}
 use Rattle.session_laws.proofs.Heard.{silent_applied, still_none, tame_between, hushed_still}
-use Rattle.session_laws.proofs.Cancel.{IsSilent, left_creds, left_fit, left_life, left_link, left_others, left_setup, none_more, queued_apart, silenced_wanted, silent_core, silent_ends, silent_numbers, silent_others, still_dials, still_tied, was_ready, was_setting, was_wanting, without_awaited, without_in, without_others, without_rises, apart_behind, rising_behind, left_renewal, ready_cancelled, left_course, left_notices, early_cancelled, left_stopped, resting_cancelled, still_rests}
+use Rattle.session_laws.proofs.Cancel.{IsSilent, left_creds, left_fit, left_life, left_link, left_others, left_setup, none_more, queued_apart, silenced_wanted, silent_core, silent_ends, silent_numbers, silent_others, still_dials, still_tied, was_ready, was_setting, was_wanting, without_awaited, without_in, without_others, without_rises, apart_behind, rising_behind, left_renewal, left_course, left_notices, early_cancelled, left_stopped, resting_cancelled, still_rests, left_repeat, serves_cancelled}
 use Rattle.driver_model.specs.declared.kind.SessionKind.{SessionKind}
 use Rattle.driver_model.specs.declared.kind.SessionKind.TheVariants as session
 use Rattle.driver_model.specs.Kind.{has_timeouts}
 use Rattle.session_laws.proofs.Said.{IsTame, renoticed}
+use Rattle.session_laws.proofs.Serving.{resting_unready, unready_serves}
 use Rattle.session_laws.proofs.Submit.{or_none}
+use Rattle.session_laws.proofs.Repeats.{repeat_alike}
 
 -- a story whose timer fires
 --
@@ -111,24 +113,24 @@ all_without P [] p all = tt
 all_without P (q ∷ qs) p all = chosen (AllByRecursion P) (is_wanted p q) qs (q ∷ without qs p) (λ t. all.1) (λ f. (all.0, all_without P qs p all.1))
 
 -- the entries of a row
-silenced_still : (requests : List Request) (row : List Entry) (p : ℕ) → p ≢ renewal_id → AllByRecursion (IsEntry requests) row → AllByRecursion (IsEntry requests) (silenced row p)
+silenced_still : (requests : List Request) (row : List Entry) (p : ℕ) → is_own p ≡ false → AllByRecursion (IsEntry requests) row → AllByRecursion (IsEntry requests) (silenced row p)
 silenced_still requests [] p other all = tt
 silenced_still requests (e ∷ es) p other all =
     chosen (AllByRecursion (IsEntry requests)) (is_entry_of p e) (silent e ∷ es) (e ∷ silenced es p)
     (λ t. (
-      elim all.0 [ inl x ↦ inl (record { below = x.below; placed_at = λ z. cc }) | inr a ↦ absurd (other (sym (eq_from e.id p t) ∙ a.is)) ],
+      elim all.0 [ inl x ↦ inl (record { below = x.below; placed_at = λ z. cc }) | inr a ↦ absurd (not_both (is_own e.id) (ap is_own (eq_from e.id p t) ∙ other) a.is) ],
       all.1,
     ))
     (λ f. (all.0, silenced_still requests es p other all.1))
 
 -- the request is not wanted in the row any more
-silenced_apart : (row : List Entry) (ys : List ℕ) (p lo hi : ℕ) → p ≢ renewal_id → Rising lo (requests_in (row_ids row) ++ ys) hi → IsIn p (wanted (silenced row p)) → ⊥
+silenced_apart : (row : List Entry) (ys : List ℕ) (p lo hi : ℕ) → is_own p ≡ false → Rising lo (requests_in (row_ids row) ++ ys) hi → IsIn p (wanted (silenced row p)) → ⊥
 silenced_apart [] ys p lo hi other r i = i
 silenced_apart (e ∷ es) ys p lo hi other r i =
     chosen (λ (row : List Entry). IsIn p (wanted row) → ⊥) (is_entry_of p e) (silent e ∷ es) (e ∷ silenced es p)
     (λ t j.
     let same = eq_from e.id p t in
-    apart_behind lo e.id es ys hi (λ x. other (sym same ∙ x)) r (subst (λ n. IsIn n (wanted es)) (sym same) j))
+    apart_behind lo e.id es ys hi (ap is_own same ∙ other) r (subst (λ n. IsIn n (wanted es)) (sym same) j))
     (λ f j. elim (in_either p (if e.awaited then e.id ∷ [] else []) (wanted (silenced es p)) j) [
       | inl k ↦ ne_from e.id p f (chosen_in e.awaited p e.id k)
       | inr k ↦ silenced_apart es ys p lo hi other (rising_behind lo e.id (row_ids es) ys hi r) k
@@ -152,7 +154,7 @@ without_none story requests (x ∷ xs) ys p lo hi o r all i =
 -- the session where the time of a request is over
 --
 -- its lines, with the request to be answered
-late_lines : (m : ℕ) (story : ℕ → Story) (requests : List Request) (link : LinkState) (waiting admitted : List Waiting) (p : ℕ) (started : List ℕ) → p ≢ renewal_id → TiedLines story requests link waiting admitted [] started
+late_lines : (m : ℕ) (story : ℕ → Story) (requests : List Request) (link : LinkState) (waiting admitted : List Waiting) (p : ℕ) (started : List ℕ) → is_own p ≡ false → TiedLines story requests link waiting admitted [] started
     → TiedLines (fires_at m story) requests (cancelled link p) waiting admitted (p ∷ []) started
 late_lines m story requests link waiting admitted p started apart h =
     let after = fires_at m story in
@@ -183,7 +185,7 @@ late_lines m story requests link waiting admitted p started apart h =
     }
 
 -- by the life of its link
-late_lines_in : (m : ℕ) (story : ℕ → Story) (requests : List Request) (life : Life) (waiting admitted : List Waiting) (p : ℕ) (started : List ℕ) → p ≢ renewal_id → TiedLines story requests (link_in life) waiting admitted [] started
+late_lines_in : (m : ℕ) (story : ℕ → Story) (requests : List Request) (life : Life) (waiting admitted : List Waiting) (p : ℕ) (started : List ℕ) → is_own p ≡ false → TiedLines story requests (link_in life) waiting admitted [] started
     → TiedLines (fires_at m story) requests (link_in (cancelled_in life p)) waiting admitted (p ∷ []) started
 late_lines_in m story requests (Ready link) waiting admitted p started apart h = late_lines m story requests link waiting admitted p started apart h
 late_lines_in m story requests Resting waiting admitted p started apart h =
@@ -235,9 +237,9 @@ late_told story requests number life p o h up = by_life life h up
     by_life (Ended e) g f = cc
 
 -- the waits that were shown
-late_waits : (story : ℕ → Story) (requests : List Request) (m : ℕ) (life : Life) (p : ℕ) (ys fresh moved : List ℕ) → Rising 0 (queue_ids (link_in life).queue ++ ys) (length requests) → TiedWaits story requests life fresh moved
-    → TiedWaits (fires_at m story) requests (cancelled_in life p) fresh moved
-late_waits story requests m life p ys fresh moved line h =
+late_waits : (story : ℕ → Story) (requests : List Request) (m : ℕ) (a : Again) (life : Life) (p : ℕ) (ys fresh moved : List ℕ) → Rising 0 (queue_ids (link_in life).queue ++ ys) (length requests) → TiedWaits story requests a life fresh moved
+    → TiedWaits (fires_at m story) requests a (cancelled_in life p) fresh moved
+late_waits story requests m a life p ys fresh moved line h =
     let after = fires_at m story in
     let same : (q : ℕ) → shown_wait after requests q ≡ shown_wait story requests q = λ q. (fired_at m story (name_at requests q)).waiting in
     let dials = still_dials life p in
@@ -252,7 +254,8 @@ late_waits story requests m life p ys fresh moved line h =
       connect = λ q w d. elim (h.connect q w (dials d)) [ inl i ↦ inl i | inr e ↦ inr (same q ∙ e) ];
       creds = λ q link w r. let x = wants link r in elim (h.creds q x.0 w x.1) [ inl i ↦ inl i | inr e ↦ inr (same q ∙ e) ];
       setup = λ q link u w r. let x = sets link u r in elim (h.setup q x.0 u w x.1) [ inl i ↦ inl i | inr e ↦ inr (same q ∙ e) ];
-      permit = λ q link w r. let x = ready link r in elim (h.permit q x.0 w x.1) [ inl i ↦ inl i | inr e ↦ inr (same q ∙ e) ];
+      resubscribe = λ q link w r goes. let x = ready link r in elim (h.resubscribe q x.0 w x.1 goes) [ inl i ↦ inl i | inr e ↦ inr (same q ∙ e) ];
+      permit = λ q link w r none. let x = ready link r in elim (h.permit q x.0 w x.1 none) [ inl i ↦ inl i | inr e ↦ inr (same q ∙ e) ];
       place = λ q a. elim (h.place q a) [ inl i ↦ inl i | inr e ↦ inr (same q ∙ e) ];
       room = λ q r. elim (h.room q (others q r).2) [ inl i ↦ inl i | inr e ↦ inr (same q ∙ e) ];
       newer = h.newer;
@@ -261,7 +264,9 @@ late_waits story requests m life p ys fresh moved line h =
       no_connect = λ q i w d e. h.no_connect q i w (dials d) (sym (same q) ∙ e);
       no_creds = λ q link i w r e. let x = wants link r in h.no_creds q x.0 i w x.1 (sym (same q) ∙ e);
       no_setup = λ q link u i w r e. let x = sets link u r in h.no_setup q x.0 u i w x.1 (sym (same q) ∙ e);
-      no_permit = λ q link i w r e. let x = ready link r in h.no_permit q x.0 i w x.1 (sym (same q) ∙ e);
+      no_resubscribe = λ q link i w r goes e. let x = ready link r in h.no_resubscribe q x.0 i w x.1 goes (sym (same q) ∙ e);
+      unpermitted = λ q link w r goes e. let x = ready link r in h.unpermitted q x.0 w x.1 goes (sym (same q) ∙ e);
+      no_permit = λ q link i w r none e. let x = ready link r in h.no_permit q x.0 i w x.1 none (sym (same q) ∙ e);
       no_place = λ q i a e. h.no_place q i a (sym (same q) ∙ e);
       seatless = λ q a e. h.seatless q a (sym (same q) ∙ e);
       no_room = λ q i r e. h.no_room q i (others q r).2 (sym (same q) ∙ e);
@@ -316,6 +321,7 @@ late_tied b c started word n p h tame is o =
       creation = h.creation;
       uses = uses_on c.sources c.single.link h.uses;
       renewal = left_renewal (record ledger { heard = silence }) conn.renewal conn.life p (renewal_alike ledger (record ledger { heard = silence }) conn.renewal conn.life refl refl refl h.renewal);
+      repeat = left_repeat (record ledger { heard = silence }) b.tracked conn.renewal.within conn.again conn.life p (repeat_alike ledger (record ledger { heard = silence }) b.tracked conn.renewal.within conn.again conn.life refl refl refl (λ e is. refl) h.repeat);
       setup = left_setup ledger conn.info started conn.life p h.setup;
       link = λ alive. left_link conn.requests ledger conn.life p h.link alive;
       names = h.names;
@@ -324,10 +330,10 @@ late_tied b c started word n p h tame is o =
           (record { owners = h.tries.owners; greeted = h.tries.greeted; shapes = h.tries.shapes; tried = h.tries.tried; untried = h.tries.untried });
       lines = late_lines_in m b.story conn.requests conn.life conn.waiting conn.admitted p started (request_not b (inner c started) p h l) h.lines;
       told = late_told b.story conn.requests c.single.link conn.life p asked h.told;
-      waits = late_waits b.story conn.requests m conn.life p kept conn.fresh conn.moved line h.waits;
+      waits = late_waits b.story conn.requests m conn.again conn.life p kept conn.fresh conn.moved line h.waits;
       permits = subst (λ k. TiedPermits after k conn.requests c.single.link conn.limit conn.free []) (none_more b.submissions) (permits_same b.story after b.submissions conn.requests c.single.link conn.limit conn.free [] (λ k. (fired_at m b.story k).holds) h.permits);
-      rounds = subst (λ x. TiedRounds (has_generations b) after conn.requests x conn.fresh conn.rounds) (sym (ready_cancelled conn.life p)) (rounds_same b.story after conn.requests conn.fresh (fires_rounds m b.story) h.rounds);
-      early = early_cancelled conn.requests conn.life p h.early;
+      rounds = subst (λ x. TiedRounds (has_generations b) after conn.requests x conn.fresh conn.rounds) (sym (serves_cancelled conn.life conn.again p)) (rounds_same b.story after conn.requests conn.fresh (fires_rounds m b.story) h.rounds);
+      early = early_cancelled conn.requests conn.again conn.life p h.early;
       late = λ k open_k late_k. by_test (p == k) _
           (λ e. inl (eq_from p k e))
           (λ f.
@@ -357,7 +363,7 @@ fired_overdue b c started word n p h is o =
 -- the answer
 --
 -- the rows and the queue are without it
-late_apart : (b : Book) (t : Inner) (life : Life) (p : ℕ) → Tied b t → t.life ≡ life → has_ended life ≡ false → p ≢ renewal_id → is_open (b.story (name_at t.requests p)) ≡ true → IsIn p (wanted (link_in (cancelled_in life p)).row ++ queue_ids (link_in (cancelled_in life p)).queue) → ⊥
+late_apart : (b : Book) (t : Inner) (life : Life) (p : ℕ) → Tied b t → t.life ≡ life → has_ended life ≡ false → is_own p ≡ false → is_open (b.story (name_at t.requests p)) ≡ true → IsIn p (wanted (link_in (cancelled_in life p)).row ++ queue_ids (link_in (cancelled_in life p)).queue) → ⊥
 late_apart b t Resting p h e up other o i = i
 late_apart b t Dialing p h e up other o i = i
 late_apart b t (Wanting link) p h e up other o i = i
@@ -399,7 +405,7 @@ open_alive before c started p h o = by_life c.single.connection.life refl
     by_life (Ended x) e =
         let b = book before in
         let t = inner c started in
-        let none : kept_ids conn.admitted conn.waiting ≡ [] = λ i. kept_ids (h.fit.none (λ link r. (let no : Ended x ≡ Ready link = sym e ∙ r in cc)) i) (h.still.none_waits (ap has_ended e) i) in
+        let none : kept_ids conn.admitted conn.waiting ≡ [] = λ i. kept_ids (h.fit.none (unready_serves conn.life conn.again (ap is_ready e)) i) (h.still.none_waits (ap has_ended e) i) in
         absurd (none_open b t (Ended x) (name_at conn.requests p) refl h.sound.tied refl e none ((request_story b t p h.sound.tied (open_within conn.requests p o)).open_is ∙ o))
 
 -- and where the connection has none, it was not shut down
@@ -418,7 +424,7 @@ open_awake before c started p h o rests = by_test c.shut _
     conn = c.single.connection
 
     nobody : conn.admitted ≡ []
-    nobody = h.fit.none (λ link r. not_both (is_resting conn.life) (ap is_resting r) rests)
+    nobody = h.fit.none (unready_serves conn.life conn.again (resting_unready conn.life rests))
 
     stopped : (life : Life) → is_resting life ≡ true → IsStopped life conn.waiting → conn.waiting ≡ []
     stopped Resting z k = k
@@ -479,7 +485,7 @@ late_answered before c started word n p h good is o =
     let may = may_answer b t p over holds.tied o owes (λ q less asked_q. others_unowed b t p q holds.tied awake refl up less asked_q) (none_before b t m holds.tied refl) (λ ended. absurd (not_both (is_over (b.link f.single.link)) (ap is_some lived) ended)) in
     let link = link_in (cancelled_in conn.life p) in
     let told = λ (x : has_ended (cancelled_in conn.life p) ≡ false). told_closed b.story conn.requests c.single.link p (λ k. answered (b.story k) over) link link (λ u. absurd (owed_untold b m over asked owes u)) (λ k. refl) (λ q told_q i. i) (λ q i. i) (holds.tied.told x) in
-    let answer = answer_apart b (seen f [] (late_conn c p) [] started) p [] over (λ going unshut. refl) o apart told holds.tied in
+    let answer = answer_apart b (seen f [] (late_conn c p) [] started) p [] over (λ going unshut. refl) (λ going goes. refl) o apart told holds.tied in
     let after = holds_more front f w a (closed (late_conn c p) p) (p ∷ []) [] started holds (inl may) answer in
     let q = late_silent b0 c started n (Some (purpose.Response (owner.Try m 0))) h.sound.tied is (λ k. refl) in
     record {

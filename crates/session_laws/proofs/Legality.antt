@@ -245,6 +245,7 @@ no_causes l n c (act.Round k ∷ acts) = no_causes l (n + length (timer_of l (ac
 no_causes l n c (act.Took k count ∷ acts) = no_causes l (n + length (timer_of l (act.Took k count))) (c + length (source_of l (act.Took k count))) acts
 no_causes l n c (act.Timer k ms ∷ acts) = no_causes l (n + length (timer_of l (act.Timer k ms))) (c + length (source_of l (act.Timer k ms))) acts
 no_causes l n c (act.RenewalTimer k ms ∷ acts) = no_causes l (n + length (timer_of l (act.RenewalTimer k ms))) (c + length (source_of l (act.RenewalTimer k ms))) acts
+no_causes l n c (act.RepeatTimer ms ∷ acts) = no_causes l (n + length (timer_of l (act.RepeatTimer ms))) (c + length (source_of l (act.RepeatTimer ms))) acts
 no_causes l n c (act.Push info ∷ acts) = no_causes l (n + length (timer_of l (act.Push info))) (c + length (source_of l (act.Push info))) acts
 no_causes l n c (act.Message m ∷ acts) = no_causes l (n + length (timer_of l (act.Message m))) (c + length (source_of l (act.Message m))) acts
 no_causes l n c (act.Monitor v ∷ acts) = no_causes l (n + length (timer_of l (act.Monitor v))) (c + length (source_of l (act.Monitor v))) acts
@@ -257,6 +258,7 @@ no_causes l n c (act.Wait k kind ∷ acts) = no_causes l (n + length (timer_of l
 no_causes l n c (act.Start m k count len ∷ acts) = no_causes l (n + length (timer_of l (act.Start m k count len))) (c + length (source_of l (act.Start m k count len))) acts
 no_causes l n c (act.SetUp m count len ∷ acts) = no_causes l (n + length (timer_of l (act.SetUp m count len))) (c + length (source_of l (act.SetUp m count len))) acts
 no_causes l n c (act.Renewed m count len ∷ acts) = no_causes l (n + length (timer_of l (act.Renewed m count len))) (c + length (source_of l (act.Renewed m count len))) acts
+no_causes l n c (act.Repeated m count len ∷ acts) = no_causes l (n + length (timer_of l (act.Repeated m count len))) (c + length (source_of l (act.Repeated m count len))) acts
 no_causes l n c (act.Outcome k o ∷ acts) = no_causes l (n + length (timer_of l (act.Outcome k o))) (c + length (source_of l (act.Outcome k o))) acts
 
 -- nor is what a manager does of its own

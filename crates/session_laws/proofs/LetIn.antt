@@ -16,7 +16,7 @@ use Rattle.driver_model.specs.declared.outcome.Shape.TheVariants.{Single, Pipeli
 use Rattle.link_core.specs.Link.{LinkState, holds_back, is_full_beside}
 use Rattle.link_core.specs.declared.message.Entry.{Entry}
 use Rattle.link_core.specs.declared.message.Queued.{Queued}
-use Rattle.mux_conn.specs.Connection.{Work, has_no_permit, in_front, is_ready}
+use Rattle.mux_conn.specs.Connection.{Work, has_no_permit, in_front, is_ready, is_outstanding}
 use Rattle.mux_conn.specs.Passes.{holding, let_in, permits_taken, timer_asked, took_shown}
 use Rattle.mux_conn.specs.declared.act.LinkAct.{LinkAct}
 use Rattle.mux_conn.specs.declared.act.LinkAct.TheVariants as act
@@ -47,12 +47,15 @@ use Rattle.session_laws.proofs.Numbers.{IsIn, Rising, in_right, rising_in, risin
 use Rattle.session_laws.proofs.Owes.{request_story, open_on}
 use Rattle.session_laws.proofs.Permits.{held_changed, held_same, on_this}
 use Rattle.session_laws.proofs.Closing.{one_of}
-use Rattle.session_laws.proofs.Rounded.{SameRounds, rounds_with}
+use Rattle.session_laws.proofs.Rounded.{SameRounds, rounds_with, early_never}
 use Rattle.session_laws.proofs.Said.{carried_tied}
 use Rattle.session_laws.proofs.States.{IsFit}
 use Rattle.session_laws.proofs.Server.{setup_owners}
 use Rattle.session_laws.proofs.Tied.{IsAim, AreAimed, AreQueued, Inner, IsEntry, IsKept, IsOf, IsPacked, IsQueued, IsRequest, Tied, TiedLines, TiedNames, TiedNumbers, TiedPermits, TiedRounds, TiedStory, TiedTries, TiedWaits, link_in, owners_each, queue_ids, shown_wait, waiting_ids, numbers_kept, IsToldIn}
 use Rattle.session_laws.proofs.Moves.{or_true}
+use Rattle.session_laws.proofs.Repeats.{serves}
+use Rattle.session_laws.proofs.Serving.{answered_serves}
+use Rattle.mux_conn.specs.declared.again.Again.{Again}
 
 -- requests of which one holds other permits, and waits still
 --
@@ -222,9 +225,9 @@ told_let f g requests number link p count eased h = record {
 }
 
 -- what is shown of waits
-waits_let : (f g : ℕ → Story) (requests : List Request) (life : Life) (fresh moved : List ℕ) (p count : ℕ) → is_waiting_at requests p ≡ true → ((n : ℕ) → (g n).waiting ≡ (f n).waiting) → TiedWaits f requests life fresh moved
-    → TiedWaits g (with_permits requests p progress.Begun count) life fresh moved
-waits_let f g requests life fresh moved p count w still h =
+waits_let : (f g : ℕ → Story) (requests : List Request) (a : Again) (life : Life) (fresh moved : List ℕ) (p count : ℕ) → is_waiting_at requests p ≡ true → ((n : ℕ) → (g n).waiting ≡ (f n).waiting) → TiedWaits f requests a life fresh moved
+    → TiedWaits g (with_permits requests p progress.Begun count) a life fresh moved
+waits_let f g requests a life fresh moved p count w still h =
     let ss = with_permits requests p progress.Begun count in
     let same : (m : ℕ) → shown_wait g ss m ≡ shown_wait f requests m = λ m. ap (λ n. (g n).waiting) (name_with requests p progress.Begun count m) ∙ still (name_at requests m) in
     let waits : (m : ℕ) → is_waiting_at ss m ≡ true → is_waiting_at requests m ≡ true = λ m e. sym (test_kept is_waiting requests p count m refl w) ∙ e in
@@ -236,7 +239,8 @@ waits_let f g requests life fresh moved p count w still h =
       connect = λ m v d. elim (h.connect m (waits m v) d) [ inl e ↦ inl e | inr e ↦ inr (same m ∙ e) ];
       creds = λ m link v d. elim (h.creds m link (waits m v) d) [ inl e ↦ inl e | inr e ↦ inr (same m ∙ e) ];
       setup = λ m link u v d. elim (h.setup m link u (waits m v) d) [ inl e ↦ inl e | inr e ↦ inr (same m ∙ e) ];
-      permit = λ m link v d. elim (h.permit m link (waits m v) d) [ inl e ↦ inl e | inr e ↦ inr (same m ∙ e) ];
+      resubscribe = λ m link v d goes. elim (h.resubscribe m link (waits m v) d goes) [ inl e ↦ inl e | inr e ↦ inr (same m ∙ e) ];
+      permit = λ m link v d none. elim (h.permit m link (waits m v) d none) [ inl e ↦ inl e | inr e ↦ inr (same m ∙ e) ];
       place = λ m a. elim (h.place m (admits m a)) [ inl i ↦ inl i | inr e ↦ inr (same m ∙ e) ];
       room = λ m i. elim (h.room m i) [ inl j ↦ inl j | inr e ↦ inr (same m ∙ e) ];
       newer = subst (Rising 0 fresh) long h.newer;
@@ -245,7 +249,9 @@ waits_let f g requests life fresh moved p count w still h =
       no_connect = λ m i v d e. h.no_connect m i (waits m v) d (sym (same m) ∙ e);
       no_creds = λ m link i v d e. h.no_creds m link i (waits m v) d (sym (same m) ∙ e);
       no_setup = λ m link u i v d e. h.no_setup m link u i (waits m v) d (sym (same m) ∙ e);
-      no_permit = λ m link i v d e. h.no_permit m link i (waits m v) d (sym (same m) ∙ e);
+      no_resubscribe = λ m link i v d goes e. h.no_resubscribe m link i (waits m v) d goes (sym (same m) ∙ e);
+      unpermitted = λ m link v d goes e. h.unpermitted m link (waits m v) d goes (sym (same m) ∙ e);
+      no_permit = λ m link i v d none e. h.no_permit m link i (waits m v) d none (sym (same m) ∙ e);
       no_place = λ m i a e. h.no_place m i (admits m a) (sym (same m) ∙ e);
       seatless = λ m a e. h.seatless m (admits m a) (sym (same m) ∙ e);
       no_room = λ m i j e. h.no_room m i j (sym (same m) ∙ e);
@@ -302,9 +308,9 @@ abbrev pub lets : Inner → ℕ → ℕ → ℕ → List Purpose → Inner
 lets t p count free timers = waits_on t p count free timers (p ∷ [])
 
 -- it is tied to the book with these stories and timers, where its waits, its permits and its rounds are
-pub waits_on_tied : (b : Book) (t : Inner) (p count free : ℕ) (g : ℕ → Story) (noted timers : List Purpose) (letting : List ℕ) → is_ready t.life ≡ true → is_waiting_at t.requests p ≡ true → AreEased b.story g (name_at t.requests p) → (g (name_at t.requests p)).permits ≡ count
+pub waits_on_tied : (b : Book) (t : Inner) (p count free : ℕ) (g : ℕ → Story) (noted timers : List Purpose) (letting : List ℕ) → serves t.life t.again ≡ true → is_waiting_at t.requests p ≡ true → AreEased b.story g (name_at t.requests p) → (g (name_at t.requests p)).permits ≡ count
     → TiedNumbers (record b { story = g; timers = noted }) (waits_on t p count free timers letting) → (let requests = with_permits t.requests p progress.Begun count in
-    TiedWaits g requests t.life t.fresh t.moved → TiedPermits g b.submissions requests t.link t.limit free letting → TiedRounds (has_generations b) g requests (is_ready t.life) t.fresh t.rounds → Tied b t
+    TiedWaits g requests t.again t.life t.fresh t.moved → TiedPermits g b.submissions requests t.link t.limit free letting → TiedRounds (has_generations b) g requests (serves t.life t.again) t.fresh t.rounds → Tied b t
     → Tied (record b { story = g; timers = noted }) (waits_on t p count free timers letting))
 waits_on_tied b t p count free g noted timers letting ready w eased has numbers waits permits rounds h = record {
   numbers = numbers;
@@ -317,6 +323,7 @@ waits_on_tied b t p count free g noted timers letting ready w eased has numbers 
   creation = h.creation;
   uses = h.uses;
   renewal = h.renewal;
+  repeat = h.repeat;
   setup = h.setup;
   link = λ e. carried_tied t.life t.requests (with_permits t.requests p progress.Begun count) (b.link t.link) (sym (owners_with t.requests p progress.Begun count)) (h.link e);
   names = names_with t.table t.requests p progress.Begun count h.names;
@@ -327,7 +334,7 @@ waits_on_tied b t p count free g noted timers letting ready w eased has numbers 
   waits = waits;
   permits = permits;
   rounds = rounds;
-  early = λ unready. absurd (not_both (is_ready t.life) unready ready);
+  early = early_never (with_permits t.requests p progress.Begun count) t.again t.life ready;
   late = λ m o e. h.late m (sym (test_kept is_open_progress t.requests p count m refl w) ∙ o)
       (sym (eased.each (name_at t.requests m)).overdue ∙ ap (λ n. (g n).overdue) (sym (name_with t.requests p progress.Begun count m)) ∙ e);
 }
@@ -338,12 +345,12 @@ pub record AreStill (f g : ℕ → Story) : Type 0 where
   pub rounded : SameRounds f g
 
 -- so it is while it is let in
-let_tied : (b : Book) (t : Inner) (p count free : ℕ) (g : ℕ → Story) (noted timers : List Purpose) → is_ready t.life ≡ true → is_waiting_at t.requests p ≡ true → HasBegun t p → ((m : ℕ) → IsIn m t.letting → p ≡ m) → AreEased b.story g (name_at t.requests p) → AreStill b.story g
+let_tied : (b : Book) (t : Inner) (p count free : ℕ) (g : ℕ → Story) (noted timers : List Purpose) → serves t.life t.again ≡ true → is_waiting_at t.requests p ≡ true → HasBegun t p → ((m : ℕ) → IsIn m t.letting → p ≡ m) → AreEased b.story g (name_at t.requests p) → AreStill b.story g
     → (g (name_at t.requests p)).permits ≡ count → ((k : ℕ) → t.limit ≡ Some k → permits_held g t.link b.submissions + free ≡ k) → TiedNumbers (record b { story = g; timers = noted }) (lets t p count free timers) → Tied b t
     → Tied (record b { story = g; timers = noted }) (lets t p count free timers)
 let_tied b t p count free g noted timers ready w begun alone eased still has sum numbers h =
     let o = waiting_open t.requests p w in
-    waits_on_tied b t p count free g noted timers (p ∷ []) ready w eased has numbers (waits_let b.story g t.requests t.life t.fresh t.moved p count w still.waiting h.waits)
+    waits_on_tied b t p count free g noted timers (p ∷ []) ready w eased has numbers (waits_let b.story g t.requests t.again t.life t.fresh t.moved p count w still.waiting h.waits)
     (permits_eased b.story g t.table b.submissions t.requests t.link t.limit t.free free t.letting p count h.names w alone eased sum h.permits)
     (rounds_with b.story g t.requests t.fresh p progress.Begun count (there_within is_waiting t.requests p w) refl still.rounded (λ shows unclosed. h.rounds.begun p shows o (begun shows)) h.rounds) h
 
@@ -376,6 +383,7 @@ first_early b t q rest h r still full first n before m =
 -- full, and new credentials are told that may be
 pub record IsOpening (t : Inner) (link : LinkState) (q : Waiting) (qs : List Waiting) : Type 0 where
   pub life : t.life ≡ Ready link
+  pub served : is_outstanding t.again ≡ false
   pub settled : t.pending ≡ []
   pub told : IsToldIn t
   pub fit : IsFit t.size t.bound link
@@ -389,7 +397,7 @@ pub record IsOpening (t : Inner) (link : LinkState) (q : Waiting) (qs : List Wai
 
 -- it runs
 opening_running : (t : Inner) (link : LinkState) (q : Waiting) (qs : List Waiting) → IsOpening t link q qs → IsRunning t
-opening_running t link q qs o = running_of t link o.settled o.life o.fit o.seats
+opening_running t link q qs o = running_of t link o.settled o.life o.served o.fit o.seats
 
 -- its step is first
 opening_first : (b : Book) (t : Inner) (link : LinkState) (q : Waiting) (qs : List Waiting) → IsOpening t link q qs → Tied b t → IsFirstToMove b (name_at t.requests q.number)
@@ -448,7 +456,7 @@ still_at f n c waits rounds = record {
 }
 
 -- what it takes is shown
-take_tied : (b : Book) (t : Inner) (p count : ℕ) → is_ready t.life ≡ true → is_waiting_at t.requests p ≡ true → HasBegun t p → t.letting ≡ [] → count ≤ t.free → Tied b t
+take_tied : (b : Book) (t : Inner) (p count : ℕ) → serves t.life t.again ≡ true → is_waiting_at t.requests p ≡ true → HasBegun t p → t.letting ≡ [] → count ≤ t.free → Tied b t
     → Tied (entered b (action.Took (owner.Try (name_at t.requests p) 0) t.link count)) (lets t p count (t.free - count) t.timers)
 take_tied b t p count ready w begun alone most h =
     let n = name_at t.requests p in
@@ -467,10 +475,10 @@ take_tied b t p count ready w begun alone most h =
     let before = on_this t.link (b.story n) on ∙ r.permits_is ∙ none.0 in
     let after = on_this t.link (g n) (ap (λ (s : Story). s.link) own ∙ on) ∙ ap (λ (s : Story). s.permits) own in
     omega arith)
-    (numbers_kept b b.link g b.tracked b.errors t t.life (t.free - count) (with_permits t.requests p progress.Begun count) t.waiting t.admitted t.fresh t.moved (p ∷ []) t.pending t.started h.numbers.unrepeated h.numbers) h
+    (numbers_kept b b.link g b.tracked b.errors t t.life (t.free - count) (with_permits t.requests p progress.Begun count) t.waiting t.admitted t.fresh t.moved (p ∷ []) t.pending t.started h.numbers) h
 
 -- where permits aren't counted nothing is
-free_tied : (b : Book) (t : Inner) (p : ℕ) → is_ready t.life ≡ true → is_waiting_at t.requests p ≡ true → HasBegun t p → t.letting ≡ [] → t.limit ≡ None → Tied b t → Tied b (lets t p 0 (t.free - 0) t.timers)
+free_tied : (b : Book) (t : Inner) (p : ℕ) → serves t.life t.again ≡ true → is_waiting_at t.requests p ≡ true → HasBegun t p → t.letting ≡ [] → t.limit ≡ None → Tied b t → Tied b (lets t p 0 (t.free - 0) t.timers)
 free_tied b t p ready w begun alone e h =
     let n = name_at t.requests p in
     let within = there_within is_waiting t.requests p w in
@@ -478,7 +486,7 @@ free_tied b t p ready w begun alone e h =
     let none = h.permits.none p w (λ i. subst (IsIn p) alone i) in
     let_tied b t p 0 (t.free - 0) b.story b.timers t.timers ready w begun (λ m i. absurd (subst (IsIn m) alone i)) (none_eased b.story n) (record { waiting = λ m. refl; rounded = λ m. refl }) (r.permits_is ∙ none.0)
     (λ k x. (let no_limit : ◌≡◌ {A = Option ℕ} None (Some k) = sym e ∙ x in cc))
-    (numbers_kept b b.link b.story b.tracked b.errors t t.life (t.free - 0) (with_permits t.requests p progress.Begun 0) t.waiting t.admitted t.fresh t.moved (p ∷ []) t.pending t.started h.numbers.unrepeated h.numbers) h
+    (numbers_kept b b.link b.story b.tracked b.errors t t.life (t.free - 0) (with_permits t.requests p progress.Begun 0) t.waiting t.admitted t.fresh t.moved (p ∷ []) t.pending t.started h.numbers) h
 
 -- its timer is asked for
 --
@@ -506,7 +514,7 @@ may_time b t link q qs number ms o h ends counted has time none =
     }
 
 -- and is
-ask_tied : (b : Book) (t : Inner) (p number ms : ℕ) → is_ready t.life ≡ true → is_waiting_at t.requests p ≡ true → HasBegun t p → ((m : ℕ) → IsIn m t.letting → p ≡ m) → Tied b t
+ask_tied : (b : Book) (t : Inner) (p number ms : ℕ) → serves t.life t.again ≡ true → is_waiting_at t.requests p ≡ true → HasBegun t p → ((m : ℕ) → IsIn m t.letting → p ≡ m) → Tied b t
     → Tied (entered b (action.Timer number ms (purpose.Response (owner.Try (name_at t.requests p) 0)))) (lets t p (permits_at t.requests p) t.free (t.timers ++ purpose.Response (owner.Try (name_at t.requests p) 0) ∷ []))
 ask_tied b t p number ms ready w begun alone h =
     let n = name_at t.requests p in
@@ -519,7 +527,7 @@ ask_tied b t p number ms ready w begun alone h =
     let known = name_within t.table t.requests p h.names within in
     let hold : (m : ℕ) → permits_on t.link (g m) ≡ permits_on t.link (b.story m) = λ m.
     chosen (λ (x : Story). permits_on t.link x ≡ permits_on t.link (b.story m)) (n == m) (clocked (b.story m) number) (b.story m) (λ t. refl) (λ f. refl) in
-    let k = numbers_kept b b.link g b.tracked b.errors t t.life t.free (with_permits t.requests p progress.Begun (permits_at t.requests p)) t.waiting t.admitted t.fresh t.moved (p ∷ []) t.pending t.started h.numbers.unrepeated h.numbers in
+    let k = numbers_kept b b.link g b.tracked b.errors t t.life t.free (with_permits t.requests p progress.Begun (permits_at t.requests p)) t.waiting t.admitted t.fresh t.moved (p ∷ []) t.pending t.started h.numbers in
     let_tied b t p (permits_at t.requests p) t.free g (b.timers ++ what ∷ []) (t.timers ++ what ∷ []) ready w begun alone eased (still_at b.story n (λ s. clocked s number) (λ m. refl) (λ m. refl)) (ap (λ (s : Story). s.permits) own ∙ r.permits_is)
     (λ k e. ap (λ x. x + t.free) (held_same b.story g t.link b.submissions (λ m l. hold m)) ∙ h.permits.counted k e)
     (record {
@@ -534,7 +542,6 @@ ask_tied b t p number ms ready w begun alone h =
       shut = k.shut;
       within = k.within;
       few = k.few;
-      unrepeated = k.unrepeated;
       settings = record { size_is = k.settings.size_is; bound_is = k.settings.bound_is; limit_is = k.settings.limit_is; some = k.settings.some; limited = k.settings.limited };
       kind_is = k.kind_is;
       quiet = k.quiet;
@@ -584,8 +591,8 @@ some_taken before f acts conn started link q qs k o e some h =
     let after = lets t p count (conn.free - count) t.timers in
     let first : IsGoing (trace ++ taken ∷ []) after = going_more trace taken after h.sound.stands
     (refl, may_take b t link q qs k o refl e some h.sound.tied h.ended)
-    (take_tied b t p count (ap is_ready o.life) o.is_waiting o.begun refl most.0 h.sound.tied)
-    h.ended h.renewed in
+    (take_tied b t p count (answered_serves t.life t.again (ap is_ready o.life) o.served) o.is_waiting o.begun refl most.0 h.sound.tied)
+    h.ended h.renewed h.served in
     let there = subst (λ (x : List Action). IsGoing x after) (sym (shown_more before f.single.link (length f.timers) (length f.sources) acts a)) first in
     let book_is = book_of_more before f acts a in
     let own : (entered b taken).story n ≡ holds (b.story n) count = taken_if (n == n) (holds (b.story n) count) (b.story n) (eq_test n n refl) in
@@ -606,7 +613,7 @@ none_taken : (before : List Action) (f : Core) (acts : List LinkAct) (conn : Mul
 none_taken before f acts conn started link q qs o e h =
     let t = seen f acts conn [] started in
     record {
-      going = record { sound = record { stands = h.sound.stands; tied = free_tied (book (trace_of_acts before f acts)) t q.number (ap is_ready o.life) o.is_waiting o.begun refl e h.sound.tied }; ended = h.ended; renewed = h.renewed };
+      going = record { sound = record { stands = h.sound.stands; tied = free_tied (book (trace_of_acts before f acts)) t q.number (answered_serves t.life t.again (ap is_ready o.life) o.served) o.is_waiting o.begun refl e h.sound.tied }; ended = h.ended; renewed = h.renewed; served = h.served };
       has = ap (λ (x : Option ℕ). is_none x || nat_lt 0 ((book (trace_of_acts before f acts)).story (name_at conn.requests q.number)).permits) e;
       none = (h.sound.tied.permits.none q.number o.is_waiting (λ i. i)).1;
       sourced = refl;
@@ -638,6 +645,7 @@ pub record HasLet (before : List Action) (f : Core) (t : Inner) (p count : ℕ) 
 opening_taken : (t : Inner) (link : LinkState) (q : Waiting) (qs : List Waiting) (count free : ℕ) (timers : List Purpose) → IsOpening t link q qs → IsOpening (lets t q.number count free timers) link q qs
 opening_taken t link q qs count free timers o = record {
   life = o.life;
+  served = o.served;
   settled = o.settled;
   told = o.told;
   fit = o.fit;
@@ -682,13 +690,13 @@ let_timed before f t link q qs count ms acts o e same h =
     let may = may_time b now link q qs number ms opening h.going.sound.tied h.going.ended (sym (length-append f.timers (timers_of f.single.link acts)))
     (ap (λ m. is_none t.limit || nat_lt 0 (b.story m).permits) named ∙ h.has) e (ap (λ m. (b.story m).clock) named ∙ h.none) in
     let stands : MayTime b number ms what = subst (λ m. MayTime b number ms (purpose.Response (owner.Try m 0))) named may in
-    let asked = ask_tied b now p number ms (ap is_ready o.life) opening.is_waiting opening.begun alone h.going.sound.tied in
+    let asked = ask_tied b now p number ms (answered_serves t.life t.again (ap is_ready o.life) o.served) opening.is_waiting opening.begun alone h.going.sound.tied in
     let again = permits_twice t.requests p progress.Begun progress.Begun count (permits_at now.requests p) ∙ ap (with_permits t.requests p progress.Begun) (permits_with t.requests p progress.Begun count within) in
     let after = lets t p count (t.free - count) (timers ++ what ∷ []) in
     let tied : Tied (entered b timer) after =
     subst (λ (x : List Request). Tied (entered b timer) (record after { requests = x })) again
     (subst (λ m. Tied (entered b (action.Timer number ms (purpose.Response (owner.Try m 0)))) (record after { requests = with_permits now.requests p progress.Begun (permits_at now.requests p); timers = timers ++ purpose.Response (owner.Try m 0) ∷ [] })) named asked) in
-    let first : IsGoing (trace ++ timer ∷ []) after = going_more trace timer after h.going.sound.stands (inr (inl stands)) tied h.going.ended h.going.renewed in
+    let first : IsGoing (trace ++ timer ∷ []) after = going_more trace timer after h.going.sound.stands (inr (inl stands)) tied h.going.ended h.going.renewed h.going.served in
     let there = subst (λ (x : List Action). IsGoing x after) (sym (shown_more before f.single.link (length f.timers) (length f.sources) acts a)) first in
     let own : (entered b timer).story n ≡ clocked (b.story n) number = taken_if (n == n) (clocked (b.story n) number) (b.story n) (eq_test n n refl) in
     let story_is : (book (trace_of_acts before f (acts ++ a ∷ []))).story n ≡ clocked (b.story n) number = ap (λ (x : Book). x.story n) (book_of_more before f acts a) ∙ own in

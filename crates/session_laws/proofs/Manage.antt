@@ -15,7 +15,7 @@ use Rattle.driver_model.specs.declared.event.EventKind.{EventKind}
 use Rattle.driver_model.specs.declared.event.EventKind.TheVariants as event
 use Rattle.driver_model.specs.declared.event.Submission.{Submission}
 use Rattle.driver_model.specs.News.{News, for_link, news_of, of_source, of_timer, silence}
-use Rattle.mux_conn.specs.Connection.{in_front, is_resting, is_spent_in, is_used_up}
+use Rattle.mux_conn.specs.Connection.{in_front, is_resting, is_spent_in, is_used_up, is_ready}
 use Rattle.mux_conn.specs.Requests.{is_open_at}
 use Rattle.mux_conn.specs.declared.act.LinkAct.{LinkAct}
 use Rattle.mux_conn.specs.declared.life.Life.{Life}
@@ -26,7 +26,7 @@ use Rattle.shared_session.specs.declared.generations.Comeback.{Comeback}
 use Rattle.shared_session.specs.declared.generations.Comeback.TheVariants as comeback
 use Rattle.shared_session.specs.declared.generations.Generations.{Generations}
 use Rattle.shared_session.specs.Generations as machine
-use Rattle.shared_session.specs.Generations.{came_back, comeback_of, comeback_shown, creation_fails, heeded, is_due, is_timer, rests, wakes}
+use Rattle.shared_session.specs.Generations.{came_back, comeback_of, comeback_shown, creation_fails, heeded, is_due, rests, wakes}
 use Rattle.shared_session.specs.Turn.{is_bad}
 use Rattle.legal_trace.specs.Book.{Book, book, entered, has_generations, rest_after, shuts}
 use Rattle.legal_trace.specs.Story.{is_open}
@@ -39,7 +39,7 @@ use Rattle.session_laws.proofs.Comes.{NoneComes, has_begun, has_links}
 use Rattle.session_laws.proofs.Generate.{begun_in, first_begins, over_begins}
 use Rattle.session_laws.proofs.Going.{shown_over, shown_resting}
 use Rattle.session_laws.proofs.InLine.{kept_ids}
-use Rattle.session_laws.proofs.Judge.{HasActed, IsActed, acted_adds, judged, runs_on, turn_book}
+use Rattle.session_laws.proofs.Judge.{HasActed, IsActed, acted_adds, judged, runs_on, turn_book, acted_informed}
 use Rattle.session_laws.proofs.Numbers.{IsIn}
 use Rattle.session_laws.proofs.Owes.{is_asked, open_request}
 use Rattle.session_laws.proofs.Past.{is_past, rest_timed, unended_over}
@@ -49,6 +49,8 @@ use Rattle.session_laws.proofs.Return.{HasReturned, at_next, begins_returned, di
 use Rattle.session_laws.proofs.States.{Between, IsFitIn, IsHushed, IsStill}
 use Rattle.session_laws.proofs.Server.{HasSaid}
 use Rattle.session_laws.proofs.Tied.{ComesBack, HasCourse, HasHeeded, Inner, IsAim, IsHeeded, IsUse, Sound, Tied, TiedLife, TiedLines, has_ended, inner, is_begun, link_in, waiting_ids}
+use Rattle.session_laws.proofs.Serving.{unready_serves}
+use Rattle.session_laws.proofs.Informed.{HasInformed, IsInformed}
 
 -- what a link hears that isn't asked for yet
 --
@@ -62,7 +64,7 @@ timer_harmless m count link (Some (purpose.Connect l)) less aim = inl (else_sile
 timer_harmless m count link (Some (purpose.Response who)) less aim = inl refl
 timer_harmless m count link (Some (purpose.Renewal l k)) less aim = inl (else_silent l m _ (λ e. absurd (let le = aim (purpose.Renewal l k) refl in omega (arith, le, less, e))))
 timer_harmless m count link (Some (purpose.Backoff g)) less aim = inl refl
-timer_harmless m count link (Some (purpose.Resubscription l)) less aim = absurd (aim (purpose.Resubscription l) refl)
+timer_harmless m count link (Some (purpose.Resubscription l)) less aim = inl (else_silent l m _ (λ e. absurd (let le = aim (purpose.Resubscription l) refl in omega (arith, le, less, e))))
 
 source_harmless : (m link : ℕ) (asked renewed : Bool) (x : Option SourceUse) (first later : News) → link < m → ((what : SourceUse) → x ≡ Some what → IsUse what link asked renewed) → IsHarmless (of_source m x first later)
 source_harmless m link asked renewed None first later less used = inl refl
@@ -290,6 +292,10 @@ module _ (before : List Action) (c : Core) (started : List ℕ) (g : Generations
   failed_is : b.failed ≡ q.halted
   failed_is = (acted_adds before c word kind b acts h.acted).failed ∙ ap (λ (x : Bool). x || creation_fails acts) heed.failed_is
 
+  -- and so is what is known of subscriptions
+  informs : HasInformed b q.subscribed
+  informs = acted_informed before c word kind b acts g h.acted h.managed h.between.informed
+
   -- it rests only where it did before
   rested_before : is_resting k.single.connection.life ≡ true → is_resting c.single.connection.life ≡ true
   rested_before rests = by_test (is_resting c.single.connection.life) _ (λ r. r)
@@ -352,8 +358,8 @@ module _ (before : List Action) (c : Core) (started : List ℕ) (g : Generations
       let same : inner k h.now ≡ inner (at_next k) [] = λ i. record (inner (at_next k) []) { link = here i; started = said.1 i } in
       let timer = rest_timed before h.between.sound.stands by.0 (heed.rest_is ∙ by.2) in
       dials_returned trace k q
-      (record { sound = subst (Sound trace) same h.sound; ended = h.ended; rests = life; settled = refl; nobody = h.fit.none (λ link e. (let no : Resting ≡ Ready link = sym life ∙ e in cc)); told = (refl, refl) })
-      h.heeds (heed.rests waits).1 (rest_is ∙ over) failed_is over runs
+      (record { sound = subst (Sound trace) same h.sound; ended = h.ended; rests = life; settled = refl; nobody = h.fit.none (unready_serves k.single.connection.life k.single.connection.again (ap is_ready life)); told = (refl, refl) })
+      h.heeds (heed.rests waits).1 (rest_is ∙ over) failed_is informs over runs
       (inl (heard_is k.links ∙ ap (news_of b0.timers b0.sources k.links) by.1 ∙ ap (of_timer k.links) timer.1))
 
   acted : k.shut ≡ false → IsActed before c started word kind b acts t
@@ -362,7 +368,7 @@ module _ (before : List Action) (c : Core) (started : List ℕ) (g : Generations
   -- nobody is open on a link that has ended
   pub none_open_over : (e : RedisError) → k.single.connection.life ≡ Ended e → (p : ℕ) → is_open_at k.single.connection.requests p ≡ true → ⊥
   none_open_over e over p o =
-      let admitted = h.fit.none (λ link r. (let no : Ended e ≡ Ready link = sym over ∙ r in cc)) in
+      let admitted = h.fit.none (unready_serves k.single.connection.life k.single.connection.again (ap is_ready over)) in
       let waiting = h.still.none_waits (ap has_ended over) in
       let lines = subst (λ (x : Life). TiedLines b.story k.single.connection.requests (link_in x) k.single.connection.waiting k.single.connection.admitted [] h.now) over tied.lines in
       elim (lines.there p o) [
@@ -377,7 +383,7 @@ module _ (before : List Action) (c : Core) (started : List ℕ) (g : Generations
       let there : is_resting k.single.connection.life ≡ false = ap is_resting over in
       let one : k.links ≡ k.single.link + 1 = has_links k.single.connection.life (b.link k.single.link).last (b.link k.single.link).end t there tied.course in
       let number = q.number + 1 in
-      let admitted = h.fit.none (λ link r. (let no : Ended e ≡ Ready link = sym over ∙ r in cc)) in
+      let admitted = h.fit.none (unready_serves k.single.connection.life k.single.connection.again (ap is_ready over)) in
       let waiting = h.still.none_waits (ap has_ended over) in
       let few : k.single.connection.renewal.asked < 2 ^ 32 = not_le_from (2 ^ 32) k.single.connection.renewal.asked (or_right (is_spent_in k.single.connection.life) _ unspent) in
       let is_due : generation_due b ≡ true = due b has (failed_is ∙ well) (shut_is ∙ runs) (left_if (b.generation == 0) (begins_first b) (is_caused b) (ne_test b.generation 0 (λ none. some (sym generation_is ∙ none))) ∙ caused) in
@@ -385,7 +391,7 @@ module _ (before : List Action) (c : Core) (started : List ℕ) (g : Generations
       let near = h.link in
       let all = begins_returned trace k h.now q number h.sound shown h.heeds refl is_due
       (rest_tied (entered b (action.Generation number)) (begun_in t number) (over_begins b t e number tied over refl refl few (ap is_some h.heeds) one waiting (none_open_over e over) (λ none. absurd (omega (arith, none))) (is_past trace h.sound.stands).behind))
-      failed_is runs (harmless_next (λ x. absurd (omega (arith, one, x))) (shut_is ∙ runs)) in
+      failed_is informs runs (harmless_next (λ x. absurd (omega (arith, one, x))) (shut_is ∙ runs)) in
       subst (λ (x : List Action). HasReturned x (came_back k (comeback.Dials k.links (Some number) (length k.timers)))) (append_assoc trace (action.Generation number ∷ []) _) all
     where
       harmless_next : (k.links ≡ k.single.link → ⊥) → b.shut ≡ false → IsHarmless (b.link k.links).heard
@@ -404,14 +410,14 @@ module _ (before : List Action) (c : Core) (started : List ℕ) (g : Generations
   first_returned come runs none well =
       let number = q.number + 1 in
       let life : k.single.connection.life ≡ Resting = by_test (is_resting k.single.connection.life) _ (λ r. resting_is k.single.connection.life r) (λ there. absurd (begun_there there none)) in
-      let admitted = h.fit.none (λ link e. (let no : Resting ≡ Ready link = sym life ∙ e in cc)) in
+      let admitted = h.fit.none (unready_serves k.single.connection.life k.single.connection.again (ap is_ready life)) in
       let down : TiedLife (b.link k.single.link) b.created Resting = subst (TiedLife (b.link k.single.link) b.created) life tied.life in
       let begins : begins_first b ≡ true = ap (λ x. not x || is_open (b.story (b.submissions - 1))) (back.first none) ∙ come.opens in
       let is_due : generation_due b ≡ true = due b has (failed_is ∙ well) (shut_is ∙ runs) (taken_if (b.generation == 0) (begins_first b) (is_caused b) (eq_test b.generation 0 (generation_is ∙ none)) ∙ begins) in
       let shown = shown_resting b t tied (λ over rests. absurd (not_both k.shut runs over)) refl (refl, refl) life admitted h.ended in
       let all = begins_returned trace k h.now q number h.sound shown h.heeds refl is_due
       (first_begins b t number tied life refl refl come.moved admitted refl refl come.free come.fresh (unended_over trace k.single.link down.1 down.2) (λ no. absurd (omega (arith, no))))
-      failed_is runs (inl (heard_is k.links ∙ ap (news_of b0.timers b0.sources k.links) come.submits)) in
+      failed_is informs runs (inl (heard_is k.links ∙ ap (news_of b0.timers b0.sources k.links) come.submits)) in
       subst (λ (x : List Action). HasReturned x (came_back k (comeback.Dials k.links (Some number) (length k.timers)))) (append_assoc trace (action.Generation number ∷ []) _) all
 
   -- where it does nothing
@@ -432,6 +438,7 @@ module _ (before : List Action) (c : Core) (started : List ℕ) (g : Generations
           let waited : g.rest ≢ None = λ none. waits (by_test (wakes g kind) _ (λ w. taken_if (wakes g kind) None g.rest w) (λ w. left_if (wakes g kind) None g.rest w ∙ none)) in
           (rests_on_wait waited, (heed.rests waited).1);
     });
+    informed = subst (IsInformed b) (sym h.heeds) informs;
   })
 
   -- its wait goes on

@@ -1,17 +1,22 @@
 -- All requests of a connection are moved.
 use Rattle.std.proofs.Common.{Bool, List, [], ap, false, inl, inr, length, refl, subst, sym, true, ℕ, ◌++◌, ◌∙◌, ◌∷◌, ◌≡◌, ◌⊎◌}
 use Rattle.std.proofs.Math.Bool.{and-false}
-use Rattle.std.specs.Prelude.{◌&&◌}
-use Rattle.containers.proofs.Choices.{chosen, left_if, not_both, taken_if, both_left, both_right}
+use Rattle.std.specs.Prelude.{◌&&◌, ◌||◌}
+use Rattle.containers.proofs.Choices.{by_test, chosen, left_if, not_both, taken_if, both_left, both_right}
 use Rattle.redis_error.specs.declared.redis_error.RedisError.{RedisError}
 use Rattle.driver_model.specs.declared.action.Action.{Action}
 use Rattle.driver_model.specs.declared.outcome.Outcome.{Outcome}
 use Rattle.driver_model.specs.declared.outcome.Outcome.TheVariants as outcome
-use Rattle.link_core.specs.Link.{LinkState, holds_back}
+use Rattle.link_core.specs.Link.{LinkState, holds_back, started_each}
 use Rattle.link_laws.specs.Settles.{awaited_ids, wanted}
-use Rattle.mux_conn.specs.Connection.{Work, admits_none, admits_none_at, has_no_permit, with_link, in_front, is_due, is_ready}
+use Rattle.link_core.specs.declared.message.Queued.{Queued}
+use Rattle.mux_conn.specs.Repeats.{is_to_start, repeat_asked, repeat_moved, repeated}
+use Rattle.session_laws.proofs.RepeatsTold.{repeated_on}
+use Rattle.session_laws.proofs.SaysAlone.{said_alone}
+use Rattle.session_laws.proofs.Start.{with_queue}
+use Rattle.mux_conn.specs.Connection.{Work, at_life, is_serving, admits_none, admits_none_at, has_no_permit, with_link, in_front, is_due, is_ready, is_outstanding}
 use Rattle.mux_conn.specs.Effects.{failed_each, nobody_waits, waiting_failed}
-use Rattle.mux_conn.specs.Passes.{admitted, admitted_all, admitted_at, admitted_each, moved_up_all, moved_up_each, passed, started_at, still_admitted, still_waiting, rounds_begun, rounds_of}
+use Rattle.mux_conn.specs.Passes.{said, starts_with, admitted, admitted_all, admitted_at, admitted_each, moved_up_all, moved_up_each, passed, started_at, still_admitted, still_waiting, rounds_begun, rounds_of}
 use Rattle.mux_conn.specs.Requests.{answered, with_permits, is_open as is_open_progress, is_open_at, is_waiting, is_waiting_at}
 use Rattle.mux_conn.specs.declared.life.Greeting.{Greeting}
 use Rattle.mux_conn.specs.declared.life.Life.{Life}
@@ -37,6 +42,9 @@ use Rattle.session_laws.proofs.Watches.{setting_begun}
 use Rattle.session_laws.proofs.Settle.{Holds, answered_leaves, failed_leaves, seen, trace_of_acts}
 use Rattle.session_laws.proofs.States.{IsFit, IsFitIn, IsStill, AreBegun, IsStopped}
 use Rattle.session_laws.proofs.Tied.{Inner, Sound, Tied, has_ended, link_in, queue_ids, waiting_ids}
+use Rattle.session_laws.proofs.Repeats.{serves}
+use Rattle.session_laws.proofs.Serving.{unready_serves, outstanding_serves, answered_serves, serves_ready}
+use Rattle.session_laws.proofs.RepeatsDue.{served_repeated, down_repeated}
 
 -- the event has had its effect, and nothing moves any more; where everything is shut down, no link goes on
 pub record HasMoved (before : List Action) (f : Core) (w : Work) : Type 0 where
@@ -56,7 +64,7 @@ pub record IsReady (before : List Action) (f : Core) (w : Work) (started : List 
   pub moved : w.conn.moved ≡ []
   pub hushed : f.shut ≡ true → IsStopped w.conn.life w.conn.waiting
 
--- on a link that is up
+-- on a link that is up and set up
 --
 -- not everything is shut down
 up_awake : (life : Life) (waiting : List Waiting) (link : LinkState) → life ≡ Ready link → IsStopped life waiting → ⊥
@@ -78,21 +86,23 @@ not_wanting_too : (life : Life) (link link' : LinkState) → life ≡ Ready link
 not_wanting_too life link link' e k = let both : Ready link ≡ Wanting link' = sym e ∙ k in cc
 
 -- nothing moves there any more, where rounds have begun
-up_moved : (before : List Action) (f : Core) (w : Work) → (f.shut ≡ true → ⊥) → IsDone before f w → AreBegun w.conn.rounds w.conn.life w.conn.requests → HasMoved before f w
+up_moved : (before : List Action) (f : Core) (w : Work) → (f.shut ≡ true → ⊥) → IsDone before f w → AreBegun w.conn.rounds w.conn.again w.conn.life w.conn.requests → HasMoved before f w
 up_moved before f w awake done begun =
     let h = done.seated.up in
     let c = w.conn in
+    let served = h.going.served (ap is_ready h.life) in
     record {
       started = h.started;
       holds = h.going.sound;
       ended = h.going.ended;
-      fit = record { wanting = λ link e. absurd (not_wanting_too c.life h.link link h.life e); setup = λ link u e. absurd (not_both_lives c.life h.link link u h.life e); link = λ link e. subst (IsFit c.size c.boundary) (one_link c.life h.link link h.life e) h.fit; none = λ no. absurd (no h.link h.life) };
+      fit = record { wanting = λ link e. absurd (not_wanting_too c.life h.link link h.life e); setup = λ link u e. absurd (not_both_lives c.life h.link link u h.life e); link = λ link e. subst (IsFit c.size c.boundary) (one_link c.life h.link link h.life e) h.fit; none = λ down. absurd (not_both (serves c.life c.again) down (answered_serves c.life c.again (ap is_ready h.life) served)) };
       still = record {
         setup = λ link u e. absurd (not_both_lives c.life h.link link u h.life e);
         held = λ link e. subst (λ (x : LinkState). (x.queue ≡ []) ⊎ (holds_back x ≡ true)) (one_link c.life h.link link h.life e) h.held;
         full = λ link e. found_full c link e done.seated.full;
+        repeated = served_repeated c.again c.life served;
         renewed = h.going.renewed;
-        waiting = λ link e. done.none;
+        waiting = λ link e none. done.none;
         begun = begun;
         none_waits = λ over. absurd (not_both (has_ended c.life) (ap has_ended h.life) over);
       };
@@ -104,7 +114,7 @@ up_moved before f w awake done begun =
 rounds_moved : (before : List Action) (f : Core) (w : Work) → (f.shut ≡ true → ⊥) → IsDone before f w → HasMoved before f (rounds_begun w)
 rounds_moved before f w awake done =
     let h = done.seated.up in
-    let up = is_ready w.conn.life in
+    let up = is_serving w.conn in
     let tied = h.going.sound.tied in
     chosen (HasMoved before f) (w.conn.rounds && up) (rounds_of w w.conn.fresh) w
     (λ t.
@@ -114,8 +124,8 @@ rounds_moved before f w awake done =
     (λ none. up_moved before f w awake done (λ shows ready. absurd (not_both (w.conn.rounds && up) none (λ i. shows i && ready i))))
 
 -- all are moved there, once new credentials are told
-told_moved : (before : List Action) (f : Core) (w : Work) → (f.shut ≡ true → ⊥) → HasTold before f w → HasMoved before f (rounds_begun (admitted_all (moved_up_all (started_at w w.conn.life))))
-told_moved before f w awake h =
+told_moved : (before : List Action) (f : Core) (w : Work) → (f.shut ≡ true → ⊥) → is_outstanding w.conn.again ≡ false → HasTold before f w → HasMoved before f (rounds_begun (admitted_all (moved_up_all (started_at w w.conn.life))))
+told_moved before f w awake served h =
     let started = h.started in
     let link = h.link in
     let life = h.life in
@@ -132,6 +142,7 @@ told_moved before f w awake h =
       sound = subst (λ (x : Life). Sound (trace_of_acts before f w.acts) (record (seen f w.acts w.conn [] started) { life = x })) life h.holds;
       ended = h.ended;
       renewed = subst (HasRenewed w.conn.renewal) life h.renewed;
+      served = λ up. served;
     } in
     let up : IsUp before f v places waits [] kept = started_up before f w link places waits kept started h.fit seats going (subst (λ ns. Rising 0 (ns ++ kept) hi) (sym h.moved) line) in
     let first : IsUp before f (still_admitted v []) places waits [] kept = record { link = up.link; life = up.life; fit = up.fit; seats = up.seats; held = up.held; started = up.started; going = up.going; order = up.order } in
@@ -148,22 +159,20 @@ told_moved before f w awake h =
     (subst (λ (x : List Waiting). HasMoved before f (rounds_begun (admitted_all (moved_up_each (still_admitted v []) x)))) (sym keeps.admitted)
     (subst (λ (x : List Waiting). HasMoved before f (rounds_begun (admitted_each (still_waiting u []) x))) (sym same) all))
 
--- and all of it
-pub ready_moved : (before : List Action) (f : Core) (w : Work) (started : List ℕ) (link : LinkState) → w.conn.life ≡ Ready link → IsReady before f w started → HasMoved before f (passed w)
-ready_moved before f w started link life h = told_moved before f (renewals.renewed w) (λ over. up_awake w.conn.life w.conn.waiting link life (h.hushed over)) (renewed_told before f w started link life h.holds h.ended (h.fit.link link life) h.moved)
-
 -- elsewhere no round begins
-no_rounds : (w : Work) → is_ready w.conn.life ≡ false → rounds_begun w ≡ w
-no_rounds w down = left_if (w.conn.rounds && is_ready w.conn.life) (rounds_of w w.conn.fresh) w (ap (λ x. w.conn.rounds && x) down ∙ and-false w.conn.rounds)
+no_rounds : (w : Work) → is_serving w.conn ≡ false → rounds_begun w ≡ w
+no_rounds w down = left_if (w.conn.rounds && is_serving w.conn) (rounds_of w w.conn.fresh) w (ap (λ x. w.conn.rounds && x) down ∙ and-false w.conn.rounds)
 
--- and no new credentials are told
-unready_renewed : (w : Work) → is_ready w.conn.life ≡ false → renewals.renewed w ≡ w
-unready_renewed w down =
+-- and the driver says nothing itself
+unready_said : (w : Work) → is_ready w.conn.life ≡ false → said w ≡ w
+unready_said w down =
     let r = w.conn.renewal in
-    left_if (is_ready w.conn.life && is_due r) (renewal_moved (renewal_asked w) w.conn.life r.waiting) w (ap (λ x. x && is_due r) down)
+    ap renewals.renewed (left_if (is_ready w.conn.life && is_to_start w.conn.again) (repeat_moved (repeat_asked w) w.conn.life w.conn.again) w (ap (λ x. x && is_to_start w.conn.again) down))
+    ∙ left_if (is_ready w.conn.life && is_due r) (renewal_moved (renewal_asked w) w.conn.life r.waiting) w (ap (λ x. x && is_due r) down)
 
 -- while the connect isn't answered, or credentials are to come
 --
+-- nobody is let in
 stuck_stays : (w : Work) (qs : List Waiting) → admits_none w.conn ≡ true → admitted_each w qs ≡ still_waiting w qs
 stuck_stays w [] e = refl
 stuck_stays w (q ∷ qs) e = taken_if (admits_none w.conn) (still_waiting w (q ∷ qs)) (admitted_each (admitted w q) qs) e
@@ -171,6 +180,66 @@ stuck_stays w (q ∷ qs) e = taken_if (admits_none w.conn) (still_waiting w (q �
 -- where none waits for a place, none is moved
 none_moved_up : (w : Work) → w.conn.admitted ≡ [] → moved_up_all w ≡ w
 none_moved_up w e = ap (moved_up_each (still_admitted w [])) e ∙ ap (still_admitted w) (sym e)
+
+-- and nothing starts of an empty queue
+none_started : (w : Work) (link : LinkState) → w.conn.life ≡ Ready link → link.queue ≡ [] → started_at w w.conn.life ≡ w
+none_started w link life empty =
+    ap (started_at w) life ∙ ap (λ (qs : List Queued). starts_with w (started_each (record { link = link; out = [] }) qs)) empty
+    ∙ ap (λ (qs : List Queued). with_link w (with_queue link qs)) (sym empty) ∙ ap (at_life w) (sym life)
+
+-- on a link that is set up, while what is subscribed again there isn't answered, nothing moves but what the driver says itself
+repeating_same : (w v : Work) (link : LinkState) → said w ≡ v → v.conn.life ≡ Ready link → link.queue ≡ [] → v.conn.admitted ≡ [] → is_outstanding v.conn.again ≡ true → passed w ≡ v
+repeating_same w v link says life empty nobody goes =
+    ap (λ (x : Work). rounds_begun (admitted_all (moved_up_all (started_at x x.conn.life)))) says
+    ∙ ap (λ (x : Work). rounds_begun (admitted_all (moved_up_all x))) (none_started v link life empty) ∙ ap (λ (x : Work). rounds_begun (admitted_all x)) (none_moved_up v nobody)
+    ∙ ap rounds_begun (stuck_stays (still_waiting v []) v.conn.waiting (ap (λ (x : Life). admits_none_at x (is_outstanding v.conn.again || none_free)) life ∙ ap (λ x. x || none_free) goes))
+    ∙ no_rounds v (outstanding_serves v.conn.life v.conn.again goes)
+  where
+    none_free : Bool
+    none_free = has_no_permit v.conn.limit v.conn.free
+
+repeating_moved : (before : List Action) (f : Core) (w : Work) → (f.shut ≡ true → ⊥) → w.conn.admitted ≡ [] → is_outstanding w.conn.again ≡ true → HasTold before f (said w) → HasMoved before f (passed w)
+repeating_moved before f w awake none open_is h =
+    let v = said w in
+    let c = v.conn in
+    let alone = said_alone w in
+    let goes : is_outstanding c.again ≡ true = alone.goes ∙ open_is in
+    let nobody : c.admitted ≡ [] = alone.admitted ∙ none in
+    let early = h.holds.tied.early (outstanding_serves c.life c.again goes) (ap has_ended h.life) in
+    let empty : h.link.queue ≡ [] = ap (λ (x : Life). (link_in x).queue) (sym h.life) ∙ early.empty in
+    subst (HasMoved before f) (sym (repeating_same w v h.link refl h.life empty nobody goes)) (record {
+      started = h.started;
+      holds = h.holds;
+      ended = h.ended;
+      fit = record {
+        wanting = λ x e. absurd (not_wanting_too c.life h.link x h.life e);
+        setup = λ x u e. absurd (not_both_lives c.life h.link x u h.life e);
+        link = λ x e. subst (IsFit c.size c.boundary) (one_link c.life h.link x h.life e) h.fit;
+        none = λ down. nobody;
+      };
+      still = record {
+        setup = λ x u e. absurd (not_both_lives c.life h.link x u h.life e);
+        held = λ x e. inl (ap (λ (y : LinkState). y.queue) (sym (one_link c.life h.link x h.life e)) ∙ empty);
+        full = λ x e. inl nobody;
+        repeated = h.repeated;
+        renewed = h.renewed;
+        waiting = λ x e served. absurd (not_both (is_outstanding c.again) served goes);
+        begun = λ shows up. absurd (not_both (serves c.life c.again) (outstanding_serves c.life c.again goes) up);
+        none_waits = λ over. absurd (not_both (has_ended c.life) (ap has_ended h.life) over);
+      };
+      hushed = λ over. absurd (awake over);
+      seats = λ p i. absurd (subst (IsIn p) h.moved i);
+    })
+
+-- so all are moved on a link that is set up
+pub ready_moved : (before : List Action) (f : Core) (w : Work) (started : List ℕ) (link : LinkState) → w.conn.life ≡ Ready link → IsReady before f w started → HasMoved before f (passed w)
+ready_moved before f w started link life h =
+    let awake : f.shut ≡ true → ⊥ = λ over. up_awake w.conn.life w.conn.waiting link life (h.hushed over) in
+    let r = repeated_on before f w started link life h.holds h.ended (h.fit.link link life) h.moved in
+    let told = renewed_told before f (repeated w) r.started r.link r.life r.holds r.ended r.fit r.moved r.repeated in
+    by_test (is_outstanding w.conn.again) (HasMoved before f (passed w))
+    (λ goes. repeating_moved before f w awake (h.fit.none (outstanding_serves w.conn.life w.conn.again goes)) goes told)
+    (λ served. told_moved before f (said w) awake ((said_alone w).goes ∙ served) told)
 
 -- nothing of a connection can move: no message starts, and nobody who waits for the connection is let in
 record IsStuck (w : Work) : Type 0 where
@@ -184,14 +253,14 @@ record IsStuck (w : Work) : Type 0 where
 -- so the passes leave it
 stuck_same : (w : Work) → IsStuck w → w.conn.admitted ≡ [] → passed w ≡ w
 stuck_same w stuck none =
-    ap (λ (x : Work). rounds_begun (admitted_all (moved_up_all (started_at x x.conn.life)))) (unready_renewed w stuck.unready)
+    ap (λ (x : Work). rounds_begun (admitted_all (moved_up_all (started_at x x.conn.life)))) (unready_said w stuck.unready)
     ∙ ap (λ (x : Work). rounds_begun (admitted_all (moved_up_all x))) stuck.none_starts ∙ ap (λ (x : Work). rounds_begun (admitted_all x)) (none_moved_up w none) ∙ ap rounds_begun (stuck_stays (still_waiting w []) w.conn.waiting stuck.admits)
-    ∙ no_rounds w stuck.unready
+    ∙ no_rounds w (unready_serves w.conn.life w.conn.again stuck.unready)
 
 -- all stays there
 stuck_moved : (before : List Action) (f : Core) (w : Work) (started : List ℕ) → IsStuck w → IsReady before f w started → HasMoved before f (passed w)
 stuck_moved before f w started stuck h =
-    subst (HasMoved before f) (sym (stuck_same w stuck (h.fit.none stuck.down))) (record {
+    subst (HasMoved before f) (sym (stuck_same w stuck (h.fit.none (unready_serves w.conn.life w.conn.again stuck.unready)))) (record {
       started = started;
       holds = h.holds;
       ended = h.ended;
@@ -200,9 +269,10 @@ stuck_moved before f w started stuck h =
         setup = λ link u e. absurd (stuck.unset link u e);
         held = λ link e. absurd (stuck.down link e);
         full = λ link e. absurd (stuck.down link e);
+        repeated = down_repeated w.conn.again w.conn.life stuck.unready;
         renewed = λ link e. absurd (stuck.down link e);
-        waiting = λ link e. absurd (stuck.down link e);
-        begun = λ shows up. absurd (not_both (is_ready w.conn.life) stuck.unready up);
+        waiting = λ link e none. absurd (stuck.down link e);
+        begun = λ shows up. absurd (not_both (is_ready w.conn.life) stuck.unready (serves_ready w.conn.life w.conn.again up));
         none_waits = λ over. absurd (not_both (has_ended w.conn.life) stuck.alive over);
       };
       hushed = h.hushed;
@@ -214,7 +284,7 @@ resting_stuck : (w : Work) → w.conn.life ≡ Resting → IsStuck w
 resting_stuck w life = record {
   unready = ap is_ready life;
   none_starts = ap (started_at w) life;
-  admits = ap (λ (x : Life). admits_none_at x (has_no_permit w.conn.limit w.conn.free)) life;
+  admits = ap (λ (x : Life). admits_none_at x (is_outstanding w.conn.again || has_no_permit w.conn.limit w.conn.free)) life;
   down = λ link e. (let no : Resting ≡ Ready link = sym life ∙ e in cc);
   unset = λ link u e. (let no : Resting ≡ SettingUp link u = sym life ∙ e in cc);
   alive = ap has_ended life;
@@ -229,7 +299,7 @@ dialing_stuck : (w : Work) → w.conn.life ≡ Dialing → IsStuck w
 dialing_stuck w life = record {
   unready = ap is_ready life;
   none_starts = ap (started_at w) life;
-  admits = ap (λ (x : Life). admits_none_at x (has_no_permit w.conn.limit w.conn.free)) life;
+  admits = ap (λ (x : Life). admits_none_at x (is_outstanding w.conn.again || has_no_permit w.conn.limit w.conn.free)) life;
   down = λ link e. (let no : Dialing ≡ Ready link = sym life ∙ e in cc);
   unset = λ link u e. (let no : Dialing ≡ SettingUp link u = sym life ∙ e in cc);
   alive = ap has_ended life;
@@ -240,7 +310,7 @@ wanting_stuck : (w : Work) (link : LinkState) → w.conn.life ≡ Wanting link �
 wanting_stuck w link life = record {
   unready = ap is_ready life;
   none_starts = ap (started_at w) life;
-  admits = ap (λ (x : Life). admits_none_at x (has_no_permit w.conn.limit w.conn.free)) life;
+  admits = ap (λ (x : Life). admits_none_at x (is_outstanding w.conn.again || has_no_permit w.conn.limit w.conn.free)) life;
   down = λ x e. (let no : Wanting link ≡ Ready x = sym life ∙ e in cc);
   unset = λ x u e. (let no : Wanting link ≡ SettingUp x u = sym life ∙ e in cc);
   alive = ap has_ended life;
@@ -251,15 +321,15 @@ wanting_stuck w link life = record {
 -- the setup starts, and all else stays
 setting_moved : (before : List Action) (f : Core) (w : Work) (started : List ℕ) (link : LinkState) (greeting : Greeting) → w.conn.life ≡ SettingUp link greeting → IsReady before f w started → HasMoved before f (passed w)
 setting_moved before f w started link greeting life h =
-    let none = h.fit.none (λ x e. absurd (not_both_lives w.conn.life x link greeting e life)) in
+    let none = h.fit.none (unready_serves w.conn.life w.conn.again (ap is_ready life)) in
     let v = started_at w (SettingUp link greeting) in
-    let begun = setting_begun before f w started link greeting life (h.fit.setup link greeting life) none (record { sound = h.holds; ended = h.ended; renewed = λ x e. absurd (not_both_lives w.conn.life x link greeting e life) }) in
+    let begun = setting_begun before f w started link greeting life (h.fit.setup link greeting life) none (record { sound = h.holds; ended = h.ended; renewed = λ x e. absurd (not_both_lives w.conn.life x link greeting e life); served = λ up. absurd (not_both (is_ready w.conn.life) (ap is_ready life) up) }) in
     let c = v.conn in
     let down : (x : LinkState) → c.life ≡ Ready x → ⊥ = λ x e. not_both_lives c.life x begun.link greeting e begun.life in
     let same : passed w ≡ v =
-    ap (λ (x : Work). rounds_begun (admitted_all (moved_up_all (started_at x x.conn.life)))) (unready_renewed w (ap is_ready life))
+    ap (λ (x : Work). rounds_begun (admitted_all (moved_up_all (started_at x x.conn.life)))) (unready_said w (ap is_ready life))
     ∙ ap (λ (x : Life). rounds_begun (admitted_all (moved_up_all (started_at w x)))) life ∙ ap (λ (x : Work). rounds_begun (admitted_all x)) (none_moved_up v begun.admitted)
-    ∙ ap rounds_begun (stuck_stays (still_waiting v []) c.waiting (ap (λ (x : Life). admits_none_at x (has_no_permit c.limit c.free)) begun.life)) ∙ no_rounds v (ap is_ready begun.life) in
+    ∙ ap rounds_begun (stuck_stays (still_waiting v []) c.waiting (ap (λ (x : Life). admits_none_at x (is_outstanding c.again || has_no_permit c.limit c.free)) begun.life)) ∙ no_rounds v (unready_serves c.life c.again (ap is_ready begun.life)) in
     subst (HasMoved before f) (sym same) (record {
       started = started;
       holds = begun.going.sound;
@@ -268,15 +338,16 @@ setting_moved before f w started link greeting life h =
         wanting = λ x e. absurd (let no : SettingUp begun.link greeting ≡ Wanting x = sym begun.life ∙ e in cc);
         setup = λ x u e. subst (IsFit c.size c.boundary) (one_setting c.life begun.link x greeting u begun.life e) begun.fit;
         link = λ x e. absurd (down x e);
-        none = λ no. begun.admitted;
+        none = λ down. begun.admitted;
       };
       still = record {
         setup = λ x u e. subst (λ (y : LinkState). (y.queue ≡ []) ⊎ (holds_back y ≡ true)) (one_setting c.life begun.link x greeting u begun.life e) begun.held;
         held = λ x e. absurd (down x e);
         full = λ x e. absurd (down x e);
+        repeated = down_repeated c.again c.life (ap is_ready begun.life);
         renewed = λ x e. absurd (down x e);
-        waiting = λ x e. absurd (down x e);
-        begun = λ shows up. absurd (not_both (is_ready c.life) (ap is_ready begun.life) up);
+        waiting = λ x e none. absurd (down x e);
+        begun = λ shows up. absurd (not_both (is_ready c.life) (ap is_ready begun.life) (serves_ready c.life c.again up));
         none_waits = λ over. absurd (not_both (has_ended c.life) (ap has_ended begun.life) over);
       };
       hushed = λ over. absurd (set_awake w.conn.life w.conn.waiting link greeting life (h.hushed over));
@@ -325,7 +396,7 @@ admitted_over w e q over h =
 each_over : (w : Work) (e : RedisError) (qs : List Waiting) → w.conn.life ≡ Ended e → OpenWaits w.conn.requests → admitted_each w qs ≡ still_waiting (failed_each w e qs) []
 each_over w e [] over h = refl
 each_over w e (q ∷ qs) over h =
-    left_if (admits_none w.conn) _ (admitted_each (admitted w q) qs) (ap (λ (x : Life). admits_none_at x (has_no_permit w.conn.limit w.conn.free)) over)
+    left_if (admits_none w.conn) _ (admitted_each (admitted w q) qs) (ap (λ (x : Life). admits_none_at x (is_outstanding w.conn.again || has_no_permit w.conn.limit w.conn.free)) over)
     ∙ ap (λ (x : Work). admitted_each x qs) (admitted_over w e q over h)
     ∙ each_over (answered w q.number (outcome.Fault e)) e qs ((answered_leaves w q.number (outcome.Fault e)).life ∙ over) (answered_waits w q.number (outcome.Fault e) h)
 
@@ -334,11 +405,11 @@ passed_over_is : (w : Work) (e : RedisError) → w.conn.life ≡ Ended e → w.c
 passed_over_is w e over empty h =
     let v = nobody_waits w in
     let c = failed_each v e w.conn.waiting in
-    ap (λ (x : Work). rounds_begun (admitted_all (moved_up_all (started_at x x.conn.life)))) (unready_renewed w (ap is_ready over))
+    ap (λ (x : Work). rounds_begun (admitted_all (moved_up_all (started_at x x.conn.life)))) (unready_said w (ap is_ready over))
     ∙ ap (λ (x : Life). rounds_begun (admitted_all (moved_up_all (started_at w x)))) over
     ∙ ap (λ ws. rounds_begun (admitted_all (moved_up_each (still_admitted w []) ws))) empty
     ∙ ap rounds_begun (each_over v e w.conn.waiting over h)
-    ∙ no_rounds (still_waiting c []) (ap is_ready ((failed_leaves v e w.conn.waiting).life ∙ over))
+    ∙ no_rounds (still_waiting c []) (unready_serves c.conn.life c.conn.again (ap is_ready ((failed_leaves v e w.conn.waiting).life ∙ over)))
     ∙ ap (λ ws. record c { conn = record c.conn { waiting = ws } }) (sym (failed_leaves v e w.conn.waiting).waiting)
     ∙ ap (λ ws. failed_each (failed_each v e ws) e w.conn.waiting) (sym empty)
 
@@ -349,14 +420,14 @@ over_moved before f w e started over h =
     let u = waiting_failed w e in
     let done = waiting_ends before f w e started h.holds over in
     let ends = after_end (book (trace_of_acts before f u.acts)) (seen f u.acts u.conn [] started) done.holds.tied (ap has_ended done.over) in
-    let empty = h.fit.none (λ link r. (let no : Ended e ≡ Ready link = sym over ∙ r in cc)) in
+    let empty = h.fit.none (unready_serves w.conn.life w.conn.again (ap is_ready over)) in
     let down : (link : LinkState) → u.conn.life ≡ Ready link → ⊥ = λ link r. (let no : Ended e ≡ Ready link = sym done.over ∙ r in cc) in
     subst (HasMoved before f) (sym (passed_over_is w e over empty (open_waits (book (trace_of_acts before f w.acts)) t e h.holds.tied refl over empty))) (record {
       started = started;
       holds = done.holds;
       ended = ends.0;
       fit = record { wanting = λ link r. absurd (over_wanting link (sym done.over ∙ r)); setup = λ link u r. absurd (over_setting link u (sym done.over ∙ r)); link = λ link r. absurd (down link r); none = λ no. done.none_admitted };
-      still = record { setup = λ link u r. absurd (over_setting link u (sym done.over ∙ r)); held = λ link r. absurd (down link r); full = λ link r. absurd (down link r); renewed = λ link r. absurd (down link r); waiting = λ link r. absurd (down link r); begun = λ shows up. absurd (not_both (is_ready u.conn.life) (ap is_ready done.over) up); none_waits = λ no. done.none_waits };
+      still = record { setup = λ link u r. absurd (over_setting link u (sym done.over ∙ r)); held = λ link r. absurd (down link r); full = λ link r. absurd (down link r); repeated = down_repeated u.conn.again u.conn.life (ap is_ready done.over); renewed = λ link r. absurd (down link r); waiting = λ link r none. absurd (down link r); begun = λ shows up. absurd (not_both (is_ready u.conn.life) (ap is_ready done.over) (serves_ready u.conn.life u.conn.again up)); none_waits = λ no. done.none_waits };
       hushed = λ shut. subst (λ (x : Life). IsStopped x u.conn.waiting) (sym done.over) tt;
       seats = λ p i k. absurd (subst (λ (x : Life). IsIn p (queue_ids (link_in x).queue)) done.over k);
     })

@@ -1,11 +1,11 @@
 -- Requests by their numbers, and their names.
-use Rattle.std.proofs.Common.{◌≡◌, ◌≢◌, ◌⊎◌, inl, inr, ℕ, zero, suc, ◌^◌, ◌<◌, ◌==◌, nat_lt, if◌then◌else◌, Bool, true, false, List, [], ◌∷◌, ◌++◌, length, Option, Some, None, slice_get, slice_set, refl, sym, ap, ◌∙◌, subst, arith, length-set}
+use Rattle.std.proofs.Common.{◌≡◌, ◌≢◌, ◌⊎◌, inl, inr, ℕ, zero, suc, ◌<◌, ◌==◌, nat_lt, if◌then◌else◌, Bool, true, false, List, [], ◌∷◌, ◌++◌, length, Option, Some, None, slice_get, slice_set, refl, sym, ap, ◌∙◌, subst, arith, length-set, ◌||◌}
 use Rattle.containers.proofs.Places.{get_set_same, get_set_other, get_within}
 use Rattle.std.proofs.lemmas.List.{length_push}
-use Rattle.containers.proofs.Choices.{by_test, chosen, taken_if, left_if, not_both, eq_from, ne_from, ne_test, lt_from, not_lt_from}
+use Rattle.containers.proofs.Choices.{by_test, chosen, taken_if, left_if, not_both, eq_from, ne_from, lt_from, not_lt_from, eq_test}
 use Rattle.driver_model.specs.declared.action.Owner.{Owner}
 use Rattle.driver_model.specs.declared.action.Owner.TheVariants as owner
-use Rattle.legal_trace.specs.Ledger.{is_of_setup}
+use Rattle.legal_trace.specs.Ledger.{is_of_setup, Ledger}
 use Rattle.link_laws.proofs.Lists.{get_before, get_last}
 use Rattle.mux_conn.specs.declared.request.Pending.{Pending}
 use Rattle.mux_conn.specs.declared.request.Progress.{Progress}
@@ -16,9 +16,8 @@ use Rattle.legal_trace.specs.Book.{Book, hearing_in, kind_in}
 use Rattle.mux_conn.specs.Connection.{is_resting}
 use Rattle.mux_conn.specs.declared.life.Life.{Life}
 use Rattle.mux_conn.specs.declared.life.Life.TheVariants.{Resting, Dialing, Wanting, SettingUp, Ready, Ended}
-use Rattle.legal_trace.specs.Ledger.{Ledger}
 use Rattle.session_laws.proofs.Server.{hearing_on}
-use Rattle.session_laws.proofs.Tied.{owner_of, Inner, Tied, TiedLife, TiedNames}
+use Rattle.session_laws.proofs.Tied.{owner_of, Inner, Tied, TiedLife, TiedNames, own_owner}
 use Rattle.driver_model.specs.Hearing.{is_watching}
 use Rattle.driver_model.specs.declared.kind.SessionKind.{SessionKind}
 use Rattle.driver_model.specs.declared.kind.SessionKind.TheVariants as session
@@ -26,6 +25,8 @@ use Rattle.driver_model.specs.Config as Configs
 use Rattle.driver_model.specs.declared.config.Config.{Config}
 use Rattle.driver_model.specs.declared.event.Submission.{Submission}
 use Rattle.driver_model.specs.Request.{has_no_form}
+use Rattle.session_laws.proofs.Numbers.{is_own, below_own, auth_is_own, repeat_is_own, repeat_other}
+use Rattle.mux_conn.specs.Repeats.{repeat_id}
 
 -- what stands at a place within
 pub get_some : {X : Type 0} (xs : List X) (n : ℕ) → n < length xs → (x : X) × (slice_get xs n ≡ Some x)
@@ -70,7 +71,7 @@ name_still requests p now m = name_with requests p now (permits_at requests p) m
 
 -- and so do owners
 pub owners_with : (requests : List Request) (p : ℕ) (now : Progress) (count : ℕ) → owner_of (with_permits requests p now count) ≡ owner_of requests
-owners_with requests p now count = λ i m. if m == renewal_id then owner.Auth else owner.Try (name_with requests p now count m i) 0
+owners_with requests p now count = λ i m. if is_own m then own_owner m else owner.Try (name_with requests p now count m i) 0
 
 -- the same where permits stay
 pub owners_still : (requests : List Request) (p : ℕ) (now : Progress) → owner_of (at_progress requests p now) ≡ owner_of requests
@@ -256,14 +257,11 @@ names_asked table requests now h =
       ];
     }
 
--- requests, and AUTH
+-- requests, and what the driver says itself
 --
--- no request has AUTH's number
-pub request_not : (b : Book) (t : Inner) (p : ℕ) → Tied b t → p < length t.requests → p ≢ renewal_id
-request_not b t p h within = few_not p (let few = h.names.few in let all = h.numbers.few in omega arith)
-  where
-    few_not : (p : ℕ) → p < 2 ^ 32 → p ≢ renewal_id
-    few_not p less e = omega (arith, less, e)
+-- no request has the number of a message of the driver's own
+pub request_not : (b : Book) (t : Inner) (p : ℕ) → Tied b t → p < length t.requests → is_own p ≡ false
+request_not b t p h within = below_own p (let few = h.names.few in let all = h.numbers.few in omega arith)
 
 -- a link that was never asked for isn't put into monitor mode
 resting_unwatched : (l : Ledger) (created : ℕ) (life : Life) → is_resting life ≡ true → TiedLife l created life → is_watching l.hearing ≡ false
@@ -304,31 +302,49 @@ submits_unwatched b t what h form w =
     not_both (has_no_form t.kind what) form (ap (λ (x : SessionKind). has_no_form x what) is)
 
 -- so its message is its submission's
-pub owner_below : (requests : List Request) (p : ℕ) → p ≢ renewal_id → owner_of requests p ≡ owner.Try (name_at requests p) 0
-owner_below requests p other = left_if (p == renewal_id) owner.Auth (owner.Try (name_at requests p) 0) (ne_test p renewal_id other)
+pub owner_below : (requests : List Request) (p : ℕ) → is_own p ≡ false → owner_of requests p ≡ owner.Try (name_at requests p) 0
+owner_below requests p other = left_if (is_own p) (own_owner p) (owner.Try (name_at requests p) 0) other
 
 -- no such message is a setup
 pub owner_no_setup : (requests : List Request) (p : ℕ) → is_of_setup (owner_of requests p) ≡ false
-owner_no_setup requests p = chosen (λ (o : Owner). is_of_setup o ≡ false) (p == renewal_id) owner.Auth (owner.Try (name_at requests p) 0) (λ t. refl) (λ f. refl)
+owner_no_setup requests p = chosen (λ (o : Owner). is_of_setup o ≡ false) (is_own p) (own_owner p) (owner.Try (name_at requests p) 0) (λ t. chosen (λ (o : Owner). is_of_setup o ≡ false) (p == renewal_id) owner.Auth owner.Resub (λ a. refl) (λ r. refl)) (λ f. refl)
 
 -- AUTH's is AUTH
+pub owner_of_auth : (requests : List Request) (p : ℕ) → p ≡ renewal_id → owner_of requests p ≡ owner.Auth
+owner_of_auth requests p e = taken_if (is_own p) (own_owner p) (owner.Try (name_at requests p) 0) (auth_is_own p e) ∙ taken_if (p == renewal_id) owner.Auth owner.Resub (eq_test p renewal_id e)
+
+-- and that of what is subscribed again is
+pub owner_of_repeat : (requests : List Request) (p : ℕ) → p ≡ repeat_id → owner_of requests p ≡ owner.Resub
+owner_of_repeat requests p e = taken_if (is_own p) (own_owner p) (owner.Try (name_at requests p) 0) (repeat_is_own p e) ∙ left_if (p == renewal_id) owner.Auth owner.Resub (repeat_other p e)
+
+-- which message is the driver's own
+own_kind : (requests : List Request) (p : ℕ) → is_own p ≡ true → ((p ≡ renewal_id) × (owner_of requests p ≡ owner.Auth)) ⊎ ((p ≡ repeat_id) × (owner_of requests p ≡ owner.Resub))
+own_kind requests p own = by_test (p == renewal_id) _
+    (λ t. let e = eq_from p renewal_id t in inl (e, owner_of_auth requests p e))
+    (λ f. let e = eq_from p repeat_id (sym (ap (λ b. b || (p == repeat_id)) f) ∙ own) in inr (e, owner_of_repeat requests p e))
+
+-- AUTH's owner has AUTH's number
 pub auth_owner : (requests : List Request) (p : ℕ) → owner_of requests p ≡ owner.Auth → p ≡ renewal_id
-auth_owner requests p e = by_test (p == renewal_id) (p ≡ renewal_id) (eq_from p renewal_id)
-    (λ f. absurd (no_auth (name_at requests p) (sym (left_if (p == renewal_id) owner.Auth (owner.Try (name_at requests p) 0) f) ∙ e)))
-  where
-    no_auth : (n : ℕ) → owner.Try n 0 ≡ owner.Auth → ⊥
-    no_auth n e = cc
+auth_owner requests p e = by_test (is_own p) (p ≡ renewal_id)
+    (λ t. elim (own_kind requests p t) [ inl a ↦ a.0 | inr r ↦ absurd (let no : owner.Resub ≡ owner.Auth = sym r.1 ∙ e in cc) ])
+    (λ f. absurd (let no : owner.Try (name_at requests p) 0 ≡ owner.Auth = sym (owner_below requests p f) ∙ e in cc))
+
+-- and so it is with what is subscribed again
+pub repeat_owner : (requests : List Request) (p : ℕ) → owner_of requests p ≡ owner.Resub → p ≡ repeat_id
+repeat_owner requests p e = by_test (is_own p) (p ≡ repeat_id)
+    (λ t. elim (own_kind requests p t) [ inl a ↦ absurd (let no : owner.Auth ≡ owner.Resub = sym a.1 ∙ e in cc) | inr r ↦ r.0 ])
+    (λ f. absurd (let no : owner.Try (name_at requests p) 0 ≡ owner.Resub = sym (owner_below requests p f) ∙ e in cc))
 
 -- and one that is a request's is of a request of that name
-pub request_owner : (requests : List Request) (p q : ℕ) → q ≢ renewal_id → owner_of requests p ≡ owner_of requests q → (p ≢ renewal_id) × (name_at requests p ≡ name_at requests q)
+pub request_owner : (requests : List Request) (p q : ℕ) → is_own q ≡ false → owner_of requests p ≡ owner_of requests q → (is_own p ≡ false) × (name_at requests p ≡ name_at requests q)
 request_owner requests p q other e =
     let same = e ∙ owner_below requests q other in
-    by_test (p == renewal_id) ((p ≢ renewal_id) × (name_at requests p ≡ name_at requests q))
-    (λ t. absurd (no_try (name_at requests q) (sym (taken_if (p == renewal_id) owner.Auth (owner.Try (name_at requests p) 0) t) ∙ same)))
-    (λ f. (ne_from p renewal_id f, one_name (name_at requests p) (name_at requests q) (sym (left_if (p == renewal_id) owner.Auth (owner.Try (name_at requests p) 0) f) ∙ same)))
+    by_test (is_own p) ((is_own p ≡ false) × (name_at requests p ≡ name_at requests q))
+    (λ t. elim (own_kind requests p t) [
+      | inl a ↦ absurd (let no : owner.Auth ≡ owner.Try (name_at requests q) 0 = sym a.1 ∙ same in cc)
+      | inr r ↦ absurd (let no : owner.Resub ≡ owner.Try (name_at requests q) 0 = sym r.1 ∙ same in cc)
+    ])
+    (λ f. (f, one_name (name_at requests p) (name_at requests q) (sym (owner_below requests p f) ∙ same)))
   where
-    no_try : (n : ℕ) → owner.Auth ≡ owner.Try n 0 → ⊥
-    no_try n e = cc
-
     one_name : (m n : ℕ) → owner.Try m 0 ≡ owner.Try n 0 → m ≡ n
     one_name m n e = cc

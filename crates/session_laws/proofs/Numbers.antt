@@ -1,7 +1,8 @@
 -- Numbers that rise.
-use Rattle.std.proofs.Common.{◌≡◌, ◌≢◌, ◌⊎◌, inl, inr, ℕ, suc, ◌+◌, ◌<◌, ◌≤◌, ◌==◌, Bool, true, false, if◌then◌else◌, List, [], ◌∷◌, ◌++◌, refl, sym, ap, ◌∙◌, subst, arith}
-use Rattle.containers.proofs.Choices.{by_test, chosen, if_false, left_if, taken_if, ne_from, eq_test, ne_test}
+use Rattle.std.proofs.Common.{◌≡◌, ◌⊎◌, inl, inr, ℕ, suc, ◌+◌, ◌<◌, ◌≤◌, ◌^◌, ◌==◌, Bool, true, false, ◌||◌, if◌then◌else◌, List, [], ◌∷◌, ◌++◌, refl, sym, ap, ◌∙◌, subst, arith}
+use Rattle.containers.proofs.Choices.{by_test, chosen, if_false, left_if, taken_if, eq_test, ne_test}
 use Rattle.mux_conn.specs.Renewals.{renewal_id}
+use Rattle.mux_conn.specs.Repeats.{repeat_id}
 
 abbrev pub IsIn : ℕ → List ℕ → Type 0
 IsIn n [] = ⊥
@@ -68,54 +69,80 @@ pub rising_tail : (lo : ℕ) (xs ys zs : List ℕ) (hi : ℕ) → ((low : ℕ) �
 rising_tail lo [] ys zs hi f h = f lo h
 rising_tail lo (x ∷ xs) ys zs hi f h = (h.0, rising_tail (suc x) xs ys zs hi f h.1)
 
--- the numbers of messages that are requests', in order: AUTH is left out
+-- messages of the driver's own
+--
+-- the number of one on a link that is set up: AUTH's, or that of what is subscribed again
+abbrev pub is_own : ℕ → Bool
+is_own n = (n == renewal_id) || (n == repeat_id)
+
+-- AUTH's is
+pub auth_is_own : (n : ℕ) → n ≡ renewal_id → is_own n ≡ true
+auth_is_own n e = ap (λ b. b || (n == repeat_id)) (eq_test n renewal_id e)
+
+-- and so is the other
+pub repeat_is_own : (n : ℕ) → n ≡ repeat_id → is_own n ≡ true
+repeat_is_own n e = ap (λ b. (n == renewal_id) || b) (eq_test n repeat_id e) ∙ or_true (n == renewal_id)
+  where
+    or_true : (b : Bool) → (b || true) ≡ true
+    or_true true = refl
+    or_true false = refl
+
+-- which isn't AUTH's
+pub repeat_other : (n : ℕ) → n ≡ repeat_id → (n == renewal_id) ≡ false
+repeat_other n e = ne_test n renewal_id (λ same. omega (arith, e, same))
+
+-- no number below them is
+pub below_own : (n : ℕ) → n < 2 ^ 32 → is_own n ≡ false
+below_own n less = (λ i. ne_test n renewal_id (λ same. omega (arith, less, same)) i || ne_test n repeat_id (λ same. omega (arith, less, same)) i)
+
+-- the numbers of messages that are requests', in order: the driver's own are left out
 --
 abbrev pub requests_in : List ℕ → List ℕ
 requests_in [] = []
-requests_in (p ∷ ps) = if p == renewal_id then requests_in ps else p ∷ requests_in ps
+requests_in (p ∷ ps) = if is_own p then requests_in ps else p ∷ requests_in ps
 
 -- of these, and then of those
 pub requests_in-append : (xs ys : List ℕ) → requests_in (xs ++ ys) ≡ requests_in xs ++ requests_in ys
 requests_in-append [] ys = refl
 requests_in-append (x ∷ xs) ys =
-    chosen_append (x == renewal_id) (requests_in xs) (requests_in (xs ++ ys)) (requests_in-append xs ys)
+    chosen_append (is_own x) (requests_in xs) (requests_in (xs ++ ys)) (requests_in-append xs ys)
   where
     chosen_append : (b : Bool) (zs all : List ℕ) → all ≡ zs ++ requests_in ys → (if b then all else x ∷ all) ≡ (if b then zs else x ∷ zs) ++ requests_in ys
     chosen_append true zs all e = e
     chosen_append false zs all e = ap (λ ns. x ∷ ns) e
 
 -- a request's number is one of them
-pub request_in : (n : ℕ) (xs : List ℕ) → n ≢ renewal_id → IsIn n xs → IsIn n (requests_in xs)
+pub request_in : (n : ℕ) (xs : List ℕ) → is_own n ≡ false → IsIn n xs → IsIn n (requests_in xs)
 request_in n [] other i = i
 request_in n (x ∷ xs) other (inl e) =
-    if_false (IsIn n) (x == renewal_id) (requests_in xs) (x ∷ requests_in xs) (ne_test x renewal_id (λ same. other (sym e ∙ same))) (inl e)
+    if_false (IsIn n) (is_own x) (requests_in xs) (x ∷ requests_in xs) (ap is_own e ∙ other) (inl e)
 request_in n (x ∷ xs) other (inr i) =
     let rest = request_in n xs other i in
-    chosen (IsIn n) (x == renewal_id) (requests_in xs) (x ∷ requests_in xs) (λ t. rest) (λ f. inr rest)
+    chosen (IsIn n) (is_own x) (requests_in xs) (x ∷ requests_in xs) (λ t. rest) (λ f. inr rest)
 
 -- each of them is one of all
 pub request_of : (n : ℕ) (xs : List ℕ) → IsIn n (requests_in xs) → IsIn n xs
 request_of n [] i = i
-request_of n (x ∷ xs) i = by_test (x == renewal_id) (IsIn n (x ∷ xs))
-    (λ t. inr (request_of n xs (subst (IsIn n) (taken_if (x == renewal_id) (requests_in xs) (x ∷ requests_in xs) t) i)))
-    (λ f. elim (subst (IsIn n) (left_if (x == renewal_id) (requests_in xs) (x ∷ requests_in xs) f) i) [ inl e ↦ inl e | inr j ↦ inr (request_of n xs j) ])
+request_of n (x ∷ xs) i = by_test (is_own x) (IsIn n (x ∷ xs))
+    (λ t. inr (request_of n xs (subst (IsIn n) (taken_if (is_own x) (requests_in xs) (x ∷ requests_in xs) t) i)))
+    (λ f. elim (subst (IsIn n) (left_if (is_own x) (requests_in xs) (x ∷ requests_in xs) f) i) [ inl e ↦ inl e | inr j ↦ inr (request_of n xs j) ])
 
--- and none is AUTH's
-pub request_other : (n : ℕ) (xs : List ℕ) → IsIn n (requests_in xs) → n ≢ renewal_id
+-- and none is the driver's own
+pub request_other : (n : ℕ) (xs : List ℕ) → IsIn n (requests_in xs) → is_own n ≡ false
 request_other n [] i = absurd i
-request_other n (x ∷ xs) i = by_test (x == renewal_id) (n ≢ renewal_id)
-    (λ t. request_other n xs (subst (IsIn n) (taken_if (x == renewal_id) (requests_in xs) (x ∷ requests_in xs) t) i))
-    (λ f. elim (subst (IsIn n) (left_if (x == renewal_id) (requests_in xs) (x ∷ requests_in xs) f) i) [ inl e ↦ (λ same. ne_from x renewal_id f (e ∙ same)) | inr j ↦ request_other n xs j ])
+request_other n (x ∷ xs) i = by_test (is_own x) (is_own n ≡ false)
+    (λ t. request_other n xs (subst (IsIn n) (taken_if (is_own x) (requests_in xs) (x ∷ requests_in xs) t) i))
+    (λ f. elim (subst (IsIn n) (left_if (is_own x) (requests_in xs) (x ∷ requests_in xs) f) i) [ inl e ↦ sym (ap is_own e) ∙ f | inr j ↦ request_other n xs j ])
 
--- AUTH first leaves them
-pub requests_behind : (xs : List ℕ) → requests_in (renewal_id ∷ xs) ≡ requests_in xs
-requests_behind xs = taken_if (renewal_id == renewal_id) (requests_in xs) (renewal_id ∷ requests_in xs) (eq_test renewal_id renewal_id refl)
+-- the driver's own first leaves them
+pub requests_behind : (n : ℕ) (xs : List ℕ) → is_own n ≡ true → requests_in (n ∷ xs) ≡ requests_in xs
+requests_behind n xs own = taken_if (is_own n) (requests_in xs) (n ∷ requests_in xs) own
 
 -- and a request's number comes first
-pub requests_first : (n : ℕ) (xs : List ℕ) → n ≢ renewal_id → requests_in (n ∷ xs) ≡ n ∷ requests_in xs
-requests_first n xs other = left_if (n == renewal_id) (requests_in xs) (n ∷ requests_in xs) (ne_test n renewal_id other)
+pub requests_first : (n : ℕ) (xs : List ℕ) → is_own n ≡ false → requests_in (n ∷ xs) ≡ n ∷ requests_in xs
+requests_first n xs other = left_if (is_own n) (requests_in xs) (n ∷ requests_in xs) other
 
--- where none is AUTH's, they are all
-pub all_requests : (xs : List ℕ) → ((n : ℕ) → IsIn n xs → n ≢ renewal_id) → requests_in xs ≡ xs
+-- where none is the driver's own, they are all
+pub all_requests : (xs : List ℕ) → ((n : ℕ) → IsIn n xs → is_own n ≡ false) → requests_in xs ≡ xs
 all_requests [] other = refl
 all_requests (x ∷ xs) other = requests_first x xs (other x (inl refl)) ∙ ap (λ ns. x ∷ ns) (all_requests xs (λ n i. other n (inr i)))

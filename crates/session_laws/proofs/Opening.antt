@@ -11,8 +11,7 @@ use Rattle.driver_model.specs.declared.action.Cause.TheVariants as cause
 use Rattle.driver_model.specs.declared.config.Config.{Config}
 use Rattle.driver_model.specs.declared.config.Config.TheVariants as variant
 use Rattle.driver_model.specs.declared.kind.SessionKind.TheVariants as kind
-use Rattle.driver_model.specs.Config.{is_lazy as waits_for_use}
-use Rattle.driver_model.specs.Config.{address, manager_of, buffer_fault, buffer_size, connect_timeout, response_timeout, room_fault, told_info, hearing_of, hearing_in, permits, wants_credentials}
+use Rattle.driver_model.specs.Config.{is_lazy as waits_for_use, address, manager_of, buffer_fault, buffer_size, connect_timeout, response_timeout, room_fault, told_info, hearing_of, hearing_in, permits, wants_credentials}
 use Rattle.driver_model.specs.declared.action.Action.{Action}
 use Rattle.driver_model.specs.declared.action.Purpose.{Purpose}
 use Rattle.driver_model.specs.declared.action.Purpose.TheVariants as purpose
@@ -33,14 +32,15 @@ use Rattle.session_laws.proofs.Going.{is_moved}
 use Rattle.session_laws.proofs.Settled.{IsBetween, is_settled}
 use Rattle.session_laws.proofs.States.{IsFitIn, IsStill}
 use Rattle.session_laws.proofs.Server.{owners_of, setup_owners}
-use Rattle.session_laws.proofs.Tied.{AreAimed, IsAim, IsAside, Tied, TiedLines, TiedNames, TiedNumbers, TiedPermits, TiedTries, TiedWaits, inner, no_link, owner_of, AreUnrepeated, link_in}
-use Rattle.session_laws.proofs.Unrepeated.{sound_repeats_not}
+use Rattle.session_laws.proofs.Tied.{AreAimed, IsAim, IsAside, Tied, TiedLines, TiedNames, TiedNumbers, TiedPermits, TiedTries, TiedWaits, inner, no_link, owner_of, link_in}
 use Rattle.session_laws.proofs.Waits.{IsQuiet}
 use Rattle.session_laws.proofs.Write.{is_written}
 use Rattle.driver_model.specs.Hearing.{is_watching}
 use Rattle.driver_model.specs.declared.hearing.Hearing.{Hearing}
 use Rattle.driver_model.proofs.Sound.{has_address, is_roomy}
 use Rattle.session_laws.proofs.Numbers.{IsIn}
+use Rattle.mux_conn.specs.declared.again.Again.{Again}
+use Rattle.mux_conn.specs.declared.again.Again.TheVariants as again
 use Rattle.mux_conn.specs.declared.life.Life.{Life}
 use Rattle.link_core.specs.Link.{LinkState}
 use Rattle.link_laws.specs.Settles.{awaited_ids}
@@ -72,10 +72,6 @@ opened_link config word info timers m other = ap (noted_each blank_ledger) (left
 -- a fact of a link that isn't told of, and of one that is asked for, is one of each link
 each_opened : (P : Ledger → Type 0) (config : Config) (word : ℕ) (info : ConnectionInfo) (timers : List Purpose) → P blank_ledger → P (noted blank_ledger (first_line config)) → (l : ℕ) → P ((opened config word info timers).link l)
 each_opened P config word info timers none first l = chosen (λ (ls : List Line). P (noted_each blank_ledger ls)) (first_link == l) (first_line config ∷ []) [] (λ t. first) (λ f. none)
-
--- nothing is subscribed again on any
-opening_unrepeated : (config : Config) (word : ℕ) (info : ConnectionInfo) (timers : List Purpose) → IsSound config → AreUnrepeated (opened config word info timers).link
-opening_unrepeated config word info timers sound = each_opened (λ (x : Ledger). x.again.wanted ≡ false) config word info timers refl (sound_repeats_not config [] sound)
 
 -- a configuration that was told is the one
 same_config : (config other : Config) → ◌≡◌ {A = Option Config} (Some config) (Some other) → config ≡ other
@@ -142,10 +138,9 @@ opening_numbers config word info timeout none sound some is = record {
   shut = refl;
   within = refl;
   few = omega arith;
-  unrepeated = opening_unrepeated config word info (connect_timers timeout) sound;
   settings = record { size_is = refl; bound_is = refl; limit_is = refl; some = some.some; limited = some.limited };
   kind_is = refl;
-  quiet = λ w. record { none = refl; unwanted = unwanted_where_watched config w; unrenewed = refl };
+  quiet = λ w. record { none = refl; unwanted = unwanted_where_watched config w; unrenewed = refl; unrepeated = refl };
   comes_back = (no_settings config none, never_lazy config none);
   lazy = λ is. absurd (not_both (is_lazy (Some config)) (never_lazy config none) is);
   current_is = refl;
@@ -160,14 +155,15 @@ pub opening_lines : TiedLines (λ n. blank_story) [] no_link [] [] [] []
 opening_lines = record { line = omega arith; queued = tt; entries = tt; packs = tt; packed_in = tt; there = λ p e. cc }
 
 -- its waits
-pub opening_waits : (life : Life) → link_in life ≡ no_link → TiedWaits (λ n. blank_story) [] life [] []
-opening_waits life bare = record {
+pub opening_waits : (a : Again) (life : Life) → link_in life ≡ no_link → TiedWaits (λ n. blank_story) [] a life [] []
+opening_waits a life bare = record {
   early = λ p w. cc;
   backoff = λ p w e. cc;
   connect = λ p w e. cc;
   creds = λ p link w e. cc;
   setup = λ p link u w e. cc;
-  permit = λ p link w e. cc;
+  resubscribe = λ p link w e goes. cc;
+  permit = λ p link w e none. cc;
   place = λ p a. cc;
   room = λ p i. absurd (subst (λ (x : LinkState). IsIn p (awaited_ids x.queue)) bare i);
   newer = omega arith;
@@ -176,6 +172,8 @@ opening_waits life bare = record {
   no_connect = λ p i. absurd i;
   no_creds = λ p link i. absurd i;
   no_setup = λ p link u i. absurd i;
+  no_resubscribe = λ p link i. absurd i;
+  unpermitted = λ p link w e goes. cc;
   no_permit = λ p link i. absurd i;
   no_place = λ p i. absurd i;
   seatless = λ p a e. cc a;
@@ -224,6 +222,7 @@ opening_tied config word info timeout plain sound some is = record {
   creation = record { before = λ e. refl; after = λ e. cc };
   uses = λ k what e. cc;
   renewal = record { over_is = refl; came = refl; waits = refl; untimed = refl; unstarted = refl; unasked = refl; unpending = refl; told = refl; kept = refl; found = refl };
+  repeat = ap (λ s. repeats_in s []) (no_settings config plain);
   setup = record { info_is = refl; sent = λ k s less e. absurd (omega arith); said = (refl, refl) };
   link = λ e. asked_tied (owner_of []) blank_ledger (told_info config) (wants_credentials config) (hearing_of config) (is_last (settings_in (Some config)) 0) (repeats_in (settings_in (Some config)) []) no_link (fresh_tied (owner_of []) 0 0);
   names = opening_names;
@@ -231,10 +230,10 @@ opening_tied config word info timeout plain sound some is = record {
   tries = opening_tries ((opened config word info (connect_timers timeout)).link first_link) refl;
   lines = opening_lines;
   told = λ e. record { told = λ n is none on. cc; here = λ p i. absurd i };
-  waits = opening_waits Dialing refl;
+  waits = opening_waits again.Nothing Dialing refl;
   permits = opening_permits (permits config);
   rounds = record { rounds_is = ap is_some (no_settings config plain); unbegun = λ p u. cc; begun = λ p r o u. cc; new = λ p r up u. cc };
-  early = λ unready alive p o. cc;
+  early = λ unserved alive. record { unbegun = λ p o. cc; empty = refl };
   late = λ p o e. cc;
 }
 
@@ -341,8 +340,8 @@ opened_between config word info timeout none sound at some is =
     let t = inner c [] in
     let tied = opening_tied config word info timeout none sound some is in
     let fit : IsFitIn conn = record { wanting = λ link e. cc; setup = λ link u e. cc; link = λ link e. cc; none = λ no. refl } in
-    let still : IsStill conn = record { setup = λ link u e. cc; held = λ link e. cc; full = λ link e. cc; waiting = λ link e. cc; begun = λ shows up. cc; none_waits = λ e. refl; renewed = λ link e. cc } in
-    let moved = is_moved b t tied refl (refl, refl) refl (opening_ends config word info timers) fit.link fit.none still.held still.full still.waiting still.none_waits (λ over. cc) (λ x. cc) fit.setup still.setup (λ p i. absurd i) still.renewed still.begun in
+    let still : IsStill conn = record { setup = λ link u e. cc; held = λ link e. cc; full = λ link e. cc; waiting = λ link e answered. cc; begun = λ shows up. cc; none_waits = λ e. refl; repeated = λ link e. cc; renewed = λ link e. cc } in
+    let moved = is_moved b t tied refl (refl, refl) refl (opening_ends config word info timers) fit.link fit.none still.held still.full still.waiting still.none_waits (λ over. cc) (λ x. cc) fit.setup still.setup (λ p i. absurd i) still.repeated still.renewed still.begun in
     let written = is_written b t tied moved refl in
     let quiet : IsQuiet t = record { seats = λ p i. absurd i; settled = refl; alone = refl; fit = fit.link; none = fit.none; held = still.held; full = still.full; waiting = still.waiting; begun = still.begun; gone = still.none_waits; setup_fit = fit.setup; setup_held = still.setup } in
     let book_is = sym (opening_book config word info timeout) in
@@ -358,6 +357,7 @@ opened_between config word info timeout none sound at some is =
         still = still;
         hushed = λ over. cc;
         heeded = tt;
+        informed = tt;
       };
     }
 

@@ -1,10 +1,9 @@
 -- What the outcome actions of a trace say is what its book says.
 use Rattle.driver_model.specs.declared.action.Purpose.{Purpose}
-use Rattle.legal_trace.specs.Book.{entered, is_unspoken}
-use Rattle.std.specs.Prelude.{max}
+use Rattle.legal_trace.specs.Book.{entered, is_unspoken, Book, blank_book, book, entered_each, is_clock_of, is_rest}
+use Rattle.std.specs.Prelude.{max, ◌&&◌, ◌==◌}
 use Rattle.std.proofs.Common.{List, None, Option, Some, [], ap, arith, inl, inr, is_some, length, length-set, nat_le, not, refl, slice_get, slice_set, subst, suc, sym, true, zero, ℕ, ◌++◌, ◌+◌, ◌<◌, ◌∙◌, ◌∷◌, ◌≡◌, ◌≤◌, ◌&&◌}
 use Rattle.std.proofs.lemmas.List.{length_push}
-use Rattle.std.specs.Prelude.{◌&&◌, ◌==◌}
 use Rattle.containers.proofs.Places.{get_set_other, get_set_same}
 use Rattle.containers.proofs.Choices.{both_left, by_test, chosen, eq_from, le_from, ne_from, not_both, not_le_from}
 use Rattle.driver_model.specs.declared.action.Action.{Action}
@@ -17,7 +16,6 @@ use Rattle.driver_model.specs.declared.event.EventKind.TheVariants as event
 use Rattle.driver_model.specs.declared.event.Submission.{Submission}
 use Rattle.driver_model.specs.declared.outcome.Outcome.{Outcome}
 use Rattle.shared_session.specs.Replay.{if_placed, outcome_at, outcomes_in, told, told_each, with_room}
-use Rattle.legal_trace.specs.Book.{Book, blank_book, book, entered_each, is_clock_of, is_rest}
 use Rattle.legal_trace.specs.Legal.{AllStand, IsOpen, MayStand}
 use Rattle.legal_trace.specs.Story.{Story, answered, clocked, fires, handed_in, holds, is_open, left, tried, waits, carried, rounds}
 use Rattle.session_laws.specs.Outcomes.{last_outcome}

@@ -1,8 +1,8 @@
 -- What submissions are owed, by the requests that they are.
-use Rattle.std.proofs.Common.{◌≡◌, ◌≢◌, inl, inr, ℕ, zero, suc, ◌+◌, ◌<◌, ◌==◌, Bool, true, false, ◌&&◌, not, is_some, length-append, List, [], ◌∷◌, ◌++◌, length, Option, Some, None, slice_get, refl, sym, ap, ◌∙◌, subst, arith, drop, if◌then◌else◌}
+use Rattle.std.proofs.Common.{◌≡◌, ◌≢◌, inl, inr, ℕ, zero, suc, ◌+◌, ◌<◌, ◌==◌, Bool, true, false, ◌&&◌, not, is_some, length-append, List, [], ◌∷◌, ◌++◌, length, Option, Some, None, slice_get, refl, sym, ap, ◌∙◌, subst, arith, drop, if◌then◌else◌, ◌||◌}
 use Rattle.std.specs.List.{AllByRecursion}
 use Rattle.std.proofs.lemmas.List.{nil_from_length}
-use Rattle.containers.proofs.Choices.{by_test, left_if, eq_from, ne_from, ne_test, not_both, taken_if, eq_test}
+use Rattle.containers.proofs.Choices.{by_test, left_if, eq_from, ne_from, ne_test, not_both, taken_if, chosen}
 use Rattle.redis_error.specs.declared.redis_error.RedisError.{RedisError}
 use Rattle.redis_error.specs.declared.redis_error.RedisError.TheVariants as error
 use Rattle.driver_model.specs.declared.action.Owner.{Owner}
@@ -27,14 +27,15 @@ use Rattle.legal_trace.specs.Story.{Story, bytes_of, shape, last_of, is_open}
 use Rattle.legal_trace.specs.Book.{Book}
 use Rattle.legal_trace.specs.Owed.{owed, owed_to_message, owed_unstarted, owed_to_try, owed_waiting}
 use Rattle.legal_trace.specs.Legal.{IsOpen, NoneIsOwed, IsCreated, FailuresAreShown, NoticesAreTold, EndsAreTold}
-use Rattle.session_laws.proofs.Numbers.{Rising, IsIn, in_either, rising_in, rising_left, rising_right, rising_apart, requests_in, request_in, request_of}
+use Rattle.session_laws.proofs.Numbers.{Rising, IsIn, in_either, rising_in, rising_left, rising_right, rising_apart, requests_in, request_in, request_of, is_own}
 use Rattle.session_laws.proofs.Said.{ready_shown}
 use Rattle.session_laws.proofs.Server.{setup_owners, owners_of}
-use Rattle.session_laws.proofs.Tied.{IsEntry, Inner, carried, link_in, owner_of, whole_link, owners_each, queue_ids, IsRequest, TiedStory, TiedLife, Tied, FailureIsShown, has_ended, is_of_greeting}
-use Rattle.session_laws.proofs.Names.{get_some, open_within, name_of_some, name_placed, same_name, owner_no_setup, auth_owner, request_owner, request_not, asked_unwatched}
+use Rattle.session_laws.proofs.Tied.{IsEntry, Inner, carried, link_in, owner_of, whole_link, owners_each, queue_ids, IsRequest, TiedStory, TiedLife, Tied, FailureIsShown, has_ended, is_of_greeting, own_owner}
+use Rattle.session_laws.proofs.Names.{get_some, open_within, name_of_some, name_placed, same_name, owner_no_setup, auth_owner, request_owner, request_not, asked_unwatched, owner_of_auth, repeat_owner, owner_of_repeat}
 use Rattle.session_laws.proofs.InLine.{AtPlaces, IsInLine, wanted_rises, places_rise, row_ids, wanted_in, kept_ids, line_of, open_in_line}
 use Rattle.mux_conn.specs.Renewals.{renewal_id}
 use Rattle.driver_model.specs.Hearing.{is_watching, hears_something, hears_pushes}
+use Rattle.mux_conn.specs.Repeats.{repeat_id}
 
 -- each request is a submission
 pub request_story : (b : Book) (t : Inner) (p : ℕ) → Tied b t → p < length t.requests → IsRequest (b.story (name_at t.requests p)) t.requests t.link p
@@ -97,7 +98,7 @@ get_in (x ∷ xs) zero n e = inl cc
 get_in (x ∷ xs) (suc k) n e = inr (get_in xs k n e)
 
 -- and a request, where it isn't AUTH
-pub started_within : (b : Book) (t : Inner) (k p : ℕ) → Tied b t → p ≢ renewal_id → slice_get t.started k ≡ Some p → p < length t.requests
+pub started_within : (b : Book) (t : Inner) (k p : ℕ) → Tied b t → is_own p ≡ false → slice_get t.started k ≡ Some p → p < length t.requests
 started_within b t k p h other e =
     let asked = requests_in t.started in
     let r = rising_in 0 asked (length t.requests) p (rising_left 0 asked (queue_ids (link_in t.life).queue ++ kept_ids t.admitted t.waiting) (length t.requests) h.lines.line) (request_in p t.started other (get_in t.started k p e)) in
@@ -113,23 +114,32 @@ stands_started b t p k of_shape h l place =
     let same = same_name t.table t.requests s.2 p h.names (started_within b t s.0 s.2 h named.0 s.3) l named.1 in
     (s.0, s.1, s.3 ∙ ap Some same)
 
--- and so is AUTH
-auth_started : (b : Book) (t : Inner) (e : Entry) (k : ℕ) → Tied b t → e.id ≡ renewal_id → StandsAs (b.link t.link).starts (owner_of t.requests e.id) e.shape k
+-- the driver's own message has no greeting's owner
+own_ungreeted : (requests : List Request) (p : ℕ) → is_own p ≡ true → is_of_greeting (owner_of requests p) ≡ false
+own_ungreeted requests p own = ap is_of_greeting (taken_if (is_own p) (own_owner p) (owner.Try (name_at requests p) 0) own) ∙ chosen (λ (o : Owner). is_of_greeting o ≡ false) (p == renewal_id) owner.Auth owner.Resub (λ a. refl) (λ r. refl)
+
+-- one with the same owner has the same number
+own_number : (requests : List Request) (p q : ℕ) → is_own q ≡ true → owner_of requests p ≡ owner_of requests q → p ≡ q
+own_number requests p q own e = by_test (q == renewal_id) (p ≡ q)
+    (λ t. let is = eq_from q renewal_id t in auth_owner requests p (e ∙ owner_of_auth requests q is) ∙ sym is)
+    (λ f. let is = eq_from q repeat_id (sym (ap (λ b. b || (q == repeat_id)) f) ∙ own) in repeat_owner requests p (e ∙ owner_of_repeat requests q is) ∙ sym is)
+
+-- and so are the driver's own
+own_started : (b : Book) (t : Inner) (e : Entry) (k : ℕ) → Tied b t → is_own e.id ≡ true → StandsAs (b.link t.link).starts (owner_of t.requests e.id) e.shape k
     → (j : ℕ) × (k ≡ setup_count (b.link t.link).starts + j) × (slice_get t.started j ≡ Some e.id)
-auth_started b t e k h is place =
+own_started b t e k h is place =
     let starts = (b.link t.link).starts in
-    let auth : owner_of t.requests e.id ≡ owner.Auth = taken_if (e.id == renewal_id) owner.Auth (owner.Try (name_at t.requests e.id) 0) (eq_test e.id renewal_id is) in
     let plain : is_watching (b.link t.link).hearing ≡ false = by_test (is_watching (b.link t.link).hearing) _
-    (λ w. absurd (not_both (is_of_greeting place.start.owner) (ap is_of_greeting (place.owned ∙ auth)) ((h.tries.greeted w).greets k place.start place.stands)))
+    (λ w. absurd (not_both (is_of_greeting place.start.owner) (ap is_of_greeting place.owned ∙ own_ungreeted t.requests e.id is) ((h.tries.greeted w).greets k place.start place.stands)))
     (λ f. f) in
     let s = started_at starts t.requests t.started (setup_count starts) k place.start (h.tries.owners plain) place.stands (ap is_of_setup place.owned ∙ owner_no_setup t.requests e.id) in
-    (s.0, s.1, s.3 ∙ ap Some (auth_owner t.requests s.2 (s.4 ∙ place.owned ∙ auth) ∙ sym is))
+    (s.0, s.1, s.3 ∙ ap Some (own_number t.requests s.2 e.id is (s.4 ∙ place.owned)))
 
 -- what takes items started so
 entry_started : (b : Book) (t : Inner) (e : Entry) (k : ℕ) → Tied b t → IsEntry t.requests e → StandsAs (b.link t.link).starts (owner_of t.requests e.id) e.shape k
     → (j : ℕ) × (k ≡ setup_count (b.link t.link).starts + j) × (slice_get t.started j ≡ Some e.id)
 entry_started b t e k h (inl r) place = stands_started b t e.id k e.shape h r.below place
-entry_started b t e k h (inr a) place = auth_started b t e k h a.is place
+entry_started b t e k h (inr a) place = own_started b t e k h a.is place
 
 -- what a request is owed
 --

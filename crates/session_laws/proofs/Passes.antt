@@ -1,7 +1,7 @@
 -- Requests are moved on a link that is up: each takes its place where the queue has room, and messages start.
 use Rattle.std.proofs.Common.{Bool, List, [], ap, append_assoc, arith, false, inl, inr, length, refl, subst, sym, true, ℕ, ◌+◌, ◌-◌, ◌++◌, ◌∙◌, ◌∷◌, ◌≡◌, ◌⊎◌, suc}
 use Rattle.std.proofs.lemmas.List.{append-nil, length_push}
-use Rattle.std.specs.Prelude.{not, ◌&&◌}
+use Rattle.std.specs.Prelude.{not, ◌&&◌, ◌||◌}
 use Rattle.containers.proofs.Choices.{chosen, if_true, not_both, not_le_from, both_left, both_right, by_test}
 use Rattle.resp_value.specs.declared.value.Value.TheVariants.{Nil}
 use Rattle.driver_model.specs.declared.action.Action.{Action}
@@ -10,7 +10,7 @@ use Rattle.driver_model.specs.declared.outcome.Outcome.TheVariants as outcome
 use Rattle.link_core.specs.Link.{LinkState, Starting, enqueued, holds_back, is_full_beside, started_all}
 use Rattle.link_core.specs.declared.message.Queued.{Queued}
 use Rattle.link_laws.specs.Starts.{starting}
-use Rattle.mux_conn.specs.Connection.{Work, acted, admits_none, admits_none_at, has_no_permit, has_room, with_link, with_setup, has_room_at, in_front}
+use Rattle.mux_conn.specs.Connection.{Work, acted, admits_none, admits_none_at, has_no_permit, has_room, with_link, with_setup, has_room_at, in_front, is_outstanding, is_ready}
 use Rattle.mux_conn.specs.Passes.{admitted, admitted_at, admitted_each, holding, let_in, message_of, permits_taken, seated_or_behind, still_waiting, moved_up, moved_up_each, noted, placed_at, put_behind, seated, started, started_at, still_admitted, told_at_place, round_begun, rounds_of}
 use Rattle.mux_conn.specs.Requests.{answered, at_progress, closed, given_back, is_admitted_at, is_open as is_open_progress, is_open_at, is_waiting, is_waiting_at, name_at, permits_at, progressed, with_permits, is_unbegun, is_unbegun_at}
 use Rattle.mux_conn.specs.declared.act.LinkAct.{LinkAct}
@@ -155,13 +155,13 @@ renewed_enqueued r link m h x e due = let k = h link refl due in (k.0, ap (λ (l
 
 -- where nobody awaits its reply it may be told
 tell_may : (b : Book) (t : Inner) (link : LinkState) (q : Waiting) (waiting admitted : List Waiting) → q.awaited ≡ false → IsFit t.size t.bound link → HasSeats t.moved (in_front t.renewal) link t.size → (link.queue ≡ []) ⊎ (holds_back link ≡ true) → is_full_beside link (in_front t.renewal) ≡ false
-    → IsNext b.story t.requests t.limit t.letting t.moved t.waiting t.admitted q waiting admitted → Tied b (on_link t link) → NoneEnds b → HasRenewed t.renewal (Ready link) → MayTell b (name_at t.requests q.number) (outcome.One Nil)
-tell_may b t link q waiting admitted not_awaited fit seats held room next h ends renewed =
+    → IsNext b.story t.requests t.limit t.letting t.moved t.waiting t.admitted q waiting admitted → is_outstanding t.again ≡ false → Tied b (on_link t link) → NoneEnds b → HasRenewed t.renewal (Ready link) → MayTell b (name_at t.requests q.number) (outcome.One Nil)
+tell_may b t link q waiting admitted not_awaited fit seats held room next served h ends renewed =
     let was = on_link t link in
     let p = q.number in
     let o = next.open_at in
     let kept = kept_ids admitted waiting in
-    let running : IsRunning was = record { settled = refl; up = refl; fit = fit; seats = seats } in
+    let running : IsRunning was = record { settled = refl; up = refl; served = served; fit = fit; seats = seats } in
     record {
       begun = begun_up b was h running (refl, refl) ends renewed;
       asked = (request_story b was p h (open_within t.requests p o)).open_is ∙ o;
@@ -178,17 +178,18 @@ told_going : (trace : List Action) (t : Inner) (link : LinkState) (q : Waiting) 
 told_going trace t link q waiting admitted not_awaited fit seats held room next h =
     let b = book trace in
     going_more trace (action.Outcome (name_at t.requests q.number) (outcome.One Nil)) (with_told t link q waiting admitted) h.sound.stands
-    (inr (tell_may b t link q waiting admitted not_awaited fit seats held room next h.sound.tied h.ended h.renewed))
-    (tell_tied b t link q waiting admitted not_awaited next h.sound.tied)
-    h.ended (renewed_enqueued t.renewal link (message_of q) h.renewed)
+    (inr (tell_may b t link q waiting admitted not_awaited fit seats held room next (h.served refl) h.sound.tied h.ended h.renewed))
+    (tell_tied b t link q waiting admitted not_awaited next (h.served refl) h.sound.tied)
+    h.ended (renewed_enqueued t.renewal link (message_of q) h.renewed) (λ up. h.served refl)
 
 -- one whose reply is awaited has its place
 placed_going : (trace : List Action) (t : Inner) (link : LinkState) (q : Waiting) (waiting admitted : List Waiting) → q.awaited ≡ true → IsNext (book trace).story t.requests t.limit t.letting t.moved t.waiting t.admitted q waiting admitted → IsGoing trace (on_link t link)
     → IsGoing trace (with_place t link q waiting admitted)
 placed_going trace t link q waiting admitted yes_awaited next h = record {
-  sound = record { stands = h.sound.stands; tied = place_tied (book trace) t link q waiting admitted yes_awaited next h.sound.tied };
+  sound = record { stands = h.sound.stands; tied = place_tied (book trace) t link q waiting admitted yes_awaited next (h.served refl) h.sound.tied };
   ended = h.ended;
   renewed = renewed_enqueued t.renewal link (message_of q) h.renewed;
+  served = λ up. h.served refl;
 }
 
 -- a link that had room is fit with one more in its queue
@@ -297,6 +298,7 @@ gone_admitted before f w q qs waiting h gone =
       sound = record { stands = was.sound.stands; tied = passed_admitted (book (trace_of_acts before f w.acts)) t h.link q qs gone was.sound.tied };
       ended = was.ended;
       renewed = was.renewed;
+      served = was.served;
     } in
     record {
       link = h.link;
@@ -369,6 +371,7 @@ gone_waiting before f w q qs s gone =
       sound = record { stands = was.sound.stands; tied = passed_waiting (book (trace_of_acts before f w.acts)) t h.link q qs gone was.sound.tied };
       ended = was.ended;
       renewed = was.renewed;
+      served = was.served;
     } in
     record {
       up = record {
@@ -393,7 +396,7 @@ round_up before f w p admitted waiting next h shows u first =
     let t = moving f w.acts w.conn admitted waiting h.started in
     let a = act.Round (name_at w.conn.requests p) in
     let after = with_round t p in
-    let going = round_going (trace_of_acts before f w.acts) t p (running_of t h.link refl h.life h.fit h.seats) (refl, refl) shows u first h.going in
+    let going = round_going (trace_of_acts before f w.acts) t p (running_of t h.link refl h.life (h.going.served (ap is_ready h.life)) h.fit h.seats) (refl, refl) shows u first h.going in
     let there = subst (λ (x : List Action). IsGoing x after) (sym (shown_more before f.single.link (length f.timers) (length f.sources) w.acts a)) going in
     record {
       link = h.link;
@@ -422,7 +425,7 @@ first_rounded before f w q qs s wt some =
     let b = book (trace_of_acts before f w.acts) in
     let here : link_in w.conn.life ≡ h.link = ap link_in h.life in
     let within = there_within is_waiting w.conn.requests p wt in
-    let first = first_early b t p (waiting_ids qs) h.going.sound.tied (running_of t h.link refl h.life h.fit h.seats)
+    let first = first_early b t p (waiting_ids qs) h.going.sound.tied (running_of t h.link refl h.life (h.going.served (ap is_ready h.life)) h.fit h.seats)
     (subst (λ (x : LinkState). (x.queue ≡ []) ⊎ (holds_back x ≡ true)) (sym here) h.held)
     (subst (λ (x : LinkState). (w.conn.admitted ≡ []) ⊎ (is_full_beside x (in_front w.conn.renewal) ≡ true)) (sym here) (found_full w.conn h.link h.life s.full)) refl in
     chosen (λ (x : Work). IsRounded before f x q qs) (w.conn.rounds && is_unbegun_at w.conn.requests p) (acted (progressed w p progress.Begun) (act.Round (name_at w.conn.requests p))) w
@@ -475,6 +478,7 @@ letting_up before f w q qs r =
     let count = permits_taken w.conn.limit w.conn.free q.shape in
     let opening : IsOpening (moving f w.acts w.conn w.conn.admitted (q ∷ qs) h.started) h.link q qs = record {
       life = h.life;
+      served = h.going.served (ap is_ready h.life);
       settled = refl;
       told = (refl, refl);
       fit = h.fit;
@@ -552,7 +556,7 @@ admitted_behind before f w q qs r none =
     let apart : IsIn p (queue_ids h.link.queue) → ⊥ = λ i.
     let line = rising_right 0 (requests_in h.started) (queue_ids h.link.queue ++ kept_ids w.conn.admitted (q ∷ qs)) (length g.conn.requests) was.sound.tied.lines.line in
     (let k = rising_apart 0 (queue_ids h.link.queue) (kept_ids w.conn.admitted (q ∷ qs)) (length g.conn.requests) p p line i (in_right p (waiting_ids w.conn.admitted) ids (inl refl)) in omega arith) in
-    let admitted : Tied b (record (on_link after h.link) { requests = at_progress g.conn.requests p progress.Admitted }) = admit_tied b t h.link q qs waits begun l.1 (order_last g.conn.moved p (waiting_ids qs) (length g.conn.requests) h.order) was.sound.tied in
+    let admitted : Tied b (record (on_link after h.link) { requests = at_progress g.conn.requests p progress.Admitted }) = admit_tied b t h.link q qs waits begun l.1 (order_last g.conn.moved p (waiting_ids qs) (length g.conn.requests) h.order) (was.served refl) was.sound.tied in
     let now : IsGoing (trace_of_acts before f g.acts) (on_link after h.link) = record {
       sound = record {
         stands = was.sound.stands;
@@ -560,6 +564,7 @@ admitted_behind before f w q qs r none =
       };
       ended = was.ended;
       renewed = was.renewed;
+      served = was.served;
     } in
     record {
       up = record {
@@ -613,7 +618,8 @@ pub admitted_done : (before : List Action) (f : Core) (w : Work) (qs : List Wait
 admitted_done before f w [] s = record { seated = still_seated before f w [] s; none = inl refl }
 admitted_done before f w (q ∷ qs) s =
     let stuck = has_no_permit w.conn.limit w.conn.free in
-    let up : admits_none w.conn ≡ stuck = ap (λ life. admits_none_at life stuck) s.up.life in
+    let none = s.up.going.served (ap is_ready s.up.life) in
+    let up : admits_none w.conn ≡ stuck = ap (λ life. admits_none_at life (is_outstanding w.conn.again || stuck)) s.up.life ∙ ap (λ goes. goes || stuck) none in
     chosen (λ (x : Work). IsDone before f x) (admits_none w.conn) (still_waiting w (q ∷ qs)) (admitted_each (admitted w q) qs)
     (λ t. record { seated = still_seated before f w (q ∷ qs) s; none = inr (sym up ∙ t) })
     (λ f1. admitted_done before f (admitted w q) qs (admitted_one before f w q qs s (sym up ∙ f1)))
@@ -641,7 +647,7 @@ next_begins before f w lo p ps s =
     let b = book (trace_of_acts before f w.acts) in
     let here : link_in w.conn.life ≡ h.link = ap link_in h.life in
     let first : is_unbegun_at requests p ≡ true → IsFirstToMove b (name_at requests p) = λ u.
-    first_round b t p h.going.sound.tied (running_of t h.link refl h.life h.fit h.seats) refl
+    first_round b t p h.going.sound.tied (running_of t h.link refl h.life (h.going.served (ap is_ready h.life)) h.fit h.seats) refl
     (subst (λ (x : LinkState). (x.queue ≡ []) ⊎ (holds_back x ≡ true)) (sym here) h.held)
     (subst (λ (x : LinkState). (w.conn.admitted ≡ []) ⊎ (is_full_beside x (in_front w.conn.renewal) ≡ true)) (sym here) (found_full w.conn h.link h.life done.seated.full)) done.none
     (there_within is_unbegun requests p u)

@@ -13,8 +13,10 @@ use Rattle.link_core.specs.declared.message.Entry.{Entry}
 use Rattle.link_core.specs.declared.message.Queued.{Queued}
 use Rattle.link_laws.proofs.TiedLink.{TiedLink, all_push, enqueued_tied}
 use Rattle.link_laws.specs.Settles.{awaited_ids, wanted}
+use Rattle.mux_conn.specs.Connection.{is_outstanding}
 use Rattle.mux_conn.specs.Passes.{message_of}
 use Rattle.mux_conn.specs.Requests.{at_progress, given_back, is_admitted, is_admitted_at, is_open as is_open_progress, is_open_at, is_placed, is_placed_at, is_waiting, is_waiting_at, name_at, permits_at, with_permits, is_unbegun_at}
+use Rattle.mux_conn.specs.declared.again.Again.{Again}
 use Rattle.mux_conn.specs.declared.life.Life.{Life}
 use Rattle.mux_conn.specs.declared.life.Life.TheVariants.{Ready}
 use Rattle.mux_conn.specs.declared.request.Pending.{Pending}
@@ -35,7 +37,9 @@ use Rattle.session_laws.proofs.Names.{length_still, length_with, name_still, nam
 use Rattle.session_laws.proofs.Numbers.{IsIn, Rising, in_either, in_left, in_right, rising_apart, rising_in, rising_right, rising_tail, rising_without, request_in, requests_in}
 use Rattle.session_laws.proofs.Owes.{in_line, request_story, open_on}
 use Rattle.session_laws.proofs.Permits.{permits_closed, permits_further, permits_let}
-use Rattle.session_laws.proofs.Rounded.{admitted_begun, rounds_closed, rounds_with}
+use Rattle.session_laws.proofs.Repeats.{calls_kept}
+use Rattle.session_laws.proofs.Serving.{answered_serves}
+use Rattle.session_laws.proofs.Rounded.{admitted_begun, early_never, rounds_closed, rounds_with}
 use Rattle.session_laws.proofs.Start.{not_dialing, not_setting, not_wanting, on_link, not_resting}
 use Rattle.session_laws.proofs.Server.{setup_owners}
 use Rattle.session_laws.proofs.Tied.{AreLate, AreQueued, Inner, IsEntry, IsKept, IsOf, IsPacked, IsQueued, Tied, TiedLines, TiedStory, TiedTries, TiedWaits, owner_of, owners_each, queue_ids, relined, shown_wait, waiting_ids, numbers_kept}
@@ -243,7 +247,8 @@ shown_early x (inr (inl e)) = (other_wait x wait.Backoff wait.Place e (λ r. cc)
 shown_early x (inr (inr (inl e))) = (other_wait x wait.Connect wait.Place e (λ r. cc), other_wait x wait.Connect wait.Room e (λ r. cc))
 shown_early x (inr (inr (inr (inl e)))) = (other_wait x wait.Creds wait.Place e (λ r. cc), other_wait x wait.Creds wait.Room e (λ r. cc))
 shown_early x (inr (inr (inr (inr (inl e))))) = (other_wait x wait.Setup wait.Place e (λ r. cc), other_wait x wait.Setup wait.Room e (λ r. cc))
-shown_early x (inr (inr (inr (inr (inr e))))) = (other_wait x wait.Permit wait.Place e (λ r. cc), other_wait x wait.Permit wait.Room e (λ r. cc))
+shown_early x (inr (inr (inr (inr (inr (inl e)))))) = (other_wait x wait.Resubscribe wait.Place e (λ r. cc), other_wait x wait.Resubscribe wait.Room e (λ r. cc))
+shown_early x (inr (inr (inr (inr (inr (inr e)))))) = (other_wait x wait.Permit wait.Place e (λ r. cc), other_wait x wait.Permit wait.Room e (λ r. cc))
 
 -- or of those that wait for the connection, where none waits for a place, and it is being let in
 pub next_waiting : (b : Book) (t : Inner) (link : LinkState) (q : Waiting) (qs : List Waiting) → is_waiting_at t.requests q.number ≡ true → is_unbegun_at t.requests q.number ≡ false → is_let_in t.limit (b.story (name_at t.requests q.number)) ≡ true → Rising 0 (t.moved ++ q.number ∷ []) (length t.requests)
@@ -365,8 +370,8 @@ lines_enqueued story requests link waiting admitted m pending started is line pl
 -- what is shown of waits
 --
 -- it has its place
-waits_placed : (story : ℕ → Story) (requests : List Request) (p : ℕ) (life : Life) (fresh moved : List ℕ) → p < length requests → TiedWaits story requests life fresh moved → TiedWaits story (at_progress requests p progress.Placed) life fresh moved
-waits_placed story requests p life fresh moved l h =
+waits_placed : (story : ℕ → Story) (requests : List Request) (p : ℕ) (a : Again) (life : Life) (fresh moved : List ℕ) → p < length requests → TiedWaits story requests a life fresh moved → TiedWaits story (at_progress requests p progress.Placed) a life fresh moved
+waits_placed story requests p a life fresh moved l h =
     let same = shown_further story requests p progress.Placed in
     let long = sym (length_still requests p progress.Placed) in
     record {
@@ -375,7 +380,8 @@ waits_placed story requests p life fresh moved l h =
       connect = λ m w d. let k = there_then is_waiting requests p m progress.Placed refl l w in elim (h.connect m k.1 d) [ inl e ↦ inl e | inr e ↦ inr (same m ∙ e) ];
       creds = λ m link w d. let k = there_then is_waiting requests p m progress.Placed refl l w in elim (h.creds m link k.1 d) [ inl e ↦ inl e | inr e ↦ inr (same m ∙ e) ];
       setup = λ m link u w d. let k = there_then is_waiting requests p m progress.Placed refl l w in elim (h.setup m link u k.1 d) [ inl e ↦ inl e | inr e ↦ inr (same m ∙ e) ];
-      permit = λ m link w d. let k = there_then is_waiting requests p m progress.Placed refl l w in elim (h.permit m link k.1 d) [ inl e ↦ inl e | inr e ↦ inr (same m ∙ e) ];
+      resubscribe = λ m link w d goes. let k = there_then is_waiting requests p m progress.Placed refl l w in elim (h.resubscribe m link k.1 d goes) [ inl e ↦ inl e | inr e ↦ inr (same m ∙ e) ];
+      permit = λ m link w d none. let k = there_then is_waiting requests p m progress.Placed refl l w in elim (h.permit m link k.1 d none) [ inl e ↦ inl e | inr e ↦ inr (same m ∙ e) ];
       place = λ m a. let k = there_then is_admitted requests p m progress.Placed refl l a in elim (h.place m k.1) [ inl i ↦ inl i | inr e ↦ inr (same m ∙ e) ];
       room = λ m i. elim (h.room m i) [ inl j ↦ inl j | inr e ↦ inr (same m ∙ e) ];
       newer = subst (Rising 0 fresh) long h.newer;
@@ -384,16 +390,18 @@ waits_placed story requests p life fresh moved l h =
       no_connect = λ m i w d e. let k = there_then is_waiting requests p m progress.Placed refl l w in h.no_connect m i k.1 d (sym (same m) ∙ e);
       no_creds = λ m link i w d e. let k = there_then is_waiting requests p m progress.Placed refl l w in h.no_creds m link i k.1 d (sym (same m) ∙ e);
       no_setup = λ m link u i w d e. let k = there_then is_waiting requests p m progress.Placed refl l w in h.no_setup m link u i k.1 d (sym (same m) ∙ e);
-      no_permit = λ m link i w d e. let k = there_then is_waiting requests p m progress.Placed refl l w in h.no_permit m link i k.1 d (sym (same m) ∙ e);
+      no_resubscribe = λ m link i w d goes e. let k = there_then is_waiting requests p m progress.Placed refl l w in h.no_resubscribe m link i k.1 d goes (sym (same m) ∙ e);
+      unpermitted = λ m link w d goes e. let k = there_then is_waiting requests p m progress.Placed refl l w in h.unpermitted m link k.1 d goes (sym (same m) ∙ e);
+      no_permit = λ m link i w d none e. let k = there_then is_waiting requests p m progress.Placed refl l w in h.no_permit m link i k.1 d none (sym (same m) ∙ e);
       seatless = λ m a e. let k = there_then is_admitted requests p m progress.Placed refl l a in h.seatless m k.1 (sym (same m) ∙ e);
       no_place = λ m i a e. let k = there_then is_admitted requests p m progress.Placed refl l a in h.no_place m i k.1 (sym (same m) ∙ e);
       no_room = λ m i j e. h.no_room m i j (sym (same m) ∙ e);
     }
 
 -- its message is in the queue, and it was moved in this turn
-waits_enqueued : (story : ℕ → Story) (requests : List Request) (link : LinkState) (m : Queued) (fresh moved : List ℕ) → Rising 0 (moved ++ m.id ∷ []) (length requests) → is_admitted_at requests m.id ≡ false → shown_wait story requests m.id ≢ Some wait.Room
-    → TiedWaits story requests (Ready link) fresh moved → TiedWaits story requests (Ready (enqueued link m)) fresh (moved ++ m.id ∷ [])
-waits_enqueued story requests link m fresh moved last placed shown h =
+waits_enqueued : (story : ℕ → Story) (requests : List Request) (a : Again) (link : LinkState) (m : Queued) (fresh moved : List ℕ) → Rising 0 (moved ++ m.id ∷ []) (length requests) → is_admitted_at requests m.id ≡ false → shown_wait story requests m.id ≢ Some wait.Room
+    → TiedWaits story requests a (Ready link) fresh moved → TiedWaits story requests a (Ready (enqueued link m)) fresh (moved ++ m.id ∷ [])
+waits_enqueued story requests a link m fresh moved last placed shown h =
     let p = m.id in
     let earlier : (n : ℕ) → p ≢ n → IsIn n (moved ++ p ∷ []) → IsIn n moved = λ n other i. elim (in_either n moved (p ∷ []) i) [ inl j ↦ j | inr j ↦ elim j [ inl same ↦ absurd (other same) | inr k ↦ absurd k ] ] in
     record {
@@ -402,7 +410,8 @@ waits_enqueued story requests link m fresh moved last placed shown h =
       connect = λ n w e. absurd (not_dialing (enqueued link m) e);
       creds = λ n l w e. absurd (not_wanting (enqueued link m) l e);
       setup = λ n l u w e. absurd (not_setting (enqueued link m) l u e);
-      permit = λ n l w e. h.permit n link w refl;
+      resubscribe = λ n l w e goes. h.resubscribe n link w refl goes;
+      permit = λ n l w e none. h.permit n link w refl none;
       place = λ n a. elim (h.place n a) [ inl i ↦ inl (in_left n moved (p ∷ []) i) | inr e ↦ inr e ];
       room = λ n i. elim (awaited_last n link.queue m i) [
         | inl j ↦ elim (h.room n j) [ inl k ↦ inl (in_left n moved (p ∷ []) k) | inr e ↦ inr e ]
@@ -414,7 +423,9 @@ waits_enqueued story requests link m fresh moved last placed shown h =
       no_connect = λ n i w e. absurd (not_dialing (enqueued link m) e);
       no_creds = λ n l i w e. absurd (not_wanting (enqueued link m) l e);
       no_setup = λ n l u i w e. absurd (not_setting (enqueued link m) l u e);
-      no_permit = λ n l i w e. h.no_permit n link i w refl;
+      no_resubscribe = λ n l i w e goes. h.no_resubscribe n link i w refl goes;
+      unpermitted = λ n l w e goes. h.unpermitted n link w refl goes;
+      no_permit = λ n l i w e none. h.no_permit n link i w refl none;
       seatless = h.seatless;
       no_place = λ n i a. h.no_place n (earlier n (λ same. not_both (is_admitted_at requests n) (ap (is_admitted_at requests) (sym same) ∙ placed) a) i) a;
       no_room = λ n i j. by_test (p == n) _
@@ -423,9 +434,9 @@ waits_enqueued story requests link m fresh moved last placed shown h =
     }
 
 -- one that waits for the connection waits for a place, and was moved in this turn
-waits_admitted : (story : ℕ → Story) (requests : List Request) (link : LinkState) (p : ℕ) (fresh moved : List ℕ) → is_waiting_at requests p ≡ true → Rising 0 (moved ++ p ∷ []) (length requests)
-    → TiedWaits story requests (Ready link) fresh moved → TiedWaits story (at_progress requests p progress.Admitted) (Ready link) fresh (moved ++ p ∷ [])
-waits_admitted story requests link p fresh moved w last h =
+waits_admitted : (story : ℕ → Story) (requests : List Request) (a : Again) (link : LinkState) (p : ℕ) (fresh moved : List ℕ) → is_waiting_at requests p ≡ true → Rising 0 (moved ++ p ∷ []) (length requests)
+    → TiedWaits story requests a (Ready link) fresh moved → TiedWaits story (at_progress requests p progress.Admitted) a (Ready link) fresh (moved ++ p ∷ [])
+waits_admitted story requests a link p fresh moved w last h =
     let same = shown_further story requests p progress.Admitted in
     let l = open_within requests p (waiting_open requests p w) in
     let shown = shown_early (shown_wait story requests p) (h.early p w) in
@@ -436,7 +447,8 @@ waits_admitted story requests link p fresh moved w last h =
       connect = λ m v d. absurd (not_dialing link d);
       creds = λ m x v d. absurd (not_wanting link x d);
       setup = λ m x u v d. absurd (not_setting link x u d);
-      permit = λ m x v d. let k = there_then is_waiting requests p m progress.Admitted refl l v in elim (h.permit m link k.1 refl) [ inl e ↦ inl e | inr e ↦ inr (same m ∙ e) ];
+      resubscribe = λ m x v d goes. let k = there_then is_waiting requests p m progress.Admitted refl l v in elim (h.resubscribe m link k.1 refl goes) [ inl e ↦ inl e | inr e ↦ inr (same m ∙ e) ];
+      permit = λ m x v d none. let k = there_then is_waiting requests p m progress.Admitted refl l v in elim (h.permit m link k.1 refl none) [ inl e ↦ inl e | inr e ↦ inr (same m ∙ e) ];
       place = λ m a. by_test (p == m) _
           (λ t. inl (in_right m moved (p ∷ []) (inl (eq_from p m t))))
           (λ f. elim (h.place m (sym (there_other is_admitted requests p m progress.Admitted (ne_from p m f)) ∙ a)) [ inl i ↦ inl (in_left m moved (p ∷ []) i) | inr e ↦ inr (same m ∙ e) ]);
@@ -447,7 +459,9 @@ waits_admitted story requests link p fresh moved w last h =
       no_connect = λ m i v d. absurd (not_dialing link d);
       no_creds = λ m x i v d. absurd (not_wanting link x d);
       no_setup = λ m x u i v d. absurd (not_setting link x u d);
-      no_permit = λ m x i v d e. let k = there_then is_waiting requests p m progress.Admitted refl l v in h.no_permit m link i k.1 refl (sym (same m) ∙ e);
+      no_resubscribe = λ m x i v d goes e. let k = there_then is_waiting requests p m progress.Admitted refl l v in h.no_resubscribe m link i k.1 refl goes (sym (same m) ∙ e);
+      unpermitted = λ m x v d goes e. let k = there_then is_waiting requests p m progress.Admitted refl l v in h.unpermitted m link k.1 refl goes (sym (same m) ∙ e);
+      no_permit = λ m x i v d none e. let k = there_then is_waiting requests p m progress.Admitted refl l v in h.no_permit m link i k.1 refl none (sym (same m) ∙ e);
       seatless = λ m a e. by_test (p == m) _
           (λ t. shown.1 (ap (shown_wait story requests) (eq_from p m t) ∙ sym (same m) ∙ e))
           (λ f. h.seatless m (sym (there_other is_admitted requests p m progress.Admitted (ne_from p m f)) ∙ a) (sym (same m) ∙ e));
@@ -488,9 +502,9 @@ awaited_only true p n e i = i
 awaited_only false p n e i = cc
 
 -- one whose reply is awaited has its place
-pub place_tied : (b : Book) (t : Inner) (link : LinkState) (q : Waiting) (waiting admitted : List Waiting) → q.awaited ≡ true → IsNext b.story t.requests t.limit t.letting t.moved t.waiting t.admitted q waiting admitted → Tied b (on_link t link)
+pub place_tied : (b : Book) (t : Inner) (link : LinkState) (q : Waiting) (waiting admitted : List Waiting) → q.awaited ≡ true → IsNext b.story t.requests t.limit t.letting t.moved t.waiting t.admitted q waiting admitted → is_outstanding t.again ≡ false → Tied b (on_link t link)
     → Tied b (with_place t link q waiting admitted)
-place_tied b t link q waiting admitted yes_awaited next h =
+place_tied b t link q waiting admitted yes_awaited next none h =
     let p = q.number in
     let o = next.open_at in
     let within = open_within t.requests p o in
@@ -503,7 +517,7 @@ place_tied b t link q waiting admitted yes_awaited next h =
       told = λ f. absurd (not_both q.awaited f yes_awaited);
     } in
     record {
-      numbers = numbers_kept b _ _ _ _ (on_link t link) _ _ _ _ _ _ _ _ _ _ h.numbers.unrepeated h.numbers;
+      numbers = numbers_kept b _ _ _ _ (on_link t link) _ _ _ _ _ _ _ _ _ _ h.numbers;
       others = h.others;
       notices = h.notices;
       life = h.life;
@@ -513,6 +527,7 @@ place_tied b t link q waiting admitted yes_awaited next h =
       creation = h.creation;
       uses = h.uses;
       renewal = h.renewal;
+      repeat = h.repeat;
       setup = record { info_is = h.setup.info_is; sent = h.setup.sent; said = h.setup.said };
       link = λ e. subst (λ x. TiedLink x (b.link t.link) (enqueued link (message_of q))) (sym (owners_still t.requests p progress.Placed)) (enqueued_tied (owner_of t.requests) (b.link t.link) link (message_of q) (h.link refl));
       names = names_progressed t.table t.requests p progress.Placed h.names;
@@ -534,11 +549,11 @@ place_tied b t link q waiting admitted yes_awaited next h =
               ]
             ];
           };
-      waits = waits_enqueued b.story placed link (message_of q) t.fresh t.moved (subst (Rising 0 (t.moved ++ p ∷ [])) (sym still) next.last) (there_same is_admitted t.requests p progress.Placed within)
-          (λ e. next.shown (sym (shown_further b.story t.requests p progress.Placed p) ∙ e)) (waits_placed b.story t.requests p (Ready link) t.fresh t.moved within h.waits);
+      waits = waits_enqueued b.story placed t.again link (message_of q) t.fresh t.moved (subst (Rising 0 (t.moved ++ p ∷ [])) (sym still) next.last) (there_same is_admitted t.requests p progress.Placed within)
+          (λ e. next.shown (sym (shown_further b.story t.requests p progress.Placed p) ∙ e)) (waits_placed b.story t.requests p t.again (Ready link) t.fresh t.moved within h.waits);
       permits = permits_further b.story b.submissions t.requests t.link t.limit t.free t.letting p progress.Placed within refl next.let_in next.alone h.permits;
       rounds = rounds_with b.story b.story t.requests t.fresh p progress.Placed (permits_at t.requests p) within refl (λ n. refl) (λ shows unclosed. h.rounds.begun p shows o next.begun) h.rounds;
-      early = λ up. cc;
+      early = early_never placed t.again (Ready (enqueued link (message_of q))) (answered_serves (Ready (enqueued link (message_of q))) t.again refl none);
       late = late_further b.story t.requests p progress.Placed [] refl o h.late;
     }
 
@@ -561,9 +576,9 @@ apart_from_link b t link q waiting admitted next h i =
     ]
 
 -- one whose reply nobody awaits has its place, and is answered there
-pub tell_tied : (b : Book) (t : Inner) (link : LinkState) (q : Waiting) (waiting admitted : List Waiting) → q.awaited ≡ false → IsNext b.story t.requests t.limit t.letting t.moved t.waiting t.admitted q waiting admitted → Tied b (on_link t link)
+pub tell_tied : (b : Book) (t : Inner) (link : LinkState) (q : Waiting) (waiting admitted : List Waiting) → q.awaited ≡ false → IsNext b.story t.requests t.limit t.letting t.moved t.waiting t.admitted q waiting admitted → is_outstanding t.again ≡ false → Tied b (on_link t link)
     → Tied (entered b (action.Outcome (name_at t.requests q.number) (outcome.One Nil))) (with_told t link q waiting admitted)
-tell_tied b t link q waiting admitted not_awaited next h =
+tell_tied b t link q waiting admitted not_awaited next none h =
     let p = q.number in
     let n = name_at t.requests p in
     let nil = outcome.One Nil in
@@ -585,7 +600,7 @@ tell_tied b t link q waiting admitted not_awaited next h =
       told = λ f. ap (λ x. (after x).outcomes) named ∙ ap (λ (s : Story). s.outcomes) (sym same) ∙ ap (λ os. os ++ nil ∷ []) (open_unanswered (b.story n) (r.open_is ∙ o));
     } in
     record {
-      numbers = numbers_kept b _ _ _ _ (on_link t link) _ _ _ _ _ _ _ _ _ _ h.numbers.unrepeated h.numbers;
+      numbers = numbers_kept b _ _ _ _ (on_link t link) _ _ _ _ _ _ _ _ _ _ h.numbers;
       others = h.others;
       notices = h.notices;
       life = h.life;
@@ -595,6 +610,7 @@ tell_tied b t link q waiting admitted not_awaited next h =
       creation = h.creation;
       uses = h.uses;
       renewal = h.renewal;
+      repeat = calls_kept (b.link t.link) b.tracked (b.tracked ++ []) t.renewal.within t.again (Ready link) (λ goes. absurd (not_both (is_outstanding t.again) none goes)) h.repeat;
       setup = record { info_is = h.setup.info_is; sent = h.setup.sent; said = h.setup.said };
       link = λ e. subst (λ x. TiedLink x (b.link t.link) (enqueued link (message_of q))) (sym (owners_with t.requests p progress.Closed 0)) (enqueued_tied (owner_of t.requests) (b.link t.link) link (message_of q) (h.link refl));
       names = names_with t.table t.requests p progress.Closed 0 h.names;
@@ -617,9 +633,9 @@ tell_tied b t link q waiting admitted not_awaited next h =
               | inr j ↦ elim j [ inl own ↦ subst (λ k. (b.story (name_at t.requests k)).link ≡ t.link) own (r.on o) | inr none ↦ absurd none ]
             ];
           };
-      waits = waits_enqueued after closed link (message_of q) t.fresh t.moved (subst (Rising 0 (t.moved ++ p ∷ [])) (sym still) next.last) (with_same is_admitted t.requests p progress.Closed 0 within)
+      waits = waits_enqueued after closed t.again link (message_of q) t.fresh t.moved (subst (Rising 0 (t.moved ++ p ∷ [])) (sym still) next.last) (with_same is_admitted t.requests p progress.Closed 0 within)
           (λ e. (let gone : ◌≡◌ {A = Option WaitKind} None (Some wait.Room) = ap (λ (s : Story). s.waiting) same ∙ ap (λ x. (after x).waiting) (sym named) ∙ e in cc))
-          (waits_closed t.table b.story t.requests p done (Ready link) (Ready link) t.fresh t.moved h.names within (λ e. e) (λ e. e) (λ l e. absurd (not_wanting link l e)) (λ l u e. absurd (not_setting link l u e)) (λ l e. (link, refl))
+          (waits_closed t.table b.story t.requests p done t.again (Ready link) (Ready link) t.fresh t.moved h.names within (λ e. e) (λ e. e) (λ l e. absurd (not_wanting link l e)) (λ l u e. absurd (not_setting link l u e)) (λ l e. (link, refl))
           (λ m i.
           let queue = queue_ids link.queue in
           let kept = kept_ids t.admitted t.waiting in
@@ -629,14 +645,14 @@ tell_tied b t link q waiting admitted not_awaited next h =
       permits = permits_let after b.submissions closed t.link t.limit (given_back t.limit t.free (permits_at t.requests p)) t.letting p (with_same is_waiting t.requests p progress.Closed 0 within) next.alone
           (permits_closed b.story after t.table b.submissions t.requests t.link t.limit t.free t.letting p h.names within known (r.on o) r.permits_is (closed_other b.story t.requests p done) (ap (λ (s : Story). s.permits) (sym same)) (ap (λ (s : Story). s.link) (sym same) ∙ r.on o) h.permits);
       rounds = rounds_closed b.story t.requests t.fresh p done within c h.rounds;
-      early = λ up. cc;
+      early = early_never closed t.again (Ready (enqueued link (message_of q))) (answered_serves (Ready (enqueued link (message_of q))) t.again refl none);
       late = late_closed t.table b.story t.requests p done [] [] h.names within (λ m x i. i) h.late;
     }
 
 -- one that waits for the connection waits for a place behind the others
 pub admit_tied : (b : Book) (t : Inner) (link : LinkState) (q : Waiting) (qs : List Waiting) → is_waiting_at t.requests q.number ≡ true → is_unbegun_at t.requests q.number ≡ false → is_let_in t.limit (b.story (name_at t.requests q.number)) ≡ true → Rising 0 (t.moved ++ q.number ∷ []) (length t.requests)
-    → Tied b (record (on_link t link) { waiting = q ∷ qs; letting = q.number ∷ [] }) → Tied b (record (on_link t link) { requests = at_progress t.requests q.number progress.Admitted; waiting = qs; admitted = t.admitted ++ q ∷ []; moved = t.moved ++ q.number ∷ []; letting = [] })
-admit_tied b t link q qs w begun is last h =
+    → is_outstanding t.again ≡ false → Tied b (record (on_link t link) { waiting = q ∷ qs; letting = q.number ∷ [] }) → Tied b (record (on_link t link) { requests = at_progress t.requests q.number progress.Admitted; waiting = qs; admitted = t.admitted ++ q ∷ []; moved = t.moved ++ q.number ∷ []; letting = [] })
+admit_tied b t link q qs w begun is last none h =
     let p = q.number in
     let o = waiting_open t.requests p w in
     let within = open_within t.requests p o in
@@ -650,7 +666,7 @@ admit_tied b t link q qs w begun is last h =
     let apart : IsIn p queue → ⊥ = λ i. (let k = rising_apart 0 queue (front ++ (p ∷ rest)) hi p p line i (in_right p front (p ∷ rest) (inl refl)) in omega arith) in
     let same : kept_ids t.admitted (q ∷ qs) ≡ kept_ids (t.admitted ++ q ∷ []) qs = sym (append_assoc front (p ∷ []) rest) ∙ ap (λ ns. ns ++ rest) (sym (waiting_ids-push t.admitted q)) in
     record {
-      numbers = numbers_kept b _ _ _ _ (record (on_link t link) { waiting = q ∷ qs; letting = q.number ∷ [] }) _ _ _ _ _ _ _ _ _ _ h.numbers.unrepeated h.numbers;
+      numbers = numbers_kept b _ _ _ _ (record (on_link t link) { waiting = q ∷ qs; letting = q.number ∷ [] }) _ _ _ _ _ _ _ _ _ _ h.numbers;
       others = h.others;
       notices = h.notices;
       life = h.life;
@@ -660,6 +676,7 @@ admit_tied b t link q qs w begun is last h =
       creation = h.creation;
       uses = h.uses;
       renewal = h.renewal;
+      repeat = h.repeat;
       setup = record { info_is = h.setup.info_is; sent = h.setup.sent; said = h.setup.said };
       link = λ e. subst (λ x. TiedLink x (b.link t.link) link) (sym (owners_still t.requests p now)) (h.link refl);
       names = names_progressed t.table t.requests p now h.names;
@@ -684,10 +701,10 @@ admit_tied b t link q qs w begun is last h =
             ]);
       };
       told = λ e. told_further b.story t.requests t.link link p now (h.told refl);
-      waits = waits_admitted b.story t.requests link p t.fresh t.moved w last h.waits;
+      waits = waits_admitted b.story t.requests t.again link p t.fresh t.moved w last h.waits;
       permits = permits_further b.story b.submissions t.requests t.link t.limit t.free (p ∷ []) p now within refl is (λ m i. elim i [ inl e ↦ e | inr k ↦ absurd k ]) h.permits;
       rounds = rounds_with b.story b.story t.requests t.fresh p now (permits_at t.requests p) within refl (λ n. refl) (λ shows unclosed. h.rounds.begun p shows o begun) h.rounds;
-      early = λ up. cc;
+      early = early_never further t.again (Ready link) (answered_serves (Ready link) t.again refl none);
       late = late_further b.story t.requests p now [] refl o h.late;
     }
   where

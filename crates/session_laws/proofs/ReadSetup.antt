@@ -49,7 +49,7 @@ use Rattle.legal_trace.specs.Owed.{owed}
 use Rattle.legal_trace.proofs.Came.{Came, bytes_are}
 use Rattle.legal_trace.proofs.Monitors.{unwatched}
 use Rattle.legal_trace.proofs.Setups.{AreSetups as SetUpsAre, ends_where_set, greeted_more, set_is_greeted}
-use Rattle.session_laws.proofs.Rounded.{rounds_down}
+use Rattle.session_laws.proofs.Rounded.{rounds_down, early_on}
 use Rattle.session_laws.proofs.Announce.{IsNewsKind, turn_of, turned, asked_hear}
 use Rattle.session_laws.proofs.Close.{HasEnded, ended_applied, parted_moved}
 use Rattle.session_laws.proofs.ComeUp.{IsEarly, IsMade, IsReadied, IsShownReady, made_conn, made_is, made_of, makes_ready}
@@ -71,9 +71,12 @@ use Rattle.session_laws.proofs.Settle.{seen, trace_of_acts}
 use Rattle.session_laws.proofs.States.{Between, HasEffect, IsFit, IsFitIn}
 use Rattle.session_laws.proofs.Telling.{IsTelling, heard_readied, telling, told_holds, told_leaves}
 use Rattle.session_laws.proofs.Server.{IsGreeting, IsSetUp, IsSettingUp, IsSetupDue, IsSetupSent, IsWatchDue, IsWatchSent, IsWatching, TiedCreds, TiedSetup, greeting_at, watch_queued, hearing_there, on_link}
-use Rattle.session_laws.proofs.Tied.{AreQueued, TiedLife, TiedLines, TiedWaits, greeter, has_ended, inner, link_in, owner_of, AreEarly, HasCourse}
+use Rattle.session_laws.proofs.Tied.{AreQueued, TiedLife, TiedLines, TiedWaits, greeter, has_ended, inner, link_in, owner_of, HasCourse}
 use Rattle.session_laws.proofs.Told.{retells, well_told}
 use Rattle.driver_model.specs.declared.news.LinkFault.{LinkFault}
+use Rattle.session_laws.proofs.Serving.{unready_serves}
+use Rattle.session_laws.proofs.Repeats.{serves}
+use Rattle.session_laws.proofs.Held.{held_hears}
 
 -- notices that all stand behind some message
 behind_all : (ps : List NoticeAt) → AllByRecursion IsBehind ps → behind_first ps ≡ ps
@@ -81,12 +84,12 @@ behind_all [] all = refl
 behind_all (p ∷ ps) all = left_if (p.settled == 0) (behind_first ps) (p ∷ ps) all.0
 
 -- a connection whose link is up is fit where the link is
-pub fit_by : (c : MultiplexedConnection) (size bound : ℕ) (link : LinkState) → c.size ≡ size → c.boundary ≡ bound → c.life ≡ Ready link → ((x : LinkState) → Ready link ≡ Ready x → IsFit size bound x) → IsFitIn c
-fit_by c size bound link size_is bound_is life h = record {
+pub fit_by : (c : MultiplexedConnection) (size bound : ℕ) (link : LinkState) → c.size ≡ size → c.boundary ≡ bound → c.life ≡ Ready link → (serves c.life c.again ≡ false → c.admitted ≡ []) → ((x : LinkState) → Ready link ≡ Ready x → IsFit size bound x) → IsFitIn c
+fit_by c size bound link size_is bound_is life nobody h = record {
   wanting = λ x same. (let no : Ready link ≡ Wanting x = sym life ∙ same in cc);
   setup = λ x u same. (let no : Ready link ≡ SettingUp x u = sym life ∙ same in cc);
   link = λ x same. subst (λ n. IsFit n c.boundary x) (sym size_is) (subst (λ n. IsFit size n x) (sym bound_is) (h x (sym life ∙ same)));
-  none = λ none. absurd (none link life);
+  none = nobody;
 }
 
 -- where an opening failed, the link isn't up, and no fault changes what is so
@@ -264,13 +267,14 @@ setup_read_as before c started word kind piece link greeting g h good k is e = b
           course = (course.0, course.1, course.2, (asked_hear l c.turns (came piece)).last ∙ course.3);
           creds = subst (λ (y : Ledger). TiedCreds y.creds conn.renewal.wanted (SettingUp next now)) (sym same) (record { wanted_is = wanted_so; sought = (s.has, s.once) });
           renewal_is = none_hears l c.turns (came piece) conn.renewal (λ x. x) (early_renewal l conn.renewal conn.life (ap is_ready e) (ap has_ended e) h.sound.tied.renewal);
+          repeat_is = held_hears b c started (came piece) h.sound.tied (ap is_resting e) (ap is_ready e) (ap has_ended e);
           said = subst (λ (y : Ledger). TiedSetup y info started (SettingUp next now)) (sym same) (record { info_is = told_so; sent = h.sound.tied.setup.sent; said = (s.none, said) });
           linked = λ z. subst (λ (y : Ledger). TiedLink (λ p. greeter now) y next) (sym same) tied_next;
           lines = subst (λ (x : Life). TiedLines b.story conn.requests (link_in x) conn.waiting conn.admitted [] started) e h.sound.tied.lines;
           told = λ z. subst (λ (x : Life). AreQueued b.story conn.requests c.single.link (link_in x)) e (h.sound.tied.told (ap has_ended e));
-          waits = setting_waits b.story conn.requests link next greeting now conn.fresh conn.moved (subst (λ (x : Life). TiedWaits b.story conn.requests x conn.fresh conn.moved) e h.sound.tied.waits);
+          waits = setting_waits b.story conn.requests conn.again link next greeting now conn.fresh conn.moved (subst (λ (x : Life). TiedWaits b.story conn.requests conn.again x conn.fresh conn.moved) e h.sound.tied.waits);
           rounds = rounds_down b.story c.single.connection.requests c.single.connection.fresh c.single.connection.fresh refl h.sound.tied.rounds;
-          early = subst (AreEarly c.single.connection.requests) e h.sound.tied.early;
+          early = early_on conn.requests conn.again conn.again conn.life (SettingUp next now) (unready_serves conn.life conn.again (ap is_ready e)) (ap has_ended e) refl h.sound.tied.early;
           notices = subst (λ (y : Ledger). PushesOf (hearing_in b.config) conn.hears y) (sym same) (quiet r);
         })
         (ap ending same ∙ ending_setting after next now s.up said ∙ left_if (is_unreadable after) _ None (unreadable r false f))
@@ -471,7 +475,7 @@ setup_read_as before c started word kind piece link greeting g h good k is e = b
         let shown = subst (λ (y : Work). IsShownReady front f y (readied conn.renewal.wanted (heard_by b c (came piece))) untold started) readied_is (makes_ready before c started word kind (came piece) info read untold h good k is (λ y. y) early facts) in
         let now = book (trace_of_acts front f v.acts) in
         let line = in_line now (record (seen f v.acts v.conn [] started) { untold = untold }) shown.holds.tied refl in
-        let begins = subst (λ (y : Ledger). IsTelling front f y (owed now) (name_at v.conn.requests) (is_open_at v.conn.requests) v untold [] started) (shown.ledger ∙ ap (readied conn.renewal.wanted) same) (telling front f v untold [] started shown.holds line) in
+        let begins = subst (λ (y : Ledger). IsTelling front f y (owed now) (name_at v.conn.requests) (is_open_at v.conn.requests) v untold [] started) (shown.ledger ∙ ap (readied conn.renewal.wanted) same) (telling front f v untold [] started shown.holds line (λ up goes. refl)) in
         let done : IsTelling front f later (owed now) (name_at v.conn.requests) (is_open_at v.conn.requests) u [] [] started = tells (owed now) begins in
         let up : ending ((book (trace_of_acts front f u.acts)).link f.single.link) ≡ (if is_unreadable after then Some (by_fault (felt l.hearing fault.Parse)) else None) =
         ap ending done.ledger_is ∙ ends_where_set (retells later done.told later.parted) s.up (well_told later done.told later.parted ∙ well_readied conn.renewal.wanted after ∙ said.well) in
@@ -491,7 +495,7 @@ setup_read_as before c started word kind piece link greeting g h good k is e = b
           ended = none_ends (book (trace_of_acts front f u.acts)) (seen f u.acts u.conn [] started) done.holds.tied (up ∙ left_if (is_unreadable after) (Some (by_fault (felt l.hearing fault.Parse))) None (reads false t));
           began = λ z. absurd (omega arith);
           moved = still.moved ∙ h.moved;
-          fit = fit_by u.conn conn.size conn.boundary read still.size still.boundary still.life (λ y is_it. (let one : read ≡ y = cc in subst (IsFit conn.size conn.boundary) one (sound (first_false read.broken _ t))));
+          fit = fit_by u.conn conn.size conn.boundary read still.size still.boundary still.life (λ down. still.admitted ∙ h.fit.none (unready_serves conn.life conn.again (ap is_ready e))) (λ y is_it. (let one : read ≡ y = cc in subst (IsFit conn.size conn.boundary) one (sound (first_false read.broken _ t))));
           hushed = λ over. absurd (not_both f.shut awake over);
         })))
 

@@ -24,9 +24,9 @@ use Rattle.shared_session.specs.Turn.{with_work, is_bad}
 use Rattle.legal_trace.specs.Ledger.{Ledger, by_opening, bytes_came, ending, is_set_up, is_unreadable}
 use Rattle.legal_trace.specs.Book.{Book, book, hearing_in}
 use Rattle.legal_trace.proofs.Came.{Came, bytes_are}
-use Rattle.session_laws.proofs.Rounded.{rounds_down}
+use Rattle.session_laws.proofs.Rounded.{rounds_down, early_on}
 use Rattle.session_laws.proofs.Server.{TiedCreds, TiedSetup, on_link}
-use Rattle.session_laws.proofs.Tied.{AreQueued, TiedLife, TiedLines, TiedWaits, has_ended, inner, link_in, AreEarly, HasCourse, Inner, Tied}
+use Rattle.session_laws.proofs.Tied.{AreQueued, TiedLife, TiedLines, TiedWaits, has_ended, inner, link_in, HasCourse, Inner, Tied}
 use Rattle.session_laws.proofs.Creds.{asked_sourced}
 use Rattle.session_laws.proofs.States.{Between, HasEffect}
 use Rattle.session_laws.proofs.Said.{PushesOf, ending_wanting}
@@ -40,6 +40,8 @@ use Rattle.session_laws.proofs.HeardBytes.{quiet_notices, unset_unreadable}
 use Rattle.session_laws.proofs.More.{after_came, after_is}
 use Rattle.session_laws.proofs.Renewals.{early_renewal}
 use Rattle.session_laws.proofs.SetUp.{lacking_unset}
+use Rattle.session_laws.proofs.Serving.{unready_serves}
+use Rattle.session_laws.proofs.Held.{held_hears}
 
 -- the course of its link
 on_way : (b : Book) (t : Inner) (link : LinkState) → t.life ≡ Wanting link → Tied b t → HasCourse (b.link t.link).last (b.link t.link).end t.links t.link t.shut t.manager t.last t.opened t.info t.address (Wanting link)
@@ -134,13 +136,14 @@ wanting_reads before c started word kind piece link h good k is e it =
           course = (course.0, course.1, course.2, (asked_hear l c.turns (came piece)).last ∙ course.3);
           creds = subst (λ (y : Ledger). TiedCreds y.creds c.single.connection.renewal.wanted (Wanting read)) (sym same) (record { wanted_is = wanted_so; sought = s.sought });
           renewal_is = none_hears l c.turns (came piece) c.single.connection.renewal (λ x. x) (early_renewal l c.single.connection.renewal c.single.connection.life (ap is_ready e) (ap has_ended e) h.sound.tied.renewal);
+          repeat_is = held_hears b c started (came piece) h.sound.tied (ap is_resting e) (ap is_ready e) (ap has_ended e);
           said = subst (λ (y : Ledger). TiedSetup y c.single.connection.info started (Wanting read)) (sym same) (record { info_is = told_so; sent = h.sound.tied.setup.sent; said = (s.starts, s.none, s.queue, row) });
           linked = λ z. subst (λ (y : Ledger). TiedLink name y read) (sym same) quiet.of.tied;
           lines = subst (λ (x : Life). TiedLines b.story c.single.connection.requests (link_in x) c.single.connection.waiting c.single.connection.admitted [] started) e h.sound.tied.lines;
           told = λ z. subst (λ (x : Life). AreQueued b.story c.single.connection.requests c.single.link (link_in x)) e (h.sound.tied.told (ap has_ended e));
-          waits = wanting_waits b.story c.single.connection.requests link read c.single.connection.fresh c.single.connection.moved (subst (λ (x : Life). TiedWaits b.story c.single.connection.requests x c.single.connection.fresh c.single.connection.moved) e h.sound.tied.waits);
+          waits = wanting_waits b.story c.single.connection.requests c.single.connection.again link read c.single.connection.fresh c.single.connection.moved (subst (λ (x : Life). TiedWaits b.story c.single.connection.requests c.single.connection.again x c.single.connection.fresh c.single.connection.moved) e h.sound.tied.waits);
           rounds = rounds_down b.story c.single.connection.requests c.single.connection.fresh c.single.connection.fresh refl h.sound.tied.rounds;
-          early = subst (AreEarly c.single.connection.requests) e h.sound.tied.early;
+          early = (let conn = c.single.connection in early_on conn.requests conn.again conn.again conn.life (Wanting read) (unready_serves conn.life conn.again (ap is_ready e)) (ap has_ended e) refl h.sound.tied.early);
           notices = subst (λ (y : Ledger). PushesOf (hearing_in b.config) c.single.connection.hears y) (sym same) notices;
         })
         (ap ending same ∙ must ∙ left_if (is_unreadable after) (Some (by_opening error.Closed)) None (spoiled false f))

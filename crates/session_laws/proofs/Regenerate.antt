@@ -7,7 +7,7 @@ use Rattle.containers.proofs.Choices.{chosen, eq_from, left_if, ne_test, not_bot
 use Rattle.connection_info.specs.declared.address.RedisConnectionInfo.{RedisConnectionInfo}
 use Rattle.redis_error.specs.declared.redis_error.RedisError.TheVariants as error
 use Rattle.driver_model.specs.News.{News, silence, dropped}
-use Rattle.driver_model.specs.Hearing.{hears_messages}
+use Rattle.driver_model.specs.Hearing.{hears_messages, is_watching}
 use Rattle.driver_model.specs.declared.hearing.Hearing.{Hearing}
 use Rattle.manager_config.specs.declared.config.ConnectionManagerConfig.{ConnectionManagerConfig}
 use Rattle.manager_config.specs.Backoff.{backoff}
@@ -18,17 +18,15 @@ use Rattle.driver_model.specs.declared.action.Purpose.TheVariants as purpose
 use Rattle.driver_model.specs.declared.config.Config.{Config}
 use Rattle.driver_model.specs.declared.config.Config.TheVariants as variant
 use Rattle.driver_model.specs.declared.kind.SessionKind.TheVariants as kind
-use Rattle.driver_model.specs.Config.{connect_timeout, hearing_of, manager_of}
-use Rattle.driver_model.specs.Config.{hearing_in as hearing_for}
+use Rattle.driver_model.specs.Config.{connect_timeout, hearing_of, manager_of, hearing_in as hearing_for}
 use Rattle.mux_conn.specs.declared.life.Life.TheVariants.{Resting}
 use Rattle.shared_session.specs.declared.generations.Generations.{Generations}
-use Rattle.shared_session.specs.Generations.{connect_purposes, connect_timed, is_last}
+use Rattle.shared_session.specs.Generations.{connect_purposes, connect_timed, is_last, repeat_for}
 use Rattle.legal_trace.specs.Again.{repeats_in}
 use Rattle.legal_trace.specs.Book.{Book, blank_book, book, entered, has_generations, hearing_in, info_in, wanted_in}
 use Rattle.legal_trace.specs.Ledger.{Ending, Ledger, Line, asks, by_opening, ending, ending_alive, ending_asked, is_over, noted, noted_each}
 use Rattle.legal_trace.specs.Legal.{AllStand, IsApplied, IsShown, IsTimed, MayConnect, MayGenerate, MayRest, MayStand, MayTimeConnect, NoneEnds, begins_first, current_link, generation_due, is_attempt, is_caused, link_due, word_of}
-use Rattle.legal_trace.specs.Managers.{settings_in}
-use Rattle.legal_trace.specs.Managers.{is_last as last_in}
+use Rattle.legal_trace.specs.Managers.{settings_in, is_last as last_in}
 use Rattle.legal_trace.proofs.Moves.{lt_test}
 use Rattle.session_laws.proofs.Comes.{NoneComes, none_caused, none_rests}
 use Rattle.session_laws.proofs.Dial.{CanDial, asks_line, dialled_book, dialled_in, dials_tied}
@@ -39,6 +37,8 @@ use Rattle.session_laws.proofs.Names.{get_more}
 use Rattle.session_laws.proofs.Past.{is_past, unended_over}
 use Rattle.session_laws.proofs.Reopen.{at_rest, rest_tied, rested_in, rests_tied}
 use Rattle.session_laws.proofs.Tied.{AreAimed, ComesBack, HasCourse, Inner, IsAim, IsRetiring, IsToldIn, Sound, Tied, TiedLife, TiedManager, has_ended, is_begun}
+use Rattle.session_laws.proofs.Informed.{HasInformed}
+use Rattle.session_laws.proofs.Subscribes.{RepeatsNext, repeats_next}
 
 -- a session whose generations are these
 --
@@ -177,18 +177,18 @@ link_is_due b t h rests has some awake runs =
 abbrev pub IsHarmless : News → Type 0
 IsHarmless n = (n ≡ silence) ⊎ (n ≡ dropped)
 
--- no session that comes back hears messages
-none_messages : (config : Config) (s : ConnectionManagerConfig) → manager_of config ≡ Some s → hears_messages (hearing_of config) ≡ false
+-- no session that comes back hears messages, or has its server put into monitor mode
+none_messages : (config : Config) (s : ConnectionManagerConfig) → manager_of config ≡ Some s → (hears_messages (hearing_of config) ≡ false) × (is_watching (hearing_of config) ≡ false)
 none_messages (variant.Single address connection) s e = cc
 none_messages (variant.Manager lazy address connection manager) s e = by_push (unwrap_or connection.push false)
   where
-    by_push : (x : Bool) → hears_messages (hearing_for kind.Single x) ≡ false
-    by_push true = refl
-    by_push false = refl
+    by_push : (x : Bool) → (hears_messages (hearing_for kind.Single x) ≡ false) × (is_watching (hearing_for kind.Single x) ≡ false)
+    by_push true = (refl, refl)
+    by_push false = (refl, refl)
 none_messages (variant.PubSub address) s e = cc
 none_messages (variant.Monitor address) s e = cc
 
-comes_unheard : (config : Option Config) (s : ConnectionManagerConfig) → settings_in config ≡ Some s → hears_messages (hearing_in config) ≡ false
+comes_unheard : (config : Option Config) (s : ConnectionManagerConfig) → settings_in config ≡ Some s → (hears_messages (hearing_in config) ≡ false) × (is_watching (hearing_in config) ≡ false)
 unfolding settings_in
 comes_unheard None s e = cc
 comes_unheard (Some config) s e = none_messages config s e
@@ -205,10 +205,10 @@ asked_ends_not l info wanted hears last again down deaf harmless =
     ∙ chosen (λ (y : Option Ending). y ≡ None) (true && not (is_over x)) (ending_asked x l.heard) None (λ t. none) (λ f. refl)
 
 -- it may be, and is
-pub dials_on : (trace : List Action) (t : Inner) (g : Generations) (timer : ℕ) → IsResting trace t → t.manager ≡ Some g → g.number ≢ 0 → (book trace).rest ≡ None → t.shut ≡ false → timer ≡ length t.timers → IsHarmless ((book trace).link t.link).heard
+pub dials_on : (trace : List Action) (t : Inner) (g : Generations) (timer : ℕ) → IsResting trace t → t.manager ≡ Some g → g.number ≢ 0 → (book trace).rest ≡ None → HasInformed (book trace) g.subscribed → t.shut ≡ false → timer ≡ length t.timers → IsHarmless ((book trace).link t.link).heard
     → (let bound = g.settings.connection.connection_timeout in
-    Sound (trace ++ action.Connect t.link g.info.host g.info.port ∷ connect_timed t.link timer bound) (dialled_in t (is_last g.settings g.attempt) (t.timers ++ connect_purposes t.link bound)) × NoneEnds (book (trace ++ action.Connect t.link g.info.host g.info.port ∷ connect_timed t.link timer bound)))
-dials_on trace t g timer h is some awake runs next harmless = by_bound g.settings.connection.connection_timeout refl
+    Sound (trace ++ action.Connect t.link g.info.host g.info.port ∷ connect_timed t.link timer bound) (dialled_in t (is_last g.settings g.attempt) (repeat_for g) (t.timers ++ connect_purposes t.link bound)) × NoneEnds (book (trace ++ action.Connect t.link g.info.host g.info.port ∷ connect_timed t.link timer bound)))
+dials_on trace t g timer h is some awake informed runs next harmless = by_bound g.settings.connection.connection_timeout refl
   where
     b : Book
     b = book trace
@@ -234,7 +234,7 @@ dials_on trace t g timer h is some awake runs next harmless = by_bound g.setting
     down : TiedLife (b.link t.link) b.created Resting
     down = subst (TiedLife (b.link t.link) b.created) h.rests tied.life
 
-    can : CanDial b t last
+    can : CanDial b t last (repeat_for g)
     can = record {
       tied = tied;
       rests = h.rests;
@@ -246,6 +246,8 @@ dials_on trace t g timer h is some awake runs next harmless = by_bound g.setting
       begun = subst (λ (m : Option Generations). is_begun m ≡ true) (sym is) (ap not (ne_test g.number 0 some));
       last_is = λ i. last_in (k.settings_are i) (k.attempt_is i);
       unended = unended_over trace t.link down.1 down.2;
+      unwatched = sym (ap is_watching tied.notices.heard_is) ∙ (comes_unheard b.config g.settings k.settings_are).1;
+      again_is = subst (λ m. RepeatsNext (repeats_in m b.tracked) b.tracked (repeat_for g)) (sym k.settings_are) (repeats_next g b.tracked informed.held);
     }
 
     may : MayConnect b t.link g.info.host g.info.port
@@ -266,16 +268,16 @@ dials_on trace t g timer h is some awake runs next harmless = by_bound g.setting
     ends : NoneEnds (entered b a)
     ends m = chosen (λ (ls : List Line). ending (noted_each (b.link m) ls) ≡ None) (t.link == m) (asks_line b ∷ []) []
         (λ e. subst (λ n. ending (noted (b.link n) (asks_line b)) ≡ None) (eq_from t.link m e)
-        (asked_ends_not (b.link t.link) (info_in b.config) (wanted_in b.config) (hearing_in b.config) (last_in (settings_in b.config) b.attempt) (repeats_in (settings_in b.config) b.tracked) down.1 (comes_unheard b.config g.settings k.settings_are) harmless))
+        (asked_ends_not (b.link t.link) (info_in b.config) (wanted_in b.config) (hearing_in b.config) (last_in (settings_in b.config) b.attempt) (repeats_in (settings_in b.config) b.tracked) down.1 (comes_unheard b.config g.settings k.settings_are).0 harmless))
         (λ e. h.ended m)
 
     -- once it is, and its timer
-    behind : (timers : List Purpose) (timed : ℕ) → AreAimed timers t.link (length t.table) → IsTimed (dialled_book b t.link g.info.host g.info.port timers timed) → Tied (dialled_book b t.link g.info.host g.info.port timers timed) (dialled_in t last timers)
-    behind timers timed = dials_tied b t g.info.host g.info.port last timers timed can
+    behind : (timers : List Purpose) (timed : ℕ) → AreAimed timers t.link (length t.table) → IsTimed (dialled_book b t.link g.info.host g.info.port timers timed) → Tied (dialled_book b t.link g.info.host g.info.port timers timed) (dialled_in t last (repeat_for g) timers)
+    behind timers timed = dials_tied b t g.info.host g.info.port last (repeat_for g) timers timed can
 
     -- all is shown then
-    applied : (timers : List Purpose) (timed : ℕ) → Tied (dialled_book b t.link g.info.host g.info.port timers timed) (dialled_in t last timers) → IsApplied (dialled_book b t.link g.info.host g.info.port timers timed)
-    applied timers timed now = applied_up (dialled_book b t.link g.info.host g.info.port timers timed) (dialled_in t last timers) now h.settled h.told refl refl ends
+    applied : (timers : List Purpose) (timed : ℕ) → Tied (dialled_book b t.link g.info.host g.info.port timers timed) (dialled_in t last (repeat_for g) timers) → IsApplied (dialled_book b t.link g.info.host g.info.port timers timed)
+    applied timers timed now = applied_up (dialled_book b t.link g.info.host g.info.port timers timed) (dialled_in t last (repeat_for g) timers) now h.settled h.told refl refl ends
 
     same_config : (x y : Config) → Some x ≡ Some y → x ≡ y
     same_config x y e = cc
@@ -285,18 +287,18 @@ dials_on trace t g timer h is some awake runs next harmless = by_bound g.setting
     bound_is config told = ap connect_timeout (same_config config k.whole (sym told ∙ k.told)) ∙ k.bounded
 
     by_bound : (bound : Option ℕ) → g.settings.connection.connection_timeout ≡ bound
-        → Sound (trace ++ a ∷ connect_timed t.link timer bound) (dialled_in t last (t.timers ++ connect_purposes t.link bound)) × NoneEnds (book (trace ++ a ∷ connect_timed t.link timer bound))
+        → Sound (trace ++ a ∷ connect_timed t.link timer bound) (dialled_in t last (repeat_for g) (t.timers ++ connect_purposes t.link bound)) × NoneEnds (book (trace ++ a ∷ connect_timed t.link timer bound))
     by_bound None e =
-        let now : Tied (dialled_book b t.link g.info.host g.info.port t.timers b.timed) (dialled_in t last t.timers) =
+        let now : Tied (dialled_book b t.link g.info.host g.info.port t.timers b.timed) (dialled_in t last (repeat_for g) t.timers) =
         behind t.timers b.timed tied.numbers.aims (λ config told some. absurd (some (bound_is config told ∙ e))) in
         let same : dialled_book b t.link g.info.host g.info.port t.timers b.timed ≡ entered b a = λ i. dialled_book b t.link g.info.host g.info.port (sym tied.numbers.timers i) b.timed in (
-          sound_more trace a (dialled_in t last (t.timers ++ [])) h.sound.stands may (subst (λ ts. Tied (entered b a) (dialled_in t last ts)) (sym (append-nil t.timers)) (subst (λ (x : Book). Tied x (dialled_in t last t.timers)) same now)),
+          sound_more trace a (dialled_in t last (repeat_for g) (t.timers ++ [])) h.sound.stands may (subst (λ ts. Tied (entered b a) (dialled_in t last (repeat_for g) ts)) (sym (append-nil t.timers)) (subst (λ (x : Book). Tied x (dialled_in t last (repeat_for g) t.timers)) same now)),
           subst NoneEnds (sym (book_more trace a)) ends,
         )
     by_bound (Some ms) e =
         let c = action.Timer timer ms (purpose.Connect t.link) in
         let ts = t.timers ++ purpose.Connect t.link ∷ [] in
-        let now : Tied (dialled_book b t.link g.info.host g.info.port ts (b.timed + 1)) (dialled_in t last ts) =
+        let now : Tied (dialled_book b t.link g.info.host g.info.port ts (b.timed + 1)) (dialled_in t last (repeat_for g) ts) =
         behind ts (b.timed + 1)
         (λ n what i. elim (get_more t.timers (purpose.Connect t.link) n what i) [
           | inl old ↦ tied.numbers.aims n what old
@@ -321,9 +323,9 @@ dials_on trace t g timer h is some awake runs next harmless = by_bound g.setting
         let first : book (trace ++ a ∷ []) ≡ d = book_more trace a in
         let whole : (trace ++ a ∷ []) ++ c ∷ [] ≡ trace ++ a ∷ c ∷ [] = append_assoc trace (a ∷ []) (c ∷ []) in
         let stands : AllStand blank_book (trace ++ a ∷ []) = all_stand-append trace (a ∷ []) h.sound.stands (may, tt) in
-        subst (λ (x : List Action). Sound x (dialled_in t last ts) × NoneEnds (book x)) whole (
-          sound_more (trace ++ a ∷ []) c (dialled_in t last ts) stands (subst (λ (x : Book). MayStand x c) (sym first) (inl (inl timed)))
-              (subst (λ (x : Book). Tied (entered x c) (dialled_in t last ts)) (sym first) (subst (λ (x : Book). Tied x (dialled_in t last ts)) same now)),
+        subst (λ (x : List Action). Sound x (dialled_in t last (repeat_for g) ts) × NoneEnds (book x)) whole (
+          sound_more (trace ++ a ∷ []) c (dialled_in t last (repeat_for g) ts) stands (subst (λ (x : Book). MayStand x c) (sym first) (inl (inl timed)))
+              (subst (λ (x : Book). Tied (entered x c) (dialled_in t last (repeat_for g) ts)) (sym first) (subst (λ (x : Book). Tied x (dialled_in t last (repeat_for g) ts)) same now)),
           subst NoneEnds (sym (book_more (trace ++ a ∷ []) c)) (subst (λ (x : Book). NoneEnds (entered x c)) (sym first) ends),
         )
       where

@@ -33,6 +33,7 @@ use Rattle.session_laws.proofs.States.{Between, HasApplied, trace_with}
 use Rattle.session_laws.proofs.Server.{AreRenewed, AreSought, NoneRenewed, TiedCreds, TiedRenewal, TiedSetup, on_link}
 use Rattle.session_laws.proofs.Tied.{Tied, TiedLife, carried, has_ended, inner, whole_link}
 use Rattle.session_laws.proofs.ComeUp.{early_sources}
+use Rattle.session_laws.proofs.Repeats.{TiedRepeat, repeat_alike}
 
 -- a link that has ended
 --
@@ -54,7 +55,7 @@ over_renewal front f conn r e started over within wanted waiting asked h =
 --
 -- of which other new credentials are known
 ready_renewal : (before : List Action) (c : Core) (started : List ℕ) (word : ℕ) (kind : EventKind) (n : News) (link : LinkState) (renewals : List Credentials) (over lost : Bool) (r : Renewal) → Between before c started → is_bad c kind ≡ false → IsNewsKind c.timers kind
-    → news_of c.timers c.sources c.single.link kind ≡ n → c.single.connection.life ≡ Ready link → r.within ≡ c.single.connection.renewal.within → r.wanted ≡ c.single.connection.renewal.wanted → StaysQuiet c r → n ≢ shut
+    → news_of c.timers c.sources c.single.link kind ≡ n → c.single.connection.life ≡ Ready link → r.within ≡ c.single.connection.renewal.within → r.wanted ≡ c.single.connection.renewal.wanted → StaysQuiet c r c.single.connection.again → n ≢ shut
     → (let l = (book before).link c.single.link in let m = recredited l l.creds.asked l.creds.renews renewals over l.creds.timed lost in
     heard_by (book before) c n ≡ record m { heard = n } → AreRenewed (record m { heard = n }) r → ending_up (record m { heard = n }) n ≡ None
     → HasApplied (before ++ turn_of c word kind ∷ []) (with_work (record { core = turned c kind; acts = [] }) (record { conn = with_renewal c.single.connection r; acts = [] })) started)
@@ -73,7 +74,7 @@ ready_renewal before c started word kind n link renewals over lost r h good k is
     let f = turned c kind in
     let own = ap (heard_by b c) (book_news b c started kind n h0 is) ∙ same in
     let t = seen f [] (with_renewal conn r) [] started in
-    let tied : Tied (heard_book b c.turns word kind) t = heard_tied_new b c started word b.created b.failed conn.told conn.opened kind conn.info r conn.life conn.fresh [] [] after h0 h0.creation within wanted quiet good (λ some. some) own
+    let tied : Tied (heard_book b c.turns word kind) t = heard_tied_new b c started word b.created b.failed conn.told conn.opened kind conn.info r conn.again conn.life conn.fresh [] [] after h0 h0.creation within wanted quiet good (λ some. some) own
     (record {
       starts = refl;
       hearing_kept = refl;
@@ -82,6 +83,7 @@ ready_renewal before c started word kind n link renewals over lost r h good k is
       course = h0.course;
       creds = subst (λ (x : Life). TiedCreds after.creds r.wanted x) (sym e) (record { wanted_is = on_link conn.life (l.creds.wanted ≡ conn.renewal.wanted) (ap is_resting e) h0.creds.wanted_is ∙ sym wanted; sought = sought });
       renewal_is = subst (λ (x : Life). TiedRenewal after r x) (sym e) are;
+      repeat_is = subst (λ o. TiedRepeat after b.tracked o conn.again conn.life) (sym within) (repeat_alike l after b.tracked conn.renewal.within conn.again conn.life refl refl refl (λ x over. refl) h0.repeat);
       said = subst (λ (x : Life). TiedSetup after conn.info started x) (sym e) said;
       linked = λ z. said_tied (carried conn.life conn.requests) l (whole_link conn.life) l.info m.creds n (h0.link z);
       lines = h0.lines;
@@ -167,7 +169,7 @@ renewed_applied before c started word kind a h good k is renews = by_life c.sing
         chosen done (is_ready conn.life && takes_more conn.renewal) (with_renewal conn now) conn
         (λ t.
         let so : may_renew l ≡ true = may ∙ ap (λ y. y && takes_more conn.renewal) (sym (ap is_ready e)) ∙ t in
-        let wants : StaysQuiet c now = λ w. absurd (not_both conn.renewal.wanted (still w).0 (both_left conn.renewal.wanted (not conn.renewal.over) (both_right (is_ready conn.life) (takes_more conn.renewal) t))) in
+        let wants : StaysQuiet c now conn.again = λ w. absurd (not_both conn.renewal.wanted (still w).0 (both_left conn.renewal.wanted (not conn.renewal.over) (both_right (is_ready conn.life) (takes_more conn.renewal) t))) in
         ready_renewal before c started word kind (renewed a) link (l.creds.renewals ++ a ∷ []) l.creds.over l.creds.lost now h good k is e refl refl wants (λ z. cc) (ap (λ (x : Ledger). record x { heard = renewed a }) (taken_if (may_renew l) (renewed_by l a) l so)) (expects l conn.renewal a (renewed a) tied) refl)
         (λ f.
         let so : may_renew l ≡ false = may ∙ ap (λ y. y && takes_more conn.renewal) (sym (ap is_ready e)) ∙ f in

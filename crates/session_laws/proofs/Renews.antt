@@ -1,8 +1,8 @@
 -- New credentials are told before the queue, behind their timer.
 use Rattle.std.proofs.Common.{List, None, Option, Some, [], ap, arith, false, inl, inr, length, length-append, refl, subst, sym, true, ℕ, ◌+◌, ◌++◌, ◌≤◌, ◌∙◌, ◌∷◌, ◌≡◌, ◌≢◌}
 use Rattle.std.proofs.lemmas.List.{append-nil}
-use Rattle.std.specs.Prelude.{if◌then◌else◌, slice_get, ◌==◌, ◌&&◌}
-use Rattle.containers.proofs.Choices.{both_right, chosen, eq_test, left_if, not_both, taken_if, by_test}
+use Rattle.std.specs.Prelude.{if◌then◌else◌, slice_get, ◌&&◌}
+use Rattle.containers.proofs.Choices.{both_right, chosen, left_if, not_both, by_test, taken_if}
 use Rattle.containers.proofs.Places.{get_within}
 use Rattle.credentials.specs.Credentials.{Credentials}
 use Rattle.credentials.specs.Message.{auth_bytes}
@@ -15,13 +15,13 @@ use Rattle.driver_model.specs.declared.action.Purpose.TheVariants as purpose
 use Rattle.driver_model.specs.declared.outcome.Shape.TheVariants.{Confirmation}
 use Rattle.link_core.specs.Link.{LinkState, begun, entry_of, holds_back}
 use Rattle.link_core.specs.declared.message.Entry.{Entry}
+use Rattle.link_core.specs.declared.message.Queued.{Queued}
 use Rattle.link_laws.proofs.Once.{wanted-append}
 use Rattle.link_laws.proofs.TiedLink.{all_push, begun_tied, timed_tied}
 use Rattle.link_laws.specs.Settles.{awaited_ids, wanted}
 use Rattle.link_laws.specs.Starts.{start_from}
 use Rattle.mux_conn.specs.Connection.{Work, are_some, is_due as is_renewal_due, is_ready}
 use Rattle.mux_conn.specs.Renewals.{asked_next, renewal_asked, renewal_id, renewal_moved, renewal_queued, renewal_timed, renewal_told, renewed, renewing, told_next}
-use Rattle.mux_conn.specs.Requests.{name_at}
 use Rattle.mux_conn.specs.declared.act.LinkAct.TheVariants as act
 use Rattle.mux_conn.specs.declared.life.Life.{Life}
 use Rattle.mux_conn.specs.declared.life.Life.TheVariants.{Ready}
@@ -30,7 +30,7 @@ use Rattle.mux_conn.specs.declared.request.Request.{Request}
 use Rattle.shared_session.specs.declared.core_state.Core.{Core}
 use Rattle.shared_session.specs.Turn.{timers_of}
 use Rattle.legal_trace.specs.Book.{Book, book, entered, message_of, renewal_in}
-use Rattle.legal_trace.specs.Ledger.{Ledger, Start, begins, is_of_setup, noted, renewal_count, renewal_due, renewals_asked, setup_count, times}
+use Rattle.legal_trace.specs.Ledger.{Ledger, Start, begins, is_of_setup, noted, renewal_count, renewal_due, renewals_asked, setup_count, times, is_of_again}
 use Rattle.legal_trace.specs.Legal.{MayRenew, MayTimeRenewal, NoneEnds}
 use Rattle.legal_trace.specs.Story.{Story}
 use Rattle.legal_trace.proofs.Setups.{count_more}
@@ -38,8 +38,8 @@ use Rattle.session_laws.proofs.Ahead.{held_by}
 use Rattle.session_laws.proofs.Going.{HasRenewed, applied_up, none_ends_kept, none_ends_mine, renewals_timed, setups_started, monitors_started}
 use Rattle.session_laws.proofs.InLine.{kept_ids}
 use Rattle.session_laws.proofs.Kept.{mine_noted, others_kept, tied_by}
-use Rattle.session_laws.proofs.Names.{get_more}
-use Rattle.session_laws.proofs.Numbers.{IsIn, Rising, in_left, requests_behind, requests_in, requests_in-append}
+use Rattle.session_laws.proofs.Names.{get_more, owner_of_auth}
+use Rattle.session_laws.proofs.Numbers.{IsIn, Rising, in_left, requests_behind, requests_in, requests_in-append, auth_is_own, is_own}
 use Rattle.session_laws.proofs.Renewals.{auth_renewed, asked_renewed, down_renewed_due, due_first, due_is, some_wait, timed_renewed}
 use Rattle.session_laws.proofs.SetUp.{set_up_begins, setups_begins}
 use Rattle.session_laws.proofs.Settle.{Holds, book_of_more, renewal_tied, seen, sound_act, trace_of_acts}
@@ -48,15 +48,25 @@ use Rattle.session_laws.proofs.Starts.{begins_ends_none}
 use Rattle.session_laws.proofs.States.{IsFit}
 use Rattle.session_laws.proofs.Server.{AreRenewed, TiedRenewal, setup_owners, timed_of}
 use Rattle.session_laws.proofs.Tied.{AreAimed, Inner, IsAim, IsEntry, Tied, TiedTries, numbers_kept, owner_of, owners_each, queue_ids}
-use Rattle.session_laws.proofs.Unrepeated.{repeats_started, repeats_timed, unrepeated_lined}
 use Rattle.session_laws.proofs.Took.{queue_waits}
 use Rattle.mux_conn.specs.declared.life.Greeting.TheVariants as greet
 use Rattle.driver_model.specs.Hearing.{is_watching}
+use Rattle.session_laws.proofs.Repeats.{repeated_alike, begins_repeated}
+use Rattle.session_laws.proofs.Repeating.{HasRepeated}
+use Rattle.session_laws.proofs.RepeatsDue.{repeating_timed, repeating_started}
+
+-- two links of one life
+pub one_link : (link other : LinkState) → Ready link ≡ Ready other → link ≡ other
+one_link link other e = cc
+
+-- one that is fit has the boundary of its connection
+pub bound_fit : (size bound : ℕ) (link : LinkState) → IsFit size bound link → (x : LinkState) → Ready link ≡ Ready x → x.boundary ≡ bound
+bound_fit size bound link fit x e = ap (λ (y : LinkState). y.boundary) (sym (one_link link x e)) ∙ fit.bound_is
 
 -- their timer
 --
 -- where a time is set, there is one
-time_is_set : (within : Option ℕ) (ms : ℕ) → within ≡ Some ms → within ≢ None
+pub time_is_set : (within : Option ℕ) (ms : ℕ) → within ≡ Some ms → within ≢ None
 time_is_set within ms e none = let no : ◌≡◌ {A = Option ℕ} None (Some ms) = sym none ∙ e in cc
 
 -- a timer more for the link
@@ -71,9 +81,9 @@ timed_is_asked : (l : Ledger) (r : Renewal) (ms : ℕ) → r.within ≡ Some ms 
 timed_is_asked l r ms e h = h.timed_is ∙ ap (λ o. timed_of o r.asked) e
 
 -- it may be asked for
-may_time_renewal : (b : Book) (t : Inner) (link : LinkState) (number ms : ℕ) → number ≡ length t.timers → t.renewal.pending ≡ false → is_renewal_due t.renewal ≡ true → t.renewal.within ≡ Some ms → Tied b (on_link t link) → NoneEnds b
+may_time_renewal : (b : Book) (t : Inner) (link : LinkState) (number ms : ℕ) → number ≡ length t.timers → t.renewal.pending ≡ false → is_renewal_due t.renewal ≡ true → t.renewal.within ≡ Some ms → IsFit t.size t.bound link → HasRepeated t.again (Ready link) → Tied b (on_link t link) → NoneEnds b
     → MayTimeRenewal b number ms (purpose.Renewal t.link t.renewal.asked)
-may_time_renewal b t link number ms counted none due within h ended =
+may_time_renewal b t link number ms counted none due within fit repeated h ended =
     let was = on_link t link in
     let l = b.link t.link in
     let r = t.renewal in
@@ -85,8 +95,8 @@ may_time_renewal b t link number ms counted none due within h ended =
       applied = applied_up b was h refl (refl, refl) refl refl ended;
       setups = setups_started b was h (λ x u e. absurd (not_setting link x u e));
       monitors = monitors_started b was h (λ x e. absurd (not_setting link x greet.Monitor e));
-      repeats_timed = repeats_timed b h.numbers.unrepeated;
-      repeated = repeats_started b h.numbers.unrepeated;
+      repeats_timed = repeating_timed b was h repeated;
+      repeated = repeating_started b was h (bound_fit t.size t.bound link fit) repeated;
       l = t.link;
       within = h.numbers.within ∙ within;
       asked = omega (arith, timed, one, unasked, h.renewal.asked_is);
@@ -102,7 +112,7 @@ time_tied b t link number ms none due within h =
     let l = b.link t.link in
     let r = t.renewal in
     let what = purpose.Renewal t.link r.asked in
-    let k = numbers_kept b b.link b.story b.tracked b.errors (on_link t link) (Ready link) t.free t.requests t.waiting t.admitted t.fresh t.moved t.letting [] t.started h.numbers.unrepeated h.numbers in
+    let k = numbers_kept b b.link b.story b.tracked b.errors (on_link t link) (Ready link) t.free t.requests t.waiting t.admitted t.fresh t.moved t.letting [] t.started h.numbers in
     tied_by (entered b (action.Timer number ms what)) (record (on_link t link) { timers = t.timers ++ what ∷ []; renewal = asked_next r }) (noted l times) (mine_noted l t.link times) (record {
       numbers = record {
         turns = k.turns;
@@ -116,10 +126,9 @@ time_tied b t link number ms none due within h =
         shut = k.shut;
         within = k.within;
         few = k.few;
-        unrepeated = unrepeated_lined b.link t.link times refl h.numbers.unrepeated;
         settings = record { size_is = k.settings.size_is; bound_is = k.settings.bound_is; limit_is = k.settings.limit_is; some = k.settings.some; limited = k.settings.limited };
         kind_is = k.kind_is;
-        quiet = λ w. let q = h.numbers.quiet w in record { none = q.none; unwanted = q.unwanted; unrenewed = q.unrenewed };
+        quiet = λ w. let q = h.numbers.quiet w in record { none = q.none; unwanted = q.unwanted; unrenewed = q.unrenewed; unrepeated = q.unrepeated };
         comes_back = k.comes_back;
         lazy = k.lazy;
         current_is = k.current_is;
@@ -137,6 +146,7 @@ time_tied b t link number ms none due within h =
       creation = h.creation;
       uses = h.uses;
       renewal = timed_renewed l r ms none due within h.renewal;
+      repeat = repeated_alike l (noted l times) b.tracked t.renewal.within t.again refl refl refl h.repeat;
       setup = record { info_is = h.setup.info_is; sent = h.setup.sent; said = record { well = h.setup.said.well; none = h.setup.said.none } };
       link = λ e. timed_tied (owner_of t.requests) l link (h.link refl);
       names = h.names;
@@ -159,39 +169,40 @@ auth_some c e = cc
 
 -- and is AUTH's
 auth_owner : (requests : List Request) → owner_of requests renewal_id ≡ owner.Auth
-auth_owner requests = taken_if (renewal_id == renewal_id) owner.Auth (owner.Try (name_at requests renewal_id) 0) (eq_test renewal_id renewal_id refl)
+auth_owner requests = owner_of_auth requests renewal_id refl
 
--- one more of the started, that is none of a request
-tries_told : (l : Ledger) (story : ℕ → Story) (requests : List Request) (link : ℕ) (started : List ℕ) (s : Start) → length requests ≤ renewal_id → s.owner ≡ owner.Auth → is_watching l.hearing ≡ false → TiedTries l story requests link started → TiedTries (noted l (begins s)) story requests link (started ++ renewal_id ∷ [])
-tries_told l story requests link started s few owned plain h =
+-- one more of the started, of this number, which is none of a request, nor of the setup
+pub tries_told : (l : Ledger) (story : ℕ → Story) (requests : List Request) (link : ℕ) (started : List ℕ) (s : Start) (id : ℕ) → length requests ≤ id → is_of_setup s.owner ≡ false → s.owner ≡ owner_of requests id → is_watching l.hearing ≡ false → TiedTries l story requests link started
+    → TiedTries (noted l (begins s)) story requests link (started ++ id ∷ [])
+tries_told l story requests link started s id few other own plain h =
     let c = setup_count l.starts in
-    let same : setup_count (l.starts ++ s ∷ []) ≡ c = count_more l.starts s (ap is_of_setup owned) in
-    let own : s.owner ≡ owner_of requests renewal_id = owned ∙ sym (auth_owner requests) in
+    let same : setup_count (l.starts ++ s ∷ []) ≡ c = count_more l.starts s other in
     record {
       greeted = λ w. absurd (not_both (is_watching l.hearing) plain w);
-      owners = λ same_plain. owners-append l.starts (s ∷ []) ∙ (λ i. h.owners plain i ++ own i ∷ []) ∙ setup_owners-append c (owners_each requests started) (owner_of requests renewal_id ∷ [])
-          ∙ (λ i. setup_owners (sym same i) (sym (owners_each-append requests started (renewal_id ∷ [])) i));
-      shapes = λ j m x inside i e. elim (get_more started renewal_id j m i) [
+      owners = λ same_plain. owners-append l.starts (s ∷ []) ∙ (λ i. h.owners plain i ++ own i ∷ []) ∙ setup_owners-append c (owners_each requests started) (owner_of requests id ∷ [])
+          ∙ (λ i. setup_owners (sym same i) (sym (owners_each-append requests started (id ∷ [])) i));
+      shapes = λ j m x inside i e. elim (get_more started id j m i) [
         | inl a ↦ elim (get_more l.starts s (c + j) x (ap (λ y. slice_get (l.starts ++ s ∷ []) (y + j)) (sym same) ∙ e)) [
           | inl d ↦ h.shapes j m x inside a d
           | inr d ↦ absurd (past j m a d.0)
         ]
         | inr a ↦ absurd (let k = a.1 in omega (arith, k, inside, few))
       ];
-      tried = λ j m inside i. elim (get_more started renewal_id j m i) [
+      tried = λ j m inside i. elim (get_more started id j m i) [
         | inl a ↦ h.tried j m inside a ∙ ap (λ y. record { link = link; message = y + j } ∷ []) (sym same)
         | inr a ↦ absurd (let k = a.1 in omega (arith, k, inside, few))
       ];
-      untried = λ m r i out on. h.untried m r i (λ j. out (in_left m started (renewal_id ∷ []) j)) on;
+      untried = λ m r i out on. h.untried m r i (λ j. out (in_left m started (id ∷ []) j)) on;
     }
   where
     past : (j m : ℕ) → slice_get started j ≡ Some m → setup_count l.starts + j ≡ length l.starts → ⊥
     past j m a e = let w = get_within started j m a in let long = owners_length l.starts requests started (setup_count l.starts) (h.owners plain) in omega arith
 
--- an entry of AUTH is no request's
-wanted_told : (row : List Entry) (c : Credentials) → requests_in (wanted (row ++ entry_of (renewal_queued c) ∷ [])) ≡ requests_in (wanted row)
-wanted_told row c =
-    ap requests_in (wanted-append row (entry_of (renewal_queued c) ∷ [])) ∙ requests_in-append (wanted row) (renewal_id ∷ []) ∙ ap (λ ns. requests_in (wanted row) ++ ns) (requests_behind []) ∙ append-nil (requests_in (wanted row))
+-- an entry of the driver's own is no request's
+pub wanted_told : (row : List Entry) (q : Queued) → is_own q.id ≡ true → q.awaited ≡ true → requests_in (wanted (row ++ entry_of q ∷ [])) ≡ requests_in (wanted row)
+wanted_told row q own awaited =
+    ap requests_in (wanted-append row (entry_of q ∷ [])) ∙ ap (λ ns. requests_in (wanted row ++ (ns ++ []))) (taken_if q.awaited (q.id ∷ []) [] awaited)
+    ∙ requests_in-append (wanted row) (q.id ∷ []) ∙ ap (λ ns. requests_in (wanted row) ++ ns) (requests_behind q.id [] own) ∙ append-nil (requests_in (wanted row))
 
 -- what shows it
 abbrev auth_action : Inner → LinkState → Credentials → Action
@@ -202,17 +213,17 @@ abbrev after_auth : Inner → LinkState → Credentials → List Credentials →
 after_auth t link c cs = record (on_link t (begun link (renewal_queued c))) { renewal = told_next t.renewal cs; started = t.started ++ renewal_id ∷ [] }
 
 -- it may start, where nothing holds the link back
-may_renew : (b : Book) (t : Inner) (link : LinkState) (c : Credentials) (cs : List Credentials) → is_renewal_due t.renewal ≡ true → t.renewal.pending ≡ true → t.renewal.waiting ≡ c ∷ cs → IsFit t.size t.bound link → holds_back link ≡ false → Tied b (on_link t link) → NoneEnds b
+may_renew : (b : Book) (t : Inner) (link : LinkState) (c : Credentials) (cs : List Credentials) → is_renewal_due t.renewal ≡ true → t.renewal.pending ≡ true → t.renewal.waiting ≡ c ∷ cs → IsFit t.size t.bound link → holds_back link ≡ false → HasRepeated t.again (Ready link) → Tied b (on_link t link) → NoneEnds b
     → MayRenew b t.link link.started (need_of Confirmation) (length (auth_bytes c.username c.password))
-may_renew b t link c cs due pending waits fit free h ended =
+may_renew b t link c cs due pending waits fit free repeated h ended =
     let was = on_link t link in
     let l = b.link t.link in
     record {
       applied = applied_up b was h refl (refl, refl) refl refl ended;
       setups = setups_started b was h (λ x u e. absurd (not_setting link x u e));
       monitors = monitors_started b was h (λ x e. absurd (not_setting link x greet.Monitor e));
-      repeats_timed = repeats_timed b h.numbers.unrepeated;
-      repeated = repeats_started b h.numbers.unrepeated;
+      repeats_timed = repeating_timed b was h repeated;
+      repeated = repeating_started b was h (bound_fit t.size t.bound link fit) repeated;
       timed = renewals_timed b was h (λ x e d. pending);
       credentials = c;
       due = due_first l t.renewal c cs h.life.1 h.renewal due waits;
@@ -239,7 +250,7 @@ auth_tied b t link c cs due pending waits h =
     let plain : is_watching t.hears ≡ true → ⊥ = λ w. (let no : [] ≡ c ∷ cs = sym (h.numbers.quiet w).unrenewed ∙ waits in cc) in
     let unwatched : is_watching l.hearing ≡ false = by_test (is_watching l.hearing) _ (λ w. absurd (plain (ap is_watching (sym h.notices.hearing_is) ∙ w))) (λ f. f) in
     let few : length t.requests ≤ renewal_id = omega (arith, h.names.few, h.numbers.few) in
-    let k = numbers_kept b b.link b.story b.tracked b.errors (on_link t link) (Ready (begun link q)) t.free t.requests t.waiting t.admitted t.fresh t.moved t.letting [] (t.started ++ renewal_id ∷ []) h.numbers.unrepeated h.numbers in
+    let k = numbers_kept b b.link b.story b.tracked b.errors (on_link t link) (Ready (begun link q)) t.free t.requests t.waiting t.admitted t.fresh t.moved t.letting [] (t.started ++ renewal_id ∷ []) h.numbers in
     tied_by (entered b (auth_action t link c)) (after_auth t link c cs) (noted l (begins s)) (mine_noted l t.link (begins (message_of b t.link owner.Auth)) ∙ ap (λ x. noted l (begins x)) told) (record {
       numbers = record {
         turns = k.turns;
@@ -253,7 +264,6 @@ auth_tied b t link c cs due pending waits h =
         shut = k.shut;
         within = k.within;
         few = k.few;
-        unrepeated = unrepeated_lined b.link t.link (begins (message_of b t.link owner.Auth)) refl h.numbers.unrepeated;
         settings = record { size_is = k.settings.size_is; bound_is = k.settings.bound_is; limit_is = k.settings.limit_is; some = k.settings.some; limited = k.settings.limited };
         kind_is = k.kind_is;
         quiet = λ w. absurd (plain w);
@@ -274,33 +284,34 @@ auth_tied b t link c cs due pending waits h =
       creation = h.creation;
       uses = h.uses;
       renewal = auth_renewed l t.renewal s c cs owned refl up.within due pending waits h.renewal;
+      repeat = begins_repeated l s b.tracked t.renewal.within t.again (ap is_of_again owned) h.repeat;
       setup = record { info_is = h.setup.info_is; sent = setups_begins l s (ap is_of_setup owned) h.setup.sent; said = set_up_begins l s (ap is_of_setup owned) h.setup.said };
       link = λ e. begun_tied name l link q (auth_some c) up;
       names = h.names;
       story = h.story;
-      tries = tries_told l b.story t.requests t.link t.started s few owned unwatched h.tries;
+      tries = tries_told l b.story t.requests t.link t.started s renewal_id few (ap is_of_setup owned) refl unwatched h.tries;
       lines = record {
-        line = subst (λ ns. Rising 0 (ns ++ (queue_ids link.queue ++ kept_ids t.admitted t.waiting)) (length t.requests)) (sym (requests_in-append t.started (renewal_id ∷ []) ∙ ap (λ ns. requests_in t.started ++ ns) (requests_behind []) ∙ append-nil (requests_in t.started))) h.lines.line;
+        line = subst (λ ns. Rising 0 (ns ++ (queue_ids link.queue ++ kept_ids t.admitted t.waiting)) (length t.requests)) (sym (requests_in-append t.started (renewal_id ∷ []) ∙ ap (λ ns. requests_in t.started ++ ns) (requests_behind renewal_id [] (auth_is_own renewal_id refl)) ∙ append-nil (requests_in t.started))) h.lines.line;
         queued = h.lines.queued;
-        entries = all_push (IsEntry t.requests) link.row (entry_of q) h.lines.entries (inr (record { is = refl; awaited_is = refl; shape_is = refl }));
+        entries = all_push (IsEntry t.requests) link.row (entry_of q) h.lines.entries (inr (record { is = auth_is_own renewal_id refl; awaited_is = refl; shape_is = λ e. refl }));
         packs = h.lines.packs;
         packed_in = h.lines.packed_in;
         there = λ p e. elim (h.lines.there p e) [
-          | inl i ↦ inl (subst (λ ns. IsIn p (ns ++ awaited_ids link.queue)) (sym (wanted_told link.row c)) i)
+          | inl i ↦ inl (subst (λ ns. IsIn p (ns ++ awaited_ids link.queue)) (sym (wanted_told link.row q (auth_is_own renewal_id refl) refl)) i)
           | inr k ↦ inr k
         ];
       };
       told = λ e. h.told refl;
-      waits = queue_waits b.story t.requests link (begun link q) t.fresh t.moved (λ p i. i) h.waits;
+      waits = queue_waits b.story t.requests t.again link (begun link q) t.fresh t.moved (λ p i. i) h.waits;
       permits = h.permits;
       rounds = h.rounds;
-      early = h.early;
+      early = λ unserved alive. (let k = h.early unserved alive in record { unbegun = k.unbegun; empty = k.empty });
       late = h.late;
     })
 
 -- all of it
 --
--- new credentials were told that may be
+-- new credentials were told that may be, behind what is subscribed again
 pub record HasTold (before : List Action) (f : Core) (v : Work) : Type 0 where
   pub started : List ℕ
   pub link : LinkState
@@ -309,6 +320,7 @@ pub record HasTold (before : List Action) (f : Core) (v : Work) : Type 0 where
   pub ended : NoneEnds (book (trace_of_acts before f v.acts))
   pub fit : IsFit v.conn.size v.conn.boundary link
   pub moved : v.conn.moved ≡ []
+  pub repeated : HasRepeated v.conn.again v.conn.life
   pub renewed : HasRenewed v.conn.renewal v.conn.life
 
 -- their timer was asked for
@@ -318,16 +330,17 @@ record HasAsked (before : List Action) (f : Core) (v : Work) (started : List ℕ
   ended : NoneEnds (book (trace_of_acts before f v.acts))
   fit : IsFit v.conn.size v.conn.boundary link
   moved : v.conn.moved ≡ []
+  repeated : HasRepeated v.conn.again v.conn.life
   due : is_renewal_due v.conn.renewal ≡ true
   pending : v.conn.renewal.pending ≡ true
 
 -- so it is, where they are to be told
-asked_told : (before : List Action) (f : Core) (w : Work) (started : List ℕ) (link : LinkState) → w.conn.life ≡ Ready link → Holds before f w [] started → NoneEnds (book (trace_of_acts before f w.acts)) → IsFit w.conn.size w.conn.boundary link → w.conn.moved ≡ [] → is_renewal_due w.conn.renewal ≡ true
+asked_told : (before : List Action) (f : Core) (w : Work) (started : List ℕ) (link : LinkState) → w.conn.life ≡ Ready link → Holds before f w [] started → NoneEnds (book (trace_of_acts before f w.acts)) → IsFit w.conn.size w.conn.boundary link → w.conn.moved ≡ [] → HasRepeated w.conn.again w.conn.life → is_renewal_due w.conn.renewal ≡ true
     → HasAsked before f (renewal_asked w) started link
-asked_told before f w started link life holds ended fit moved due =
+asked_told before f w started link life holds ended fit moved repeated due =
     let r = w.conn.renewal in
     chosen (λ (x : Work). HasAsked before f x started link) r.pending w (renewal_timed (renewing w (asked_next r)) r.asked r.within)
-    (λ p. record { life = life; holds = holds; ended = ended; fit = fit; moved = moved; due = due; pending = p })
+    (λ p. record { life = life; holds = holds; ended = ended; fit = fit; moved = moved; repeated = repeated; due = due; pending = p })
     (λ n. by_within r.within refl n)
   where
     b : Book
@@ -341,13 +354,13 @@ asked_told before f w started link life holds ended fit moved due =
         let l = b.link f.single.link in
         let r = w.conn.renewal in
         let now = subst (TiedRenewal l (asked_next r)) (sym life) (asked_renewed l r n due e (subst (TiedRenewal l r) life holds.tied.renewal)) in
-        record { life = life; holds = record { stands = holds.stands; tied = renewal_tied b t (asked_next r) refl refl refl now holds.tied }; ended = ended; fit = fit; moved = moved; due = due; pending = refl }
+        record { life = life; holds = record { stands = holds.stands; tied = renewal_tied b t (asked_next r) refl refl refl now holds.tied }; ended = ended; fit = fit; moved = moved; repeated = repeated; due = due; pending = refl }
     by_within (Some ms) e n =
         let r = w.conn.renewal in
         let a = act.RenewalTimer r.asked ms in
         let was = subst (λ (x : Life). Tied b (record t { life = x })) life holds.tied in
         let number = length f.timers + length (timers_of f.single.link w.acts) in
-        let may = may_time_renewal b t link number ms (sym (length-append f.timers (timers_of f.single.link w.acts))) n due e was ended in
+        let may = may_time_renewal b t link number ms (sym (length-append f.timers (timers_of f.single.link w.acts))) n due e fit (subst (HasRepeated w.conn.again) life repeated) was ended in
         let what = purpose.Renewal f.single.link r.asked in
         let tied = subst (λ (x : Life). Tied (entered b (action.Timer number ms what)) (record t { life = x; timers = t.timers ++ what ∷ []; renewal = asked_next r })) (sym life) (time_tied b t link number ms n due e was) in
         record {
@@ -356,13 +369,10 @@ asked_told before f w started link life holds ended fit moved due =
           ended = subst NoneEnds (sym (book_of_more before f w.acts a)) (none_ends_kept b f.single.link times (λ l x. x) ended);
           fit = fit;
           moved = moved;
+          repeated = repeated;
           due = due;
           pending = refl;
         }
-
--- two links of one life
-one_link : (link other : LinkState) → Ready link ≡ Ready other → link ≡ other
-one_link link other e = cc
 
 -- they are told, where nothing holds the link back
 asked_moved : (before : List Action) (f : Core) (v : Work) (started : List ℕ) (link : LinkState) (cs : List Credentials) → v.conn.renewal.waiting ≡ cs → HasAsked before f v started link → HasTold before f (renewal_moved v (Ready link) cs)
@@ -377,6 +387,7 @@ asked_moved before f v started link (c ∷ cs) waits h =
       ended = h.ended;
       fit = h.fit;
       moved = h.moved;
+      repeated = h.repeated;
       renewed = λ x e due. (h.pending, subst (λ (y : LinkState). holds_back y ≡ true) (one_link link x (sym h.life ∙ e)) held);
     })
     (λ free.
@@ -392,23 +403,24 @@ asked_moved before f v started link (c ∷ cs) waits h =
       link = begun link q;
       life = refl;
       holds = sound_act before f v.acts a (record v.conn { renewal = told_next v.conn.renewal cs; life = Ready (begun link q) }) [] (started ++ renewal_id ∷ []) h.holds.stands
-          (may_renew b t link c cs h.due h.pending waits h.fit free was h.ended) (auth_tied b t link c cs h.due h.pending waits was);
+          (may_renew b t link c cs h.due h.pending waits h.fit free (subst (HasRepeated v.conn.again) h.life h.repeated) was h.ended) (auth_tied b t link c cs h.due h.pending waits was);
       ended = subst NoneEnds (sym (book_of_more before f v.acts a)) (none_ends_mine b f.single.link (begins message) (begins_ends_none l message was.life.1 refl was.setup.said (h.ended f.single.link)) h.ended);
       fit = record { sound = h.fit.sound; size_is = h.fit.size_is; bound_is = h.fit.bound_is; within = h.fit.within };
       moved = h.moved;
+      repeated = λ x e start. absurd (not_both (holds_back link) free (h.repeated link h.life start).1);
       renewed = λ x e due. cc;
     })
 
 -- so all are told that may be
-pub renewed_told : (before : List Action) (f : Core) (w : Work) (started : List ℕ) (link : LinkState) → w.conn.life ≡ Ready link → Holds before f w [] started → NoneEnds (book (trace_of_acts before f w.acts)) → IsFit w.conn.size w.conn.boundary link → w.conn.moved ≡ [] → HasTold before f (renewed w)
-renewed_told before f w started link life holds ended fit moved =
+pub renewed_told : (before : List Action) (f : Core) (w : Work) (started : List ℕ) (link : LinkState) → w.conn.life ≡ Ready link → Holds before f w [] started → NoneEnds (book (trace_of_acts before f w.acts)) → IsFit w.conn.size w.conn.boundary link → w.conn.moved ≡ [] → HasRepeated w.conn.again w.conn.life → HasTold before f (renewed w)
+renewed_told before f w started link life holds ended fit moved repeated =
     let r = w.conn.renewal in
     let ready : is_ready w.conn.life ≡ true = ap is_ready life in
     chosen (HasTold before f) (is_ready w.conn.life && is_renewal_due r) (renewal_moved (renewal_asked w) w.conn.life r.waiting) w
     (λ t.
     let due = both_right (is_ready w.conn.life) (is_renewal_due r) t in
     subst (λ (x : Life). HasTold before f (renewal_moved (renewal_asked w) x r.waiting)) (sym life)
-    (asked_moved before f (renewal_asked w) started link r.waiting (asked_waits w) (asked_told before f w started link life holds ended fit moved due)))
+    (asked_moved before f (renewal_asked w) started link r.waiting (asked_waits w) (asked_told before f w started link life holds ended fit moved repeated due)))
     (λ f1. record {
       started = started;
       link = link;
@@ -417,6 +429,7 @@ renewed_told before f w started link life holds ended fit moved =
       ended = ended;
       fit = fit;
       moved = moved;
+      repeated = repeated;
       renewed = λ x e due. absurd (not_both (is_ready w.conn.life && is_renewal_due r) f1 (λ i. ready i && due i));
     })
   where

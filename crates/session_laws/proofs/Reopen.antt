@@ -12,6 +12,7 @@ use Rattle.driver_model.specs.declared.action.Purpose.TheVariants as purpose
 use Rattle.driver_model.specs.declared.action.SourceUse.{SourceUse}
 use Rattle.driver_model.specs.declared.action.SourceUse.TheVariants as source
 use Rattle.link_laws.proofs.TiedLink.{TiedLink, fresh_tied}
+use Rattle.mux_conn.specs.declared.again.Again.TheVariants as again
 use Rattle.mux_conn.specs.Requests.{is_admitted_at, is_open_at, is_placed_at, is_unbegun_at, is_waiting_at, name_at, permits_at}
 use Rattle.mux_conn.specs.declared.life.Life.TheVariants.{Resting}
 use Rattle.mux_conn.specs.declared.request.Pending.{Pending}
@@ -47,12 +48,13 @@ pub record HasNoLink (b : Book) (t : Inner) : Type 0 where
   pub creation : TiedCreation b.created t.told
   pub uses : AreUses t.sources t.link false false
   pub renewal : NoneRenewed blank_ledger t.renewal
+  pub repeat : t.again ≡ again.Nothing
   pub names : TiedNames t.table t.requests
   pub story : (n : ℕ) → TiedStory (b.story n) t.requests t.link (slice_get t.table n)
   pub untried : (p : ℕ) (r : Request) → slice_get t.requests p ≡ Some r → (b.story r.name).link ≡ t.link → (b.story r.name).tries ≡ []
   pub untold : (n : ℕ) → is_told (b.story n) ≡ true → (b.story n).tries ≡ [] → (b.story n).link ≡ t.link → ⊥
   pub lines : TiedLines b.story t.requests no_link t.waiting [] [] []
-  pub waits : TiedWaits b.story t.requests Resting t.fresh []
+  pub waits : TiedWaits b.story t.requests t.again Resting t.fresh []
   pub rounds : TiedRounds (has_generations b) b.story t.requests false t.fresh t.rounds
   pub early : (p : ℕ) → is_open_at t.requests p ≡ true → is_unbegun_at t.requests p ≡ true
   pub permits : TiedPermits b.story b.submissions t.requests t.link t.limit t.free []
@@ -85,7 +87,6 @@ rest_tied b t h =
         shut = n.shut;
         within = n.within;
         few = n.few;
-        unrepeated = n.unrepeated;
         settings = n.settings;
         kind_is = n.kind_is;
         quiet = n.quiet;
@@ -108,6 +109,7 @@ rest_tied b t h =
       uses = on_blank (λ (l : Ledger). AreUses t.sources t.link l.creds.asked l.creds.renews) (b.link t.link) h.unknown h.uses;
       renewal = on_blank (λ (l : Ledger). NoneRenewed l t.renewal) (b.link t.link) h.unknown
           (record { over_is = r.over_is; came = refl; waits = r.waits; untimed = refl; unstarted = refl; unasked = r.unasked; unpending = r.unpending; told = r.told; kept = refl; found = r.found });
+      repeat = h.repeat;
       setup = on_blank (λ (l : Ledger). TiedSetup l t.info [] Resting) (b.link t.link) h.unknown (record { info_is = tt; sent = λ m s less e. absurd (omega arith); said = (refl, refl) });
       link = λ up. on_blank (λ (l : Ledger). TiedLink (owner_of t.requests) l no_link) (b.link t.link) h.unknown
           (record { sent = k.sent; offer = k.offer; bound = k.bound; rest = k.rest; broken = k.broken; started = k.started; within = k.within; bytes = k.bytes; row = k.row });
@@ -118,7 +120,7 @@ rest_tied b t h =
       told = λ up. record { told = λ m is none on. absurd (h.untold m is none on); here = λ p i. absurd i };
       waits = h.waits;
       rounds = h.rounds;
-      early = λ down alive p o. h.early p o;
+      early = λ down alive. record { unbegun = h.early; empty = refl };
       permits = h.permits;
       late = h.late;
     }
@@ -169,7 +171,7 @@ aim_later (purpose.Response owner.Resub) link links count le h = h
 aim_later (purpose.Response owner.Monitor) link links count le h = h
 aim_later (purpose.Renewal l k) link links count le h = omega (arith, le, h)
 aim_later (purpose.Backoff g) link links count le h = h
-aim_later (purpose.Resubscription l) link links count le h = h
+aim_later (purpose.Resubscription l) link links count le h = omega (arith, le, h)
 aim_later (purpose.Response (owner.Try n round)) link links count le h = h
 
 -- a source was asked for a link before it
@@ -216,7 +218,6 @@ rests_tied b t timer ms number h past =
         shut = n.shut;
         within = n.within;
         few = n.few;
-        unrepeated = n.unrepeated;
         settings = record { size_is = n.settings.size_is; bound_is = n.settings.bound_is; limit_is = n.settings.limit_is; some = n.settings.some; limited = n.settings.limited };
         kind_is = n.kind_is;
         quiet = n.quiet;
@@ -241,6 +242,7 @@ rests_tied b t timer ms number h past =
       creation = h.creation;
       uses = λ k what i. use_later what t.link t.links _ _ (omega (arith, placed)) (h.uses k what i);
       renewal = h.renewal;
+      repeat = h.repeat;
       names = h.names;
       story = λ m. subst (λ l. TiedStory (moved_to l (b.story m)) t.requests t.links (slice_get t.table m)) (sym n.links) (by_entry m (slice_get t.table m) (h.story m));
       untried = λ p r i on.
@@ -263,7 +265,8 @@ rests_tied b t timer ms number h past =
         connect = λ p w e. cc;
         creds = λ p link w e. cc;
         setup = λ p link u w e. cc;
-        permit = λ p link w e. cc;
+        resubscribe = λ p link w e goes. cc;
+        permit = λ p link w e none. cc;
         place = λ p a. absurd (none_admitted p a);
         room = λ p i. absurd i;
         newer = subst (λ ns. Rising 0 ns (length t.requests)) (sym h.fresh) h.lines.line;
@@ -272,7 +275,9 @@ rests_tied b t timer ms number h past =
         no_connect = λ p i w e. cc;
         no_creds = λ p link i w e. cc;
         no_setup = λ p link u i w e. cc;
-        no_permit = λ p link i w e. cc;
+        no_resubscribe = λ p link i w e goes. cc;
+        unpermitted = λ p link w e goes. cc;
+        no_permit = λ p link i w e none. cc;
         no_place = λ p i. absurd i;
         seatless = λ p a. absurd (none_admitted p a);
         no_room = λ p i. absurd i;

@@ -1,7 +1,7 @@
 -- Replies to new credentials: what bytes that come make of them.
 use Rattle.std.proofs.Common.{◌≡◌, ◌≢◌, ◌⊎◌, inl, inr, ℕ, zero, suc, ◌+◌, ◌<◌, ◌≤◌, ◌==◌, nat_le, Bool, true, false, ◌&&◌, ◌||◌, not, if◌then◌else◌, List, [], ◌∷◌, ◌++◌, length, take, drop, Option, Some, None, slice_get, refl, sym, ap, ◌∙◌, subst, arith}
 use Rattle.std.specs.List.{AllByRecursion}
-use Rattle.containers.proofs.Choices.{by_test, chosen, taken_if, left_if, not_both, not_le_from, not_le_test, eq_from, eq_test, ne_from}
+use Rattle.containers.proofs.Choices.{by_test, chosen, taken_if, left_if, not_both, not_le_from, not_le_test, eq_from, ne_from}
 use Rattle.containers.proofs.Places.{get_within}
 use Rattle.resp_value.specs.Data.{Data}
 use Rattle.resp_read.specs.Values.{values}
@@ -26,16 +26,14 @@ use Rattle.link_laws.proofs.Started.{full_or_open, row_open}
 use Rattle.link_laws.proofs.TiedLink.{ReadsAlike, TiedLink, deals, has_heard, read_taken}
 use Rattle.mux_conn.specs.declared.renewal.Renewal.{Renewal}
 use Rattle.mux_conn.specs.declared.request.Request.{Request}
-use Rattle.mux_conn.specs.Requests.{name_at}
 use Rattle.mux_conn.specs.Renewals.{is_done, renewal_id, replied}
-use Rattle.legal_trace.specs.Ledger.{Ledger, Start, bytes_came, cut, is_full, is_of_renewal, is_taken, last_renewal, reach}
-use Rattle.legal_trace.specs.Ledger.{is_done as is_taken_so}
+use Rattle.legal_trace.specs.Ledger.{Ledger, Start, bytes_came, cut, is_full, is_of_renewal, is_taken, last_renewal, reach, is_done as is_taken_so}
 use Rattle.legal_trace.proofs.Came.{bytes_are, grown, holds_came}
 use Rattle.legal_trace.proofs.Renewals.{last_told, taken_more}
 use Rattle.legal_trace.proofs.Setups.{full_stays}
 use Rattle.session_laws.proofs.InLine.{row_ids, wanted_in}
-use Rattle.session_laws.proofs.Names.{auth_owner}
-use Rattle.session_laws.proofs.Numbers.{IsIn, in_left, in_right, in_either}
+use Rattle.session_laws.proofs.Names.{auth_owner, owner_of_auth}
+use Rattle.session_laws.proofs.Numbers.{IsIn, in_left, in_right, in_either, is_own, auth_is_own}
 use Rattle.session_laws.proofs.Owes.{wanted_entry}
 use Rattle.session_laws.proofs.Settle.{replied_each}
 use Rattle.session_laws.proofs.Server.{AreFullBefore, AreRenewed, IsLost, IsTold}
@@ -87,12 +85,12 @@ last_behind l k j s last at is =
 
 -- the owner of AUTH's number
 auth_name : (requests : List Request) (p : ℕ) → p ≡ renewal_id → is_of_renewal (owner_of requests p) ≡ true
-auth_name requests p is = ap is_of_renewal (taken_if (p == renewal_id) owner.Auth (owner.Try (name_at requests p) 0) (eq_test p renewal_id is))
+auth_name requests p is = ap is_of_renewal (owner_of_auth requests p is)
 
 -- what more items leave
 --
 -- a ledger with more items
-abbrev with_items : Ledger → List Data → Ledger
+abbrev pub with_items : Ledger → List Data → Ledger
 with_items l more = record l { dealt = l.dealt ++ more }
 
 -- what a start that is full took
@@ -161,13 +159,13 @@ some_replied r done (s ∷ ss) i all =
     now ∙ some_replied r done ss (elim i [ inl same ↦ absurd (ne_from s.id renewal_id f same) | inr j ↦ j ]) all.1)
 
 -- an entry of a row, by its place
-entry_at : (P : Entry → Type 0) (row : List Entry) (n : ℕ) (e : Entry) → AllByRecursion P row → slice_get row n ≡ Some e → P e
+pub entry_at : (P : Entry → Type 0) (row : List Entry) (n : ℕ) (e : Entry) → AllByRecursion P row → slice_get row n ≡ Some e → P e
 entry_at P [] n e all at = cc
 entry_at P (x ∷ row) zero e all at = let same : x ≡ e = cc in subst P same all.0
 entry_at P (x ∷ row) (suc n) e all at = entry_at P row n e all.1 at
 
 -- that is awaited is wanted
-wanted_at : (row : List Entry) (n : ℕ) (e : Entry) → slice_get row n ≡ Some e → e.awaited ≡ true → IsIn e.id (wanted row)
+pub wanted_at : (row : List Entry) (n : ℕ) (e : Entry) → slice_get row n ≡ Some e → e.awaited ≡ true → IsIn e.id (wanted row)
 wanted_at [] n e at is = cc
 wanted_at (x ∷ row) zero e at is =
     let same : x ≡ e = cc in
@@ -237,7 +235,7 @@ all_say requests l more (s ∷ out) k shaped only all = (
 )
 
 -- those that were told last, and aren't answered, are in the row
-told_in_row : (requests : List Request) (l : Ledger) (link : LinkState) (k : ℕ) → l.end ≡ None → TiedLink (owner_of requests) l link → AllByRecursion (IsEntry requests) link.row → ((p : ℕ) → p < length requests → p ≢ renewal_id) → last_renewal l.starts 0 None ≡ Some k → is_full l k ≡ false
+told_in_row : (requests : List Request) (l : Ledger) (link : LinkState) (k : ℕ) → l.end ≡ None → TiedLink (owner_of requests) l link → AllByRecursion (IsEntry requests) link.row → ((p : ℕ) → p < length requests → is_own p ≡ false) → last_renewal l.starts 0 None ≡ Some k → is_full l k ≡ false
     → IsIn renewal_id (wanted link.row)
 told_in_row requests l link k lives tied entries few last open_is =
     let m = last_start l k last in
@@ -249,7 +247,7 @@ told_in_row requests l link k lives tied entries few last open_is =
           let auth : owner_of requests row.entry.id ≡ owner.Auth = sym place.owned ∙ ap (λ (x : Start). x.owner) one ∙ auth_is m.0.owner m.2 in
           let id = auth_owner requests row.entry.id auth in
           elim (entry_at (IsEntry requests) link.row row.index row.entry entries row.at) [
-            | inl request ↦ absurd (few row.entry.id request.below id)
+            | inl request ↦ absurd (not_both (is_own row.entry.id) (few row.entry.id request.below) (auth_is_own row.entry.id id))
             | inr renewal ↦ subst (λ n. IsIn n (wanted link.row)) id (wanted_at link.row row.index row.entry row.at renewal.awaited_is)
           ]
     ]
@@ -258,7 +256,7 @@ told_in_row requests l link k lives tied entries few last open_is =
     one_start x y e = cc
 
 -- a link with a row and more items
-row_tied : (name : ℕ → Owner) (l : Ledger) (link : LinkState) (more : List Data) (d : Dealing) → IsDealt name l.starts (l.dealt ++ more) d → TiedLink name l link → TiedLink name (with_items l more) (record link { row = d.row })
+pub row_tied : (name : ℕ → Owner) (l : Ledger) (link : LinkState) (more : List Data) (d : Dealing) → IsDealt name l.starts (l.dealt ++ more) d → TiedLink name l link → TiedLink name (with_items l more) (record link { row = d.row })
 row_tied name l link more d dealt_so h = record {
   sent = h.sent;
   offer = h.offer;
@@ -272,7 +270,7 @@ row_tied name l link more d dealt_so h = record {
 }
 
 -- more items are dealt
-items_renewed : (requests : List Request) (l : Ledger) (link : LinkState) (more : List Data) (d : Dealing) (r : Renewal) → l.end ≡ None → TiedLink (owner_of requests) l link → AllByRecursion (IsEntry requests) link.row → ((p : ℕ) → p < length requests → p ≢ renewal_id)
+items_renewed : (requests : List Request) (l : Ledger) (link : LinkState) (more : List Data) (d : Dealing) (r : Renewal) → l.end ≡ None → TiedLink (owner_of requests) l link → AllByRecursion (IsEntry requests) link.row → ((p : ℕ) → p < length requests → is_own p ≡ false)
     → IsDealt (owner_of requests) l.starts (l.dealt ++ more) d → AllByRecursion (IsNew (owner_of requests) l.starts l.dealt (l.dealt ++ more)) d.out → settled_ids d.out ++ wanted d.row ≡ wanted link.row → AreRenewed l r
     → AreRenewed (with_items l more) (replied_each r d.out)
 items_renewed requests l link more d r lives tied entries few dealt_so new kept h =
@@ -393,7 +391,7 @@ items_renewed requests l link more d r lives tied entries few dealt_so new kept 
 
 -- bytes come
 pub read_renewed : (requests : List Request) (h : Hearing) (l : Ledger) (link : LinkState) (piece : List ℕ) (r : Renewal) → l.end ≡ None → ReadsAlike h true l link piece → TiedLink (owner_of requests) l link → AllByRecursion (IsEntry requests) link.row
-    → ((p : ℕ) → p < length requests → p ≢ renewal_id) → AreRenewed l r → AreRenewed (has_heard l piece) (replied_each r (deals h true link piece).out)
+    → ((p : ℕ) → p < length requests → is_own p ≡ false) → AreRenewed l r → AreRenewed (has_heard l piece) (replied_each r (deals h true link piece).out)
 read_renewed requests h l link piece r lives alike tied entries few renewed =
     let name = owner_of requests in
     let d = deals h true link piece in

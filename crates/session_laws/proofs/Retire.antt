@@ -1,5 +1,5 @@
 -- An attempt to open the connection's link has failed, and another one follows: the connection is without a link.
-use Rattle.std.proofs.Common.{◌≡◌, ◌≢◌, inl, inr, ℕ, ◌+◌, ◌-◌, ◌==◌, true, false, ◌||◌, List, [], ◌∷◌, ◌++◌, length, Option, Some, None, is_some, slice_get, refl, sym, ap, ◌∙◌, subst, arith}
+use Rattle.std.proofs.Common.{◌≡◌, ◌≢◌, inl, inr, ℕ, ◌+◌, ◌-◌, ◌==◌, true, false, ◌||◌, List, [], ◌∷◌, ◌++◌, length, Option, Some, None, is_some, refl, sym, ap, ◌∙◌, subst, arith}
 use Rattle.std.proofs.lemmas.List.{append-nil}
 use Rattle.containers.proofs.Choices.{by_test, both_left, eq_from, left_if, ne_from, not_both}
 use Rattle.redis_error.specs.declared.redis_error.RedisError.{RedisError}
@@ -14,13 +14,11 @@ use Rattle.driver_model.specs.News.{News, news_of, shut}
 use Rattle.link_core.specs.Link.{LinkState}
 use Rattle.mux_conn.specs.declared.act.LinkAct.{LinkAct}
 use Rattle.mux_conn.specs.declared.act.LinkAct.TheVariants as act
-use Rattle.mux_conn.specs.declared.request.Progress.{Progress}
-use Rattle.mux_conn.specs.declared.request.Progress.TheVariants as progress
 use Rattle.mux_conn.specs.declared.request.Request.{Request}
 use Rattle.mux_conn.specs.declared.request.Waiting.{Waiting}
-use Rattle.mux_conn.specs.Connection.{is_ready as is_life_ready, Work}
+use Rattle.mux_conn.specs.Connection.{Work}
 use Rattle.mux_conn.specs.Effects.{afresh, given_up, opening_failed}
-use Rattle.mux_conn.specs.Requests.{is_open_at, is_unbegun_at, is_waiting_at, is_unbegun, is_waiting, if_there}
+use Rattle.mux_conn.specs.Requests.{is_open_at, is_unbegun_at, is_waiting_at}
 use Rattle.shared_session.specs.declared.core_state.Core.{Core}
 use Rattle.shared_session.specs.Turn.{is_bad, is_shutdown, numbered, sources_of, timers_of, with_work}
 use Rattle.legal_trace.specs.Book.{Book, blank_book, book, entered, hearing_in, if_mine}
@@ -28,9 +26,9 @@ use Rattle.legal_trace.specs.Ledger.{Ledger, by_attempt, by_opening, ending, end
 use Rattle.legal_trace.specs.Legal.{AllStand, IsShown, is_attempt, is_by_attempt}
 use Rattle.legal_trace.specs.Owed.{owed_unstarted, owed_by}
 use Rattle.legal_trace.specs.Story.{Story}
-use Rattle.session_laws.proofs.Announce.{turn_of, turned, IsNewsKind, aims_on, heard_book, uses_on, asked_hear, heard_starts, first_book, heard_is, others_heard, still_unrepeated, uses_hear}
+use Rattle.session_laws.proofs.Announce.{turn_of, turned, IsNewsKind, aims_on, heard_book, uses_on, asked_hear, heard_starts, first_book, heard_is, others_heard, uses_hear}
 use Rattle.session_laws.proofs.Aside.{aside_ends, not_up_ends, over_not_asked}
-use Rattle.session_laws.proofs.ComeUp.{numbers_is}
+use Rattle.session_laws.proofs.Served.{numbers_is}
 use Rattle.session_laws.proofs.Comes.{tied_live}
 use Rattle.session_laws.proofs.Creds.{down_sourced}
 use Rattle.session_laws.proofs.Failing.{IsUnready, waiters_owed, Fails, failing_applied, setup_fails, setup_stands}
@@ -39,14 +37,15 @@ use Rattle.session_laws.proofs.Numbers.{IsIn}
 use Rattle.session_laws.proofs.Renewals.{down_renewed_due, early_renewal}
 use Rattle.session_laws.proofs.Settle.{trace_of_acts, book_of_more}
 use Rattle.session_laws.proofs.States.{Between, HasRetired, HasEffect}
-use Rattle.session_laws.proofs.Tied.{AreAside, AreUnrepeated, AreUses, IsAside, IsRetiring, Tied, TiedLines, inner, link_in, no_link, AreAimed}
+use Rattle.session_laws.proofs.Tied.{AreAside, AreUses, IsAside, IsRetiring, Tied, TiedLines, inner, link_in, no_link, AreAimed}
 use Rattle.legal_trace.specs.Managers.{is_lazy}
 use Rattle.connection_info.specs.declared.address.RedisConnectionInfo.{RedisConnectionInfo}
 use Rattle.session_laws.proofs.Heard.{going_awake, heard_by, book_news, book_kind}
 use Rattle.session_laws.proofs.Owes.{get_behind, is_asked}
 use Rattle.session_laws.proofs.Said.{PushesOf}
 use Rattle.session_laws.proofs.Kept.{mine_noted, others_kept}
-use Rattle.session_laws.proofs.Unrepeated.{unrepeated_lined}
+use Rattle.session_laws.proofs.Serving.{unready_serves}
+use Rattle.session_laws.proofs.Rounded.{unbegun_waits}
 
 -- the ledger of a link whose opening has failed, where another attempt follows: nothing of it is still to be told
 pub record IsAttempted (l : Ledger) (heard : Hearing) : Type 0 where
@@ -123,21 +122,6 @@ attempt_shown b now c started l h none same config created own a others =
         (λ t. ap (λ i. (now.link i).up) (eq_from m c.single.link t) ∙ ap (λ (x : Ledger). x.up) own ∙ a.down)
         (λ o. (others m (ne_from m c.single.link o)).down)
 
--- who waits without a round waits
-unbegun_waits : (requests : List Request) (p : ℕ) → is_unbegun_at requests p ≡ true → is_waiting_at requests p ≡ true
-unbegun_waits requests p u = by_request (slice_get requests p) u
-  where
-    by_progress : (now : Progress) → is_unbegun now ≡ true → is_waiting now ≡ true
-    by_progress progress.Waiting e = refl
-    by_progress progress.Begun e = cc
-    by_progress progress.Admitted e = cc
-    by_progress progress.Placed e = cc
-    by_progress progress.Closed e = cc
-
-    by_request : (r : Option Request) → if_there is_unbegun r ≡ true → if_there is_waiting r ≡ true
-    by_request None e = cc
-    by_request (Some r) e = by_progress r.progress e
-
 -- the lines of those that wait alone
 alone_lines : (story : ℕ → Story) (requests : List Request) (link : LinkState) (waiting admitted : List Waiting) (started : List ℕ) → link ≡ no_link → admitted ≡ [] → started ≡ [] → TiedLines story requests link waiting admitted [] started → TiedLines story requests no_link waiting [] [] []
 alone_lines story requests link waiting admitted started bare nobody none h =
@@ -147,18 +131,20 @@ alone_lines story requests link waiting admitted started bare nobody none h =
 
 -- the session is so
 pub retires : (before : List Action) (c : Core) (started : List ℕ) (word : ℕ) (kind : EventKind) (n : News) (acts : List LinkAct) (links : ℕ → Ledger) (l : Ledger) → Between before c started → news_of c.timers c.sources c.single.link kind ≡ n → n ≢ shut → IsUnready (book before).created c.single.connection.life started
-    → c.single.connection.last ≡ false → timers_of c.single.link acts ≡ [] → sources_of c.single.link acts ≡ [] → AreAside c.single.link c.links links c.single.connection.hears c.single.connection.renewal.within (book before).created → AreUnrepeated links → links c.single.link ≡ l → IsAttempted l c.single.connection.hears
+    → c.single.connection.last ≡ false → timers_of c.single.link acts ≡ [] → sources_of c.single.link acts ≡ [] → AreAside c.single.link c.links links c.single.connection.hears c.single.connection.renewal.within (book before).created → links c.single.link ≡ l → IsAttempted l c.single.connection.hears
     → AreUses c.sources c.single.link l.creds.asked l.creds.renews → AllStand blank_book (trace_of_acts (before ++ turn_of c word kind ∷ []) (turned c kind) acts)
     → book (trace_of_acts (before ++ turn_of c word kind ∷ []) (turned c kind) acts) ≡ record (heard_book (book before) c.turns word kind) { link = links }
     → HasRetired (before ++ turn_of c word kind ∷ []) (with_work (record { core = turned c kind; acts = [] }) (record { conn = afresh c.single.connection; acts = acts }))
-retires before c started word kind n acts links l h is other u last no_timers no_sources others unrepeated own a uses stands book_is =
+retires before c started word kind n acts links l h is other u last no_timers no_sources others own a uses stands book_is =
     let b = book before in
     let h0 = h.sound.tied in
     let conn = c.single.connection in
     let now = record (heard_book b c.turns word kind) { link = links } in
     let live = tied_live b (inner c started) h0 u.there u.alive in
-    let nobody : conn.admitted ≡ [] = h.fit.none (λ x r. not_both (is_life_ready conn.life) u.unready (ap is_life_ready r)) in
-    let waits : (p : ℕ) → is_open_at conn.requests p ≡ true → is_waiting_at conn.requests p ≡ true = λ p o. unbegun_waits conn.requests p (h0.early u.unready u.alive p o) in
+    let unserving = unready_serves conn.life conn.again u.unready in
+    let nobody : conn.admitted ≡ [] = h.fit.none unserving in
+    let early : (p : ℕ) → is_open_at conn.requests p ≡ true → is_unbegun_at conn.requests p ≡ true = (h0.early unserving u.alive).unbegun in
+    let waits : (p : ℕ) → is_open_at conn.requests p ≡ true → is_waiting_at conn.requests p ≡ true = λ p o. unbegun_waits conn.requests p (early p o) in
     let retiring : IsRetiring now (inner (numbered (with_work (record { core = turned c kind; acts = [] }) (record { conn = afresh conn; acts = acts }))).core []) = record {
       numbers = record {
         turns = ap (λ m. m + 1) h0.numbers.turns;
@@ -172,10 +158,9 @@ retires before c started word kind n acts links l h is other u last no_timers no
         shut = ap (λ s. s || is_shutdown kind) h0.numbers.shut;
         within = h0.numbers.within;
         few = h0.numbers.few;
-        unrepeated = unrepeated;
         settings = record { size_is = h0.numbers.settings.size_is; bound_is = h0.numbers.settings.bound_is; limit_is = h0.numbers.settings.limit_is; some = h0.numbers.settings.some; limited = h0.numbers.settings.limited };
         kind_is = h0.numbers.kind_is;
-        quiet = λ w. let q = h0.numbers.quiet w in record { none = q.none; unwanted = q.unwanted; unrenewed = refl };
+        quiet = λ w. let q = h0.numbers.quiet w in record { none = q.none; unwanted = q.unwanted; unrenewed = refl; unrepeated = refl };
         comes_back = h0.numbers.comes_back;
         lazy = h0.numbers.lazy;
         current_is = h0.numbers.current_is;
@@ -199,6 +184,7 @@ retires before c started word kind n acts links l h is other u last no_timers no
       uses = subst (λ (x : Ledger). AreUses (c.sources ++ sources_of c.single.link acts) c.single.link x.creds.asked x.creds.renews) (sym own)
           (subst (λ (ss : List SourceUse). AreUses (c.sources ++ ss) c.single.link l.creds.asked l.creds.renews) (sym no_sources) (uses_on c.sources c.single.link uses));
       renewal = record { over_is = refl; came = refl; waits = refl; untimed = refl; unstarted = refl; unasked = refl; unpending = refl; told = refl; kept = refl; found = refl };
+      repeat = refl;
       names = h0.names;
       story = h0.story;
       untried = λ p r e on. h0.tries.untried p r e (λ i. subst (IsIn p) u.none i) on;
@@ -211,7 +197,7 @@ retires before c started word kind n acts links l h is other u last no_timers no
       free = refl;
       letting = refl;
       rounds_is = h0.rounds.rounds_is;
-      waiting = h0.early u.unready u.alive;
+      waiting = early;
       holds = λ p o. h0.permits.none p (waits p o) (λ i. i);
       late = h0.late;
     } in
@@ -265,7 +251,7 @@ closed_retires before c started word kind n x h good k is other u last must told
     let w : Work = record { conn = conn; acts = act.Close ∷ [] } in
     subst (λ (y : Work). HasRetired front (with_work (record { core = f; acts = [] }) y)) (sym (left_if conn.last (given_up w x) (record w { conn = afresh conn }) last))
     (retires before c started word kind n (act.Close ∷ []) links (noted l line) h is other u last refl refl (others_kept now c.single.link line (others_heard b c started kind b.created h0 good (λ some. some)))
-    (unrepeated_lined now.link c.single.link line refl (still_unrepeated b c started kind h0)) closed (closed_attempt b c started n x (now.turns - 1) h0 u last must told) (uses_hear c.sources c.single.link l0 c.turns n h0.uses) stands book_is)
+    closed (closed_attempt b c started n x (now.turns - 1) h0 u last must told) (uses_hear c.sources c.single.link l0 c.turns n h0.uses) stands book_is)
 
 -- a link that is closed before it is set up
 --

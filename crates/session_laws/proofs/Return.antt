@@ -10,11 +10,11 @@ use Rattle.mux_conn.specs.Connection.{in_front, is_ready}
 use Rattle.mux_conn.specs.declared.life.Life.TheVariants.{Resting, Dialing, Wanting, SettingUp, Ready}
 use Rattle.shared_session.specs.declared.core_state.Core.{Core}
 use Rattle.shared_session.specs.declared.generations.Generations.{Generations}
-use Rattle.shared_session.specs.Generations.{begun, begun_with, bound_of, connect_purposes, connect_timed, dialling, failed_behind, is_last_of, rested}
+use Rattle.shared_session.specs.Generations.{begun, begun_with, bound_of, connect_purposes, connect_timed, dialling, failed_behind, is_last_of, rested, repeat_in}
 use Rattle.legal_trace.specs.Book.{Book, blank_book, book, entered, entered_each}
 use Rattle.legal_trace.specs.Legal.{AllStand, IsShown, NoneEnds, generation_due, word_of}
 use Rattle.session_laws.proofs.Ahead.{HasSeats}
-use Rattle.session_laws.proofs.ComeUp.{numbers_is}
+use Rattle.session_laws.proofs.Served.{numbers_is}
 use Rattle.session_laws.proofs.Comes.{NoneComes, live_comes}
 use Rattle.session_laws.proofs.Dial.{dialled_in}
 use Rattle.session_laws.proofs.Entered.{book-append, book_more}
@@ -24,6 +24,8 @@ use Rattle.session_laws.proofs.Regenerate.{IsHarmless, IsResting, dials_on, gene
 use Rattle.session_laws.proofs.Reopen.{at_rest, rested_in}
 use Rattle.session_laws.proofs.States.{IsFitIn, IsHushed, IsStill}
 use Rattle.session_laws.proofs.Tied.{ComesBack, IsHeeded, IsRetiring, Sound, Tied, has_ended, inner, link_in}
+use Rattle.session_laws.proofs.Serving.{serves_ready}
+use Rattle.session_laws.proofs.Informed.{HasInformed, IsInformed, alike_informed, connect_alike, generation_alike, timer_alike}
 
 -- all that a turn does is shown but bytes and waits
 pub record HasReturned (trace : List Action) (c : Core) : Type 0 where
@@ -36,6 +38,7 @@ pub record HasReturned (trace : List Action) (c : Core) : Type 0 where
   pub hushed : IsHushed c
   pub comes : NoneComes (book trace)
   pub heeded : IsHeeded (book trace).rest (book trace).failed c.single.connection.life c.manager
+  pub informed : IsInformed (book trace) c.manager
 
 -- on a link that isn't up
 --
@@ -54,18 +57,19 @@ rest_still c rests = record {
   setup = λ link u e. (let no : Resting ≡ SettingUp link u = sym rests ∙ e in cc);
   held = λ link e. (let no : Resting ≡ Ready link = sym rests ∙ e in cc);
   full = λ link e. (let no : Resting ≡ Ready link = sym rests ∙ e in cc);
+  repeated = λ link e. (let no : Resting ≡ Ready link = sym rests ∙ e in cc);
   renewed = λ link e. (let no : Resting ≡ Ready link = sym rests ∙ e in cc);
-  waiting = λ link e. (let no : Resting ≡ Ready link = sym rests ∙ e in cc);
-  begun = λ shows up. absurd (not_both (is_ready c.single.connection.life) (ap is_ready rests) up);
+  waiting = λ link e answered. (let no : Resting ≡ Ready link = sym rests ∙ e in cc);
+  begun = λ shows serving. absurd (not_both (is_ready c.single.connection.life) (ap is_ready rests) (serves_ready c.single.connection.life c.single.connection.again serving));
   none_waits = λ over. absurd (not_both (has_ended c.single.connection.life) (ap has_ended rests) over);
 }
 
 -- behind an attempt that failed
 --
 -- the session rests, with the timer of the wait
-pub rests_returned : (trace : List Action) (k : Core) (g : Generations) (ms : ℕ) → AllStand blank_book trace → IsRetiring (book trace) (inner k []) → IsShown (book trace) → k.manager ≡ Some g → g.number ≢ 0 → (book trace).failed ≡ g.halted → ms ≡ backoff g.settings g.attempt (word_of (book trace).running)
+pub rests_returned : (trace : List Action) (k : Core) (g : Generations) (ms : ℕ) → AllStand blank_book trace → IsRetiring (book trace) (inner k []) → IsShown (book trace) → k.manager ≡ Some g → g.number ≢ 0 → (book trace).failed ≡ g.halted → HasInformed (book trace) g.subscribed → ms ≡ backoff g.settings g.attempt (word_of (book trace).running)
     → HasReturned (trace ++ action.Timer (length k.timers) ms (purpose.Backoff g.number) ∷ []) (rested k g.number g.attempt (length k.timers))
-rests_returned trace k g ms stands h shown is some failed long =
+rests_returned trace k g ms stands h shown is some failed informed long =
     let timer = length k.timers in
     let a = action.Timer timer ms (purpose.Backoff g.number) in
     let d = rested k g.number g.attempt timer in
@@ -87,6 +91,8 @@ rests_returned trace k g ms stands h shown is some failed long =
       comes = subst NoneComes (sym first) (rests_comes b (inner d []) timer (subst (λ (x : Book). Tied x (inner d [])) first sound.tied) h.rests (ap is_some back.settings_are) (λ none. some (sym back.number_is ∙ none)) refl);
       heeded = subst (λ m. IsHeeded (book (trace ++ a ∷ [])).rest (book (trace ++ a ∷ [])).failed d.single.connection.life m) (sym managed)
           (subst (λ (x : Book). IsHeeded x.rest x.failed d.single.connection.life (Some (failed_behind g g.attempt timer))) (sym first) (record { rest_is = refl; failed_is = failed; rests = λ x. (h.rests, some) }));
+      informed = subst (IsInformed (book (trace ++ a ∷ []))) (sym managed)
+          (subst (λ (x : Book). HasInformed x g.subscribed) (sym first) (alike_informed (book trace) b g.subscribed (timer_alike (book trace) timer ms (purpose.Backoff g.number)) informed));
     }
 
 -- a link that is asked for
@@ -101,16 +107,16 @@ abbrev pub at_next : Core → Core
 at_next k = record k { single = record k.single { link = k.links } }
 
 -- it is asked for
-pub dials_returned : (trace : List Action) (k : Core) (g : Generations) → IsResting trace (inner (at_next k) []) → k.manager ≡ Some g → g.number ≢ 0 → (book trace).rest ≡ None → (book trace).failed ≡ g.halted → g.rest ≡ None → k.shut ≡ false → IsHarmless ((book trace).link k.links).heard
+pub dials_returned : (trace : List Action) (k : Core) (g : Generations) → IsResting trace (inner (at_next k) []) → k.manager ≡ Some g → g.number ≢ 0 → (book trace).rest ≡ None → (book trace).failed ≡ g.halted → HasInformed (book trace) g.subscribed → g.rest ≡ None → k.shut ≡ false → IsHarmless ((book trace).link k.links).heard
     → HasReturned (trace ++ action.Connect k.links g.info.host g.info.port ∷ connect_timed k.links (length k.timers) g.settings.connection.connection_timeout) (dialling k k.links)
-dials_returned trace k g h is some awake failed rested runs harmless =
+dials_returned trace k g h is some awake failed informed rested runs harmless =
     let bound = g.settings.connection.connection_timeout in
     let shown = action.Connect k.links g.info.host g.info.port ∷ connect_timed k.links (length k.timers) bound in
     let t = inner (at_next k) [] in
     let d = dialling k k.links in
-    let all = dials_on trace t g (length k.timers) h is some awake runs refl harmless in
-    let same : dialled_in t (is_last_of (Some g)) (k.timers ++ connect_purposes k.links (bound_of (Some g))) ≡ inner d [] =
-    λ i. record (inner d []) { timers = k.timers ++ connect_purposes k.links (bound_of (sym is i)); last = is_last_of (sym is i); fresh = sym (numbers_is k.single.connection.waiting) i } in
+    let all = dials_on trace t g (length k.timers) h is some awake informed runs refl harmless in
+    let same : dialled_in t (is_last_of (Some g)) (repeat_in (Some g)) (k.timers ++ connect_purposes k.links (bound_of (Some g))) ≡ inner d [] =
+    λ i. record (inner d []) { timers = k.timers ++ connect_purposes k.links (bound_of (sym is i)); last = is_last_of (sym is i); again = repeat_in (sym is i); fresh = sym (numbers_is k.single.connection.waiting) i } in
     let sound : Sound (trace ++ shown) (inner d []) = subst (Sound (trace ++ shown)) same all.0 in
     let left = asks_leave (book trace) k.links (length k.timers) g.info.host g.info.port bound in
     let behind = book-append trace shown in
@@ -119,7 +125,7 @@ dials_returned trace k g h is some awake failed rested runs harmless =
       sound = sound;
       ended = all.1;
       fit = record { wanting = λ link e. cc; setup = λ link u e. cc; link = λ link e. cc; none = λ no. h.nobody };
-      still = record { setup = λ link u e. cc; held = λ link e. cc; full = λ link e. cc; renewed = λ link e. cc; waiting = λ link e. cc; begun = λ shows up. cc up; none_waits = λ over. cc over };
+      still = record { setup = λ link u e. cc; held = λ link e. cc; full = λ link e. cc; repeated = λ link e due. cc; renewed = λ link e. cc; waiting = λ link e served. cc; begun = λ shows up. cc up; none_waits = λ over. cc over };
       seats = λ p i q. absurd q;
       hushed = λ down. absurd (not_both k.shut runs down);
       comes = live_comes (book (trace ++ shown)) (inner d []) sound.tied refl refl;
@@ -129,6 +135,8 @@ dials_returned trace k g h is some awake failed rested runs harmless =
             failed_is = ap (λ (x : Book). x.failed) behind ∙ left.1 ∙ failed;
             rests = λ waits. absurd (waits rested);
           });
+      informed = subst (IsInformed (book (trace ++ shown))) (sym is)
+          (subst (λ (x : Book). HasInformed x g.subscribed) (sym behind) (alike_informed (book trace) (entered_each (book trace) shown) g.subscribed (connect_alike (book trace) k.links (length k.timers) g.info.host g.info.port bound) informed));
     }
 
 -- a generation
@@ -152,10 +160,10 @@ begins_rest trace k started g number h shown is next due begins =
 
 -- and asks for it
 pub begins_returned : (trace : List Action) (k : Core) (started : List ℕ) (g : Generations) (number : ℕ) → Sound trace (inner k started) → IsShown (book trace) → k.manager ≡ Some g → number ≡ g.number + 1 → generation_due (book trace) ≡ true → Tied (entered (book trace) (action.Generation number)) (at_rest (begun_in (inner k started) number))
-    → (book trace).failed ≡ g.halted → k.shut ≡ false → IsHarmless ((book trace).link k.links).heard
+    → (book trace).failed ≡ g.halted → HasInformed (book trace) g.subscribed → k.shut ≡ false → IsHarmless ((book trace).link k.links).heard
     → HasReturned ((trace ++ action.Generation number ∷ []) ++ action.Connect k.links g.info.host g.info.port ∷ connect_timed k.links (length k.timers) g.settings.connection.connection_timeout) (dialling (begun k number) k.links)
-begins_returned trace k started g number h shown is next due begins failed runs harmless =
+begins_returned trace k started g number h shown is next due begins failed informed runs harmless =
     let a = action.Generation number in
     let first = book_more trace a in
     dials_returned (trace ++ a ∷ []) (begun k number) (begun_with g number) (begins_rest trace k started g number h shown is next due begins) (ap (option_map (λ (x : Generations). begun_with x number)) is) (λ none. absurd (omega (arith, next, none)))
-    (ap (λ (x : Book). x.rest) first) (ap (λ (x : Book). x.failed) first ∙ failed) refl runs (subst (λ (x : Book). IsHarmless (x.link k.links).heard) (sym first) harmless)
+    (ap (λ (x : Book). x.rest) first) (ap (λ (x : Book). x.failed) first ∙ failed) (subst (λ (x : Book). HasInformed x g.subscribed) (sym first) (alike_informed (book trace) (entered (book trace) a) g.subscribed (generation_alike (book trace) number) informed)) refl runs (subst (λ (x : Book). IsHarmless (x.link k.links).heard) (sym first) harmless)

@@ -9,12 +9,14 @@ use Rattle.mux_conn.specs.Requests.{if_there, is_admitted, is_admitted_at, is_op
 use Rattle.std.specs.Prelude.{Option, None, Some, slice_get}
 use Rattle.legal_trace.specs.Book.{Book, has_generations}
 use Rattle.legal_trace.specs.Story.{Story}
+use Rattle.mux_conn.specs.declared.again.Again.{Again}
 use Rattle.mux_conn.specs.declared.life.Life.{Life}
 use Rattle.session_laws.proofs.Closing.{Closes, with_closed}
 use Rattle.session_laws.proofs.Further.{IsLonger, IsNext, SameBefore, before_or_new, story_at, there_longer}
 use Rattle.session_laws.proofs.Names.{name_with, with_other, with_same, with_then}
 use Rattle.session_laws.proofs.Numbers.{IsIn}
-use Rattle.session_laws.proofs.Tied.{Inner, Tied, TiedNames, TiedRounds, AreEarly}
+use Rattle.session_laws.proofs.Repeats.{serves}
+use Rattle.session_laws.proofs.Tied.{Inner, Tied, TiedNames, TiedRounds, AreEarly, has_ended, link_in}
 
 -- of stories whose rounds are the same
 abbrev pub SameRounds : (ℕ → Story) → (ℕ → Story) → Type 0
@@ -29,12 +31,12 @@ rounds_same f g requests fresh same h = record {
   new = h.new;
 }
 
--- where others came in this turn, or the link is ready or isn't
+-- where others came in this turn, or the link takes requests or doesn't
 pub rounds_new : {comes ready now rounds : Bool} (story : ℕ → Story) (requests : List Request) (fresh later : List ℕ) → ((p : ℕ) → rounds ≡ true → now ≡ true → is_unbegun_at requests p ≡ true → IsIn p later) → TiedRounds comes story requests ready fresh rounds
     → TiedRounds comes story requests now later rounds
 rounds_new story requests fresh later new h = record { rounds_is = h.rounds_is; unbegun = h.unbegun; begun = h.begun; new = new }
 
--- where the link is ready no more
+-- where the link takes none
 pub rounds_down : {comes ready now rounds : Bool} (story : ℕ → Story) (requests : List Request) (fresh later : List ℕ) → now ≡ false → TiedRounds comes story requests ready fresh rounds → TiedRounds comes story requests now later rounds
 rounds_down {now = now} story requests fresh later down h = rounds_new story requests fresh later (λ p r up u. absurd (not_both now down up)) h
 
@@ -87,19 +89,33 @@ rounds_longer table story after requests more fresh later names same longer no_f
     still : (p : ℕ) → p < length requests → (after (name_at more p)).rounded ≡ (story (name_at requests p)).rounded
     still p old = ap (λ (s : Story). s.rounded) (story_at table story after requests more p names same longer old)
 
--- until the link is up and set up
+-- until the link takes requests
 --
 -- a request is closed
-pub early_closed : (requests : List Request) (life : Life) (p : ℕ) → p < length requests → AreEarly requests life → AreEarly (with_permits requests p progress.Closed 0) life
-early_closed requests life p within h unready alive m o =
-    let k = with_then is_open requests p m progress.Closed 0 refl within o in
-    with_other is_unbegun requests p m progress.Closed 0 k.0 ∙ h unready alive m k.1
+pub early_closed : (requests : List Request) (a : Again) (life : Life) (p : ℕ) → p < length requests → AreEarly requests a life → AreEarly (with_permits requests p progress.Closed 0) a life
+early_closed requests a life p within h unserved alive = record {
+  unbegun = λ m o.
+      let k = with_then is_open requests p m progress.Closed 0 refl within o in
+      with_other is_unbegun requests p m progress.Closed 0 k.0 ∙ (h unserved alive).unbegun m k.1;
+  empty = (h unserved alive).empty;
+}
 
 -- perhaps one more came
-pub early_longer : (after : ℕ → Story) (requests more : List Request) (later : List ℕ) (life : Life) → IsLonger requests more → IsNext after requests more later → AreEarly requests life → AreEarly more life
-early_longer after requests more later life longer next h unready alive p o = before_or_new requests more p _
-    (λ old. there_longer is_unbegun requests more p longer old ∙ h unready alive p (sym (there_longer is_open requests more p longer old) ∙ o))
-    (λ past. by_test (is_unbegun_at more p) _ (λ u. u) (λ f. absurd (next.begun p o f past)))
+pub early_longer : (after : ℕ → Story) (requests more : List Request) (later : List ℕ) (a : Again) (life : Life) → IsLonger requests more → IsNext after requests more later → AreEarly requests a life → AreEarly more a life
+early_longer after requests more later a life longer next h unserved alive = record {
+  unbegun = λ p o. before_or_new requests more p _
+      (λ old. there_longer is_unbegun requests more p longer old ∙ (h unserved alive).unbegun p (sym (there_longer is_open requests more p longer old) ∙ o))
+      (λ past. by_test (is_unbegun_at more p) _ (λ u. u) (λ f. absurd (next.begun p o f past)));
+  empty = (h unserved alive).empty;
+}
+
+-- where it takes them
+pub early_never : (requests : List Request) (a : Again) (life : Life) → serves life a ≡ true → AreEarly requests a life
+early_never requests a life up down alive = absurd (not_both (serves life a) down up)
+
+-- the link is another one without messages, which doesn't take requests either
+pub early_on : (requests : List Request) (a b : Again) (life after : Life) → serves life a ≡ false → has_ended life ≡ false → (link_in after).queue ≡ [] → AreEarly requests a life → AreEarly requests b after
+early_on requests a b life after unserved alive empty h below goes = record { unbegun = (h unserved alive).unbegun; empty = empty }
 
 -- so the book says of a request whose round has begun, where rounds are shown
 pub has_begun : (b : Book) (t : Inner) (p : ℕ) → Tied b t → is_open_at t.requests p ≡ true → (t.rounds ≡ true → is_unbegun_at t.requests p ≡ false) → has_generations b ≡ true → (b.story (name_at t.requests p)).rounded ≡ true

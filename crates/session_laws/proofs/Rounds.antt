@@ -7,7 +7,7 @@ use Rattle.driver_model.specs.declared.action.Action.TheVariants as action
 use Rattle.driver_model.specs.declared.action.Owner.TheVariants as owner
 use Rattle.driver_model.specs.declared.action.WaitKind.TheVariants as wait
 use Rattle.link_laws.specs.Settles.{awaited_ids}
-use Rattle.mux_conn.specs.Connection.{is_ready}
+use Rattle.mux_conn.specs.Connection.{is_ready, is_outstanding}
 use Rattle.mux_conn.specs.declared.life.Life.{Life}
 use Rattle.mux_conn.specs.declared.request.Progress.TheVariants as progress
 use Rattle.mux_conn.specs.declared.request.Request.{Request}
@@ -28,6 +28,8 @@ use Rattle.session_laws.proofs.Permits.{IsHolding, holding_same, permits_same}
 use Rattle.session_laws.proofs.Rounded.{unbegun_waits}
 use Rattle.session_laws.proofs.Tied.{IsToldIn, Inner, Tied, TiedPermits, TiedRounds, TiedWaits, link_in, numbers_kept, shown_wait, waiting_ids}
 use Rattle.session_laws.proofs.Waits.{awaited_placed, waiting_apart, waiting_there}
+use Rattle.session_laws.proofs.Repeats.{serves}
+use Rattle.session_laws.proofs.Serving.{answered_serves, serves_ready, serves_answered}
 
 -- the action that shows it
 abbrev pub round_action : Inner → ℕ → Action
@@ -66,9 +68,11 @@ own_shown story requests p =
     let n = name_at requests p in
     ap (λ k. (rounds_at n story k).waiting) (name_still requests p progress.Begun p) ∙ ap (λ (s : Story). s.waiting) (round_own story n)
 
--- the waits, on a link that is up and set up: its own is to be shown anew
-round_waits : (b : Book) (t : Inner) (p : ℕ) → Tied b t → is_ready t.life ≡ true → is_unbegun_at t.requests p ≡ true → IsIn p t.fresh → TiedWaits (rounds_at (name_at t.requests p) b.story) (at_progress t.requests p progress.Begun) t.life t.fresh t.moved
-round_waits b t p h ready u anew =
+-- the waits, on a link that takes requests: its own is to be shown anew
+round_waits : (b : Book) (t : Inner) (p : ℕ) → Tied b t → serves t.life t.again ≡ true → is_unbegun_at t.requests p ≡ true → IsIn p t.fresh → TiedWaits (rounds_at (name_at t.requests p) b.story) (at_progress t.requests p progress.Begun) t.again t.life t.fresh t.moved
+round_waits b t p h serving u anew =
+    let ready = serves_ready t.life t.again serving in
+    let answered = serves_answered t.life t.again serving in
     let requests = t.requests in
     let after = rounds_at (name_at requests p) b.story in
     let begun = at_progress requests p progress.Begun in
@@ -93,9 +97,10 @@ round_waits b t p h ready u anew =
       connect = λ m v d. absurd (off _ refl d);
       creds = λ m link v d. absurd (off _ refl d);
       setup = λ m link greeting v d. absurd (off _ refl d);
-      permit = λ m link v d. by_test (p == m) _
+      resubscribe = λ m link v d goes. absurd (not_both (is_outstanding t.again) answered goes);
+      permit = λ m link v d none. by_test (p == m) _
           (λ t1. inl (subst (λ k. IsIn k t.fresh) (eq_from p m t1) anew))
-          (λ f. elim (h.waits.permit m link (waits m v) d) [ inl i ↦ inl i | inr e ↦ inr (waiting_is m v (ne_from p m f) ∙ e) ]);
+          (λ f. elim (h.waits.permit m link (waits m v) d none) [ inl i ↦ inl i | inr e ↦ inr (waiting_is m v (ne_from p m f) ∙ e) ]);
       place = λ m a. elim (h.waits.place m (admits m a)) [ inl i ↦ inl i | inr e ↦ inr (admitted_is m a ∙ e) ];
       room = λ m i. elim (h.waits.room m i) [ inl j ↦ inl j | inr e ↦ inr (queued_is m i ∙ e) ];
       newer = subst (Rising 0 t.fresh) long h.waits.newer;
@@ -104,9 +109,11 @@ round_waits b t p h ready u anew =
       no_connect = λ m i v d. absurd (off _ refl d);
       no_creds = λ m link i v d. absurd (off _ refl d);
       no_setup = λ m link greeting i v d. absurd (off _ refl d);
-      no_permit = λ m link i v d. by_test (p == m) _
+      no_resubscribe = λ m link i v d goes. absurd (not_both (is_outstanding t.again) answered goes);
+      unpermitted = λ m link v d goes. absurd (not_both (is_outstanding t.again) answered goes);
+      no_permit = λ m link i v d none. by_test (p == m) _
           (λ t1. no_wait (shown_wait after begun m) wait.Permit (ap (shown_wait after begun) (sym (eq_from p m t1)) ∙ own_shown b.story requests p))
-          (λ f e. h.waits.no_permit m link i (waits m v) d (sym (waiting_is m v (ne_from p m f)) ∙ e));
+          (λ f e. h.waits.no_permit m link i (waits m v) d none (sym (waiting_is m v (ne_from p m f)) ∙ e));
       no_place = λ m i a e. h.waits.no_place m i (admits m a) (sym (admitted_is m a) ∙ e);
       seatless = λ m a e. h.waits.seatless m (admits m a) (sym (admitted_is m a) ∙ e);
       no_room = λ m i j e. h.waits.no_room m i j (sym (queued_is m j) ∙ e);
@@ -131,7 +138,7 @@ round_permits story submissions requests link limit free letting p w h =
 
 -- the rounds: its own has begun
 round_rounds : (b : Book) (t : Inner) (p : ℕ) → Tied b t → is_unbegun_at t.requests p ≡ true
-    → TiedRounds (has_generations b) (rounds_at (name_at t.requests p) b.story) (at_progress t.requests p progress.Begun) (is_ready t.life) t.fresh t.rounds
+    → TiedRounds (has_generations b) (rounds_at (name_at t.requests p) b.story) (at_progress t.requests p progress.Begun) (serves t.life t.again) t.fresh t.rounds
 round_rounds b t p h u =
     let requests = t.requests in
     let n = name_at requests p in
@@ -154,8 +161,8 @@ round_rounds b t p h u =
       new = λ m shows up v. h.rounds.new m shows up (was m v).1;
     }
 
--- so the session is tied with it, on a link that is up and set up
-round_tied : (b : Book) (t : Inner) (p : ℕ) → is_ready t.life ≡ true → t.rounds ≡ true → is_unbegun_at t.requests p ≡ true → Tied b t → Tied (entered b (round_action t p)) (with_round t p)
+-- so the session is tied with it, on a link that takes requests
+round_tied : (b : Book) (t : Inner) (p : ℕ) → serves t.life t.again ≡ true → t.rounds ≡ true → is_unbegun_at t.requests p ≡ true → Tied b t → Tied (entered b (round_action t p)) (with_round t p)
 round_tied b t p ready shows u h =
     let requests = t.requests in
     let n = name_at requests p in
@@ -164,7 +171,7 @@ round_tied b t p ready shows u h =
     let holding = λ (m : ℕ). chosen (IsHolding (b.story m)) (n == m) (rounds (b.story m)) (b.story m) (λ t1. record { link = refl; permits = refl; timeout = refl; clock = refl }) (λ f. holding_same (b.story m)) in
     waits_on_tied b t p (permits_at requests p) t.free g b.timers t.timers t.letting ready w (round_eased b.story n)
     (ap (λ (s : Story). s.permits) (round_own b.story n) ∙ (request_story b t p h (there_within is_waiting requests p w)).permits_is)
-    (numbers_kept b b.link g b.tracked b.errors t t.life t.free (at_progress requests p progress.Begun) t.waiting t.admitted t.fresh t.moved t.letting t.pending t.started h.numbers.unrepeated h.numbers)
+    (numbers_kept b b.link g b.tracked b.errors t t.life t.free (at_progress requests p progress.Begun) t.waiting t.admitted t.fresh t.moved t.letting t.pending t.started h.numbers)
     (round_waits b t p h ready u (h.rounds.new p shows ready u))
     (round_permits g b.submissions requests t.link t.limit t.free t.letting p w (permits_same b.story g b.submissions requests t.link t.limit t.free t.letting holding h.permits))
     (round_rounds b t p h u) h
@@ -188,5 +195,5 @@ round_going trace t p r told shows u first h =
     let b = book trace in
     going_more trace (round_action t p) (with_round t p) h.sound.stands
     (refl, round_may b t p r told h.renewed shows u first h.ended h.sound.tied)
-    (round_tied b t p r.up shows u h.sound.tied)
-    h.ended h.renewed
+    (round_tied b t p (answered_serves t.life t.again r.up r.served) shows u h.sound.tied)
+    h.ended h.renewed h.served

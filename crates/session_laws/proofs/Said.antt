@@ -13,7 +13,7 @@ use Rattle.mux_conn.specs.declared.life.Greeting.{Greeting}
 use Rattle.mux_conn.specs.declared.life.Life.{Life}
 use Rattle.mux_conn.specs.declared.life.Life.TheVariants.{Resting, Dialing, Wanting, SettingUp, Ready, Ended}
 use Rattle.mux_conn.specs.declared.request.Request.{Request}
-use Rattle.legal_trace.specs.Ledger.{Ledger, End, Ending, by_opening, hears, noted, authorized_by, awaits_credentials, is_over, dials, refused_in, bytes_came, ending, ending_up, ending_asked, ending_unready, ending_by, ending_alive, error_in, is_well, is_set_up, is_ready, lacks_credentials, setup_after, setup_result, is_renewal_open, lost_by, may_renew, renewed_by, unrenewed_by, source_due, is_unreadable, opening_error, by_fault, Heard, is_fault, lasting, is_repeating, unrepeated_by}
+use Rattle.legal_trace.specs.Ledger.{Ledger, End, Ending, by_opening, hears, noted, authorized_by, awaits_credentials, is_over, dials, refused_in, bytes_came, ending, ending_up, ending_asked, ending_unready, ending_by, ending_alive, error_in, is_well, is_set_up, is_ready, lacks_credentials, setup_after, setup_result, is_renewal_open, lost_by, may_renew, renewed_by, unrenewed_by, source_due, is_unreadable, opening_error, by_fault, Heard, is_fault, lasting, is_repeating, unrepeated_by, is_served}
 use Rattle.legal_trace.proofs.Setups.{ends_where_set, ungreeted_is_unset}
 use Rattle.legal_trace.specs.Book.{Book}
 use Rattle.legal_trace.specs.Legal.{ReadyIsShown, SourcesAreAsked}
@@ -28,6 +28,10 @@ use Rattle.driver_model.specs.declared.hearing.Hearing.{Hearing}
 use Rattle.driver_model.specs.Hearing.{felt, hears_messages}
 use Rattle.driver_model.specs.declared.news.LinkFault.TheVariants as fault
 use Rattle.resp_read.specs.Values.{is_spoiled}
+use Rattle.session_laws.proofs.Repeats.{down_repeats_not, TiedRepeat, served_is}
+use Rattle.sub_tracker.specs.Subscribed.{Request as Call}
+use Rattle.mux_conn.specs.declared.again.Again.{Again}
+use Rattle.mux_conn.specs.Connection.{is_outstanding, is_ready as is_ready_life}
 
 -- whose messages a link carries
 --
@@ -116,14 +120,22 @@ readied wanted l = recredited l (if wanted then true else l.creds.asked) (if wan
 pub well_readied : (wanted : Bool) (l : Ledger) → is_set_up (readied wanted l) ≡ is_set_up l
 well_readied wanted l = well_recredited l (if wanted then true else l.creds.asked) (if wanted then l.creds.asked else l.creds.renews) l.creds.renewals l.creds.over l.creds.timed l.creds.lost
 
--- news that bring neither bytes nor credentials leave it
+-- and so it is of a link on which what is subscribed again is given up
+pub setup_served : (l : Ledger) (info : RedisConnectionInfo) (started : List ℕ) (life : Life) → TiedSetup l info started life → TiedSetup (record (unrepeated_by l) { heard = unrepeated }) info started life
+setup_served l info started life h = record {
+  info_is = h.info_is;
+  sent = h.sent;
+  said = said_alike l (record (unrepeated_by l) { heard = unrepeated }) started life (record { starts = refl; dealt = refl; info = refl; hearing = refl; wanted = refl; given = refl }) h.said;
+}
+
+-- news that bring neither bytes nor credentials, nor end the time of what is subscribed again, leave it
 abbrev pub BringsNothing : News → Type 0
 BringsNothing (came piece) = ⊥
 BringsNothing (authorized c) = ⊥
 BringsNothing (renewed c) = ⊥
 BringsNothing unrenewed = ⊥
 BringsNothing (late k) = ⊥
-BringsNothing unrepeated = Unit {0}
+BringsNothing unrepeated = ⊥
 BringsNothing silence = Unit {0}
 BringsNothing connected = Unit {0}
 BringsNothing (refused f) = Unit {0}
@@ -134,6 +146,25 @@ BringsNothing (denied text) = Unit {0}
 BringsNothing deserted = Unit {0}
 BringsNothing dropped = Unit {0}
 BringsNothing shut = Unit {0}
+
+-- that they don't
+pub brings_in_time : (n : News) → BringsNothing n → n ≢ unrepeated
+brings_in_time silence k e = cc
+brings_in_time connected k e = cc
+brings_in_time (refused f) k e = cc
+brings_in_time overdue k e = cc
+brings_in_time (took count) k e = cc
+brings_in_time (came piece) k e = cc
+brings_in_time (failed f) k e = cc
+brings_in_time (authorized c) k e = cc
+brings_in_time (denied text) k e = cc
+brings_in_time deserted k e = cc
+brings_in_time (renewed c) k e = cc
+brings_in_time unrenewed k e = cc
+brings_in_time (late m) k e = cc
+brings_in_time unrepeated k e = absurd k
+brings_in_time dropped k e = cc
+brings_in_time shut k e = cc
 
 -- so it does
 pub setup_hears : (l : Ledger) (turn : ℕ) (n : News) (info : RedisConnectionInfo) (started : List ℕ) (life : Life) → BringsNothing n → TiedSetup l info started life → TiedSetup (noted l (hears turn n)) info started life
@@ -158,11 +189,7 @@ setup_hears l turn (authorized c) info started life k h = absurd k
 setup_hears l turn (renewed c) info started life k h = absurd k
 setup_hears l turn unrenewed info started life k h = absurd k
 setup_hears l turn (late m) info started life k h = absurd k
-setup_hears l turn unrepeated info started life k h =
-    let m = record (unrepeated_by l) { heard = unrepeated } in
-    chosen (λ (x : Ledger). TiedSetup (record x { heard = unrepeated }) info started life) (is_repeating l) (unrepeated_by l) l
-    (λ t. record { info_is = h.info_is; sent = h.sent; said = said_alike l m started life (record { starts = refl; dealt = refl; info = refl; hearing = refl; wanted = refl; given = refl }) h.said })
-    (λ f. setup_on l l.asked l.up l.end l.taken l.offer l.rest unrepeated info started life h)
+setup_hears l turn unrepeated info started life k h = absurd k
 setup_hears l turn (denied text) info started life k h = setup_on l l.asked l.up l.end l.taken l.offer l.rest (denied text) info started life h
 setup_hears l turn deserted info started life k h = setup_on l l.asked l.up l.end l.taken l.offer l.rest deserted info started life h
 setup_hears l turn dropped info started life k h = setup_on l l.asked l.up l.end l.taken l.offer l.rest dropped info started life h
@@ -186,7 +213,8 @@ setup_unheard l turn unrenewed info started life down h =
     if_false (λ (x : Ledger). TiedSetup (record x { heard = unrenewed }) info started life) l.up (unrenewed_by l) l down (setup_on l l.asked l.up l.end l.taken l.offer l.rest unrenewed info started life h)
 setup_unheard l turn (late m) info started life down h =
     if_false (λ (x : Ledger). TiedSetup (record x { heard = late m }) info started life) (l.up && is_renewal_open l m) (lost_by l) l (ap (λ u. u && is_renewal_open l m) down) (setup_on l l.asked l.up l.end l.taken l.offer l.rest (late m) info started life h)
-setup_unheard l turn unrepeated info started life down h = setup_hears l turn unrepeated info started life tt h
+setup_unheard l turn unrepeated info started life down h =
+    if_false (λ (x : Ledger). TiedSetup (record x { heard = unrepeated }) info started life) (is_repeating l) (unrepeated_by l) l (down_repeats_not l down) (setup_on l l.asked l.up l.end l.taken l.offer l.rest unrepeated info started life h)
 setup_unheard l turn (denied text) info started life down h = setup_hears l turn (denied text) info started life tt h
 setup_unheard l turn deserted info started life down h = setup_hears l turn deserted info started life tt h
 setup_unheard l turn dropped info started life down h = setup_hears l turn dropped info started life tt h
@@ -340,11 +368,12 @@ none_failed l none up unready =
     by_none (error_in (setup_result l)) (ending_unready l l.heard)
     (sym (taken_if l.up (ending_alive l) _ up ∙ left_if (is_set_up l) (ending_up l l.heard) (ending_by (error_in (setup_result l)) (ending_unready l l.heard)) unready) ∙ none)
 
--- that nothing is heard, that bytes were taken, or that new credentials weren't answered in time
+-- that nothing is heard, that bytes were taken, or that new credentials, or what is subscribed again, weren't answered in time
 abbrev pub IsMild : News → Type 0
 IsMild silence = Unit {0}
 IsMild (took count) = Unit {0}
 IsMild (late k) = Unit {0}
+IsMild unrepeated = Unit {0}
 IsMild _ = ⊥
 
 -- so a link that is up need not end then
@@ -370,6 +399,7 @@ pub mild_end : (l : Ledger) (taken offer : List ℕ) (n : News) → IsMild n →
 mild_end l taken offer silence k none = by_test l.up _ (mild_up l taken offer silence (refl, refl) none) (mild_down l taken offer silence refl)
 mild_end l taken offer (took count) k none = by_test l.up _ (mild_up l taken offer (took count) (refl, refl) none) (mild_down l taken offer (took count) refl)
 mild_end l taken offer (late m) k none = by_test l.up _ (mild_up l taken offer (late m) (refl, refl) none) (mild_down l taken offer (late m) refl)
+mild_end l taken offer unrepeated k none = by_test l.up _ (mild_up l taken offer unrepeated (refl, refl) none) (mild_down l taken offer unrepeated refl)
 mild_end l taken offer _ k none = absurd k
 
 -- nor does a stream of messages that is dropped, on a link of no messages
@@ -380,20 +410,43 @@ dropped_end l deaf none = by_test l.up _
 
 -- where a link is ready
 --
--- by how far it has come
-ready_by : (l : Ledger) (created : ℕ) (info : RedisConnectionInfo) (started : List ℕ) (life : Life) → TiedLife l created life → AreSought l.creds life → TiedSetup l info started life → is_ready l ≡ true → created ≢ 0
-ready_by l created info started Resting h c s r = absurd (not_both l.up h.1 (both_left l.up (is_set_up l) r))
-ready_by l created info started Dialing h c s r = absurd (not_both l.up h.1 (both_left l.up (is_set_up l) r))
-ready_by l created info started (Wanting link) h c s r = absurd (not_both (is_set_up l) (lacking_unset l (wanting_lacks l.creds link c)).unset (both_right l.up (is_set_up l) r))
-ready_by l created info started (SettingUp link greeting) h c s r = absurd (not_both (is_set_up l) (not_set_up l link greeting s.said.1).unset (both_right l.up (is_set_up l) r))
-ready_by l created info started (Ready link) h c s r = h.3
-ready_by l created info started (Ended e) h c s r = absurd (not_both l.up h.0 (both_left l.up (is_set_up l) r))
+-- so is its connection's life
+ready_lives : (l : Ledger) (created : ℕ) (info : RedisConnectionInfo) (started : List ℕ) (life : Life) → TiedLife l created life → AreSought l.creds life → TiedSetup l info started life → is_ready l ≡ true → is_ready_life life ≡ true
+ready_lives l created info started Resting h c s r = absurd (not_both l.up h.1 (both_left l.up (is_set_up l) r))
+ready_lives l created info started Dialing h c s r = absurd (not_both l.up h.1 (both_left l.up (is_set_up l) r))
+ready_lives l created info started (Wanting link) h c s r = absurd (not_both (is_set_up l) (lacking_unset l (wanting_lacks l.creds link c)).unset (both_right l.up (is_set_up l) r))
+ready_lives l created info started (SettingUp link greeting) h c s r = absurd (not_both (is_set_up l) (not_set_up l link greeting s.said.1).unset (both_right l.up (is_set_up l) r))
+ready_lives l created info started (Ready link) h c s r = refl
+ready_lives l created info started (Ended e) h c s r = absurd (not_both l.up h.0 (both_left l.up (is_set_up l) r))
 
--- the creation was shown
+pub ready_life : (b : Book) (t : Inner) → Tied b t → is_ready (b.link t.link) ≡ true → is_ready_life t.life ≡ true
+ready_life b t h ready = ready_lives (b.link t.link) b.created t.info t.started t.life h.life h.creds.sought h.setup ready
+
+-- so the creation was shown
+ready_made : (l : Ledger) (created : ℕ) (life : Life) → is_ready_life life ≡ true → TiedLife l created life → created ≢ 0
+ready_made l created Resting up h = cc
+ready_made l created Dialing up h = cc
+ready_made l created (Wanting link) up h = cc
+ready_made l created (SettingUp link greeting) up h = cc
+ready_made l created (Ready link) up h = h.3
+ready_made l created (Ended e) up h = cc
+
 pub ready_shown : (b : Book) (t : Inner) → Tied b t → ReadyIsShown b
 ready_shown b t h m ready = by_test (m == t.link) _
-    (λ same. ready_by (b.link t.link) b.created t.info t.started t.life h.life h.creds.sought h.setup (subst (λ k. is_ready (b.link k) ≡ true) (eq_from m t.link same) ready))
+    (λ same. ready_made (b.link t.link) b.created t.life (ready_life b t h (subst (λ k. is_ready (b.link k) ≡ true) (eq_from m t.link same) ready)) h.life)
     (λ other. absurd (not_both (b.link m).up (h.others m (ne_from m t.link other)).down (both_left (b.link m).up (is_set_up (b.link m)) ready)))
+
+-- and it takes requests where its connection does
+served_by : (l : Ledger) (calls : List Call) (within : Option ℕ) (a : Again) (life : Life) → is_ready_life life ≡ true → TiedRepeat l calls within a life → is_served l ≡ not (is_outstanding a)
+served_by l calls within a Resting up h = cc
+served_by l calls within a Dialing up h = cc
+served_by l calls within a (Wanting link) up h = cc
+served_by l calls within a (SettingUp link greeting) up h = cc
+served_by l calls within a (Ready link) up h = served_is l calls within a h
+served_by l calls within a (Ended e) up h = cc
+
+pub ready_served : (b : Book) (t : Inner) → Tied b t → is_ready (b.link t.link) ≡ true → is_served (b.link t.link) ≡ not (is_outstanding t.again)
+ready_served b t h ready = served_by (b.link t.link) b.tracked t.renewal.within t.again t.life (ready_life b t h ready) h.repeat
 
 -- every source was asked for that is to be
 --

@@ -42,10 +42,10 @@ use Rattle.session_laws.proofs.Start.{owners-append, with_queue}
 use Rattle.session_laws.proofs.States.{IsFit}
 use Rattle.session_laws.proofs.Server.{AreSetups, IsSettingUp, owners_of, setup_owners, AreSetupsAlone, greeting_at}
 use Rattle.session_laws.proofs.Tied.{Inner, Tied, TiedTries, numbers_kept, HasGreetedAlone, greeter, is_of_greeting}
-use Rattle.session_laws.proofs.Unrepeated.{unrepeated_lined}
 use Rattle.session_laws.proofs.Renewals.{none_begins, full_begins}
 use Rattle.session_laws.proofs.SameSaid.{greeter_at, greeting_of, setting_of}
 use Rattle.mux_conn.specs.declared.life.Greeting.TheVariants as greet
+use Rattle.session_laws.proofs.Repeats.{begins_held}
 
 -- the acts of its starts
 --
@@ -205,7 +205,7 @@ set_up_tied b t link greeting due user h =
     let all = setting.alone in
     tied_by (entered b (set_up_action t link q)) now (noted l (begins s)) (mine_noted l t.link (begins s))
     (record {
-      numbers = numbers_kept b _ _ _ _ was _ _ _ _ _ _ _ _ _ _ (unrepeated_lined b.link t.link (begins s) refl h.numbers.unrepeated) h.numbers;
+      numbers = numbers_kept b _ _ _ _ was _ _ _ _ _ _ _ _ _ _ h.numbers;
       others = others_kept b t.link (begins s) h.others;
       notices = h.notices;
       life = h.life;
@@ -215,6 +215,7 @@ set_up_tied b t link greeting due user h =
       creation = h.creation;
       uses = h.uses;
       renewal = none_begins l t.renewal s refl h.renewal;
+      repeat = begins_held l s b.tracked t.renewal.within t.again refl h.repeat;
       setup = record { info_is = h.setup.info_is; sent = setups_next l all h.setup.sent; said = (said.0, greeting_of (noted l (begins s)) (with_queue (begun link q) []) greeting own (setting_next l link greeting all tied.within due user setting)) };
       link = λ e. subst (λ (who : Owner). TiedLink (λ (p : ℕ). who) (noted l (begins s)) (with_queue (begun link q) [])) (sym own)
           (queue_tied name (noted l (begins s)) (begun (with_queue link (q ∷ [])) q) [] (begun_tied name l (with_queue link (q ∷ [])) q (setup_packed l (setup_count l.starts) setting.says) tied));
@@ -223,10 +224,10 @@ set_up_tied b t link greeting due user h =
       tries = tries_set l s b.story t.requests t.link t.started refl said.0 all h.tries;
       lines = h.lines;
       told = h.told;
-      waits = setting_waits b.story t.requests (with_queue link (q ∷ [])) (with_queue (begun link q) []) greeting greeting t.fresh t.moved h.waits;
+      waits = setting_waits b.story t.requests t.again (with_queue link (q ∷ [])) (with_queue (begun link q) []) greeting greeting t.fresh t.moved h.waits;
       permits = h.permits;
       rounds = h.rounds;
-      early = h.early;
+      early = λ unserved alive. (let k = h.early unserved alive in record { unbegun = k.unbegun; empty = k.empty });
       late = h.late;
     })
 
@@ -252,7 +253,7 @@ set_up_going trace t link greeting due user fit free h =
     going_more trace (set_up_action t link q) (setting_on t (with_queue (begun link q) []) greeting) h.sound.stands
     (set_up_may b t link greeting due fit free h.sound.tied h.ended)
     (set_up_tied b t link greeting due user h.sound.tied)
-    (set_up_ends_none b t link greeting due h.sound.tied h.ended) (λ x e. cc)
+    (set_up_ends_none b t link greeting due h.sound.tied h.ended) (λ x e. cc) (λ up. cc)
 
 -- the pass
 --

@@ -1,8 +1,8 @@
 -- Those that are to be answered are, one after another.
 use Rattle.std.proofs.lemmas.List.{append-nil}
-use Rattle.std.proofs.Common.{Bool, ◌==◌, if◌then◌else◌, ◌+◌, append_assoc, is_some, ◌≡◌, inl, ℕ, suc, true, false, List, [], ◌∷◌, ◌++◌, length, Option, Some, refl, sym, ap, ◌∙◌, subst, arith, ◌≢◌, ◌≤◌, None}
+use Rattle.std.proofs.Common.{Bool, ◌==◌, ◌||◌, if◌then◌else◌, ◌+◌, append_assoc, is_some, ◌≡◌, inl, ℕ, suc, true, false, List, [], ◌∷◌, ◌++◌, length, Option, Some, refl, sym, ap, ◌∙◌, subst, arith, ◌≢◌, ◌≤◌, None}
 use Rattle.std.specs.List.{AllByRecursion}
-use Rattle.containers.proofs.Choices.{chosen, not_both}
+use Rattle.containers.proofs.Choices.{by_test, chosen, left_if, not_both, taken_if}
 use Rattle.redis_error.specs.declared.redis_error.RedisError.{RedisError}
 use Rattle.driver_model.specs.declared.action.Action.{Action}
 use Rattle.driver_model.specs.declared.outcome.Outcome.{Outcome}
@@ -19,24 +19,27 @@ use Rattle.mux_conn.specs.declared.life.Life.TheVariants.{Resting, Dialing, Want
 use Rattle.mux_conn.specs.declared.request.Progress.TheVariants as progress
 use Rattle.mux_conn.specs.declared.request.Request.{Request}
 use Rattle.mux_conn.specs.declared.request.Waiting.{Waiting}
-use Rattle.mux_conn.specs.Connection.{Work}
+use Rattle.mux_conn.specs.Connection.{Work, is_repeating, is_outstanding}
+use Rattle.mux_conn.specs.Repeats.{repeat_id, repeating}
+use Rattle.mux_conn.specs.declared.again.Again.TheVariants as again
 use Rattle.mux_conn.specs.Requests.{is_open, is_open_at, name_at, closed, answered}
 use Rattle.mux_conn.specs.declared.renewal.Renewal.{Renewal}
 use Rattle.mux_conn.specs.Renewals.{is_done, renewal_id, renewing, replied}
-use Rattle.mux_conn.specs.Effects.{settled_each, settled_one, failed_each}
+use Rattle.mux_conn.specs.Effects.{all_fresh, failed_each, served, settled_each, settled_one, settled_other}
 use Rattle.shared_session.specs.declared.core_state.Core.{Core}
 use Rattle.shared_session.specs.Turn.{shown, shown_each, source_of, sources_of, timer_of, timers_of}
 use Rattle.legal_trace.specs.Ledger.{Ledger, is_over, Heard, next_notice, renewal_count}
 use Rattle.legal_trace.specs.Book.{Book, blank_book, book, entered}
 use Rattle.legal_trace.specs.Owed.{owed}
 use Rattle.legal_trace.specs.Legal.{AllStand, MayStand, MayAnswer, IsBefore, is_heard}
-use Rattle.session_laws.proofs.Numbers.{Rising, requests_in, rising_from}
+use Rattle.session_laws.proofs.Numbers.{Rising, is_own, requests_behind, requests_first, requests_in, rising_from}
 use Rattle.session_laws.proofs.Server.{OnLink, TiedRenewal}
 use Rattle.session_laws.proofs.Tied.{Inner, link_in, TiedLife, Tied, Sound, waiting_ids, has_ended, AreAside}
 use Rattle.session_laws.proofs.Entered.{book_more, quiet_sources, quiet_timers, sound_more, shown_more, sources_more, timers_more}
 use Rattle.session_laws.proofs.Names.{open_within, name_with, length_with, with_then}
 use Rattle.session_laws.proofs.InLine.{line_of, IsInLine, open_in_line, first_is_least}
 use Rattle.session_laws.proofs.Answer.{may_answer, after_closes, none_before, owed_still, answer_tied, skip_tied}
+use Rattle.session_laws.proofs.Repeats.{TiedRepeat}
 
 -- a session in the middle of a turn, by its connection, and by the acts so far, which may ask for timers and for sources of
 -- credentials
@@ -62,6 +65,7 @@ seen f acts conn pending started = record {
   info = conn.info;
   address = conn.address;
   renewal = conn.renewal;
+  again = conn.again;
   life = conn.life;
   last = conn.last;
   told = conn.told;
@@ -161,20 +165,29 @@ holds_more before f w a conn was pending started h may tied = sound_act before f
 pub book_of_more : (before : List Action) (f : Core) (acts : List LinkAct) (a : LinkAct) → book (trace_of_acts before f (acts ++ a ∷ [])) ≡ entered (book (trace_of_acts before f acts)) (shown_now f acts a)
 book_of_more before f acts a = ap book (shown_more before f.single.link (length f.timers) (length f.sources) acts a) ∙ book_more (trace_of_acts before f acts) (shown_now f acts a)
 
--- some requests are to be answered, in line, before all others that are open; and their link's ledger, what is owed, and all
--- names are as they were, and who is open was so
+-- no request is to be answered on a link that hasn't ended, while what is subscribed again isn't answered there
+abbrev pub AnswersNone : MultiplexedConnection → List ℕ → Type 0
+AnswersNone c pending = has_ended c.life ≡ false → is_outstanding c.again ≡ true → pending ≡ []
+
+-- some are not none
+pub some_pending : (p : ℕ) (ps : List ℕ) → p ∷ ps ≡ [] → ⊥
+some_pending p ps e = cc
+
+-- some requests are to be answered, in line, before all others that are open, and none on a link that takes none yet; and their link's
+-- ledger, what is owed, and all names are as they were, and who is open was so
 pub record IsAnswering (before : List Action) (f : Core) (ledger : Ledger) (owes : ℕ → Option Outcome) (name : ℕ → ℕ) (was : ℕ → Bool) (w : Work) (pending started : List ℕ) : Type 0 where
   pub holds : Holds before f w pending started
   pub line : IsInLine w.conn.requests (link_in w.conn.life) w.conn.admitted w.conn.waiting pending
+  pub quiet : AnswersNone w.conn pending
   pub ledger_is : (book (trace_of_acts before f w.acts)).link f.single.link ≡ ledger
   pub owed_is : (n : ℕ) → owed (book (trace_of_acts before f w.acts)) n ≡ owes n
   pub named : (p : ℕ) → name_at w.conn.requests p ≡ name p
   pub opens : (p : ℕ) → is_open_at w.conn.requests p ≡ true → was p ≡ true
 
 -- it begins
-pub answering : (before : List Action) (f : Core) (w : Work) (pending started : List ℕ) → Holds before f w pending started → IsInLine w.conn.requests (link_in w.conn.life) w.conn.admitted w.conn.waiting pending
+pub answering : (before : List Action) (f : Core) (w : Work) (pending started : List ℕ) → Holds before f w pending started → IsInLine w.conn.requests (link_in w.conn.life) w.conn.admitted w.conn.waiting pending → AnswersNone w.conn pending
     → IsAnswering before f ((book (trace_of_acts before f w.acts)).link f.single.link) (owed (book (trace_of_acts before f w.acts))) (name_at w.conn.requests) (is_open_at w.conn.requests) w pending started
-answering before f w pending started h line = record { holds = h; line = line; ledger_is = refl; owed_is = λ n. refl; named = λ p. refl; opens = λ p o. o }
+answering before f w pending started h line quiet = record { holds = h; line = line; quiet = quiet; ledger_is = refl; owed_is = λ n. refl; named = λ p. refl; opens = λ p o. o }
 
 -- a link that is over has ended
 over_life : (l : Ledger) (created : ℕ) (life : Life) → TiedLife l created life → is_over l ≡ true → has_ended life ≡ true
@@ -212,8 +225,9 @@ one_answered before f ledger owes name was w p o pending started due e h =
     record {
       holds = holds_more before f w a (closed w.conn p) (p ∷ pending) pending started h.holds
           (inl (first_may b t p pending o h.holds.tied h.line e owes_now (none_before b (record t { pending = p ∷ pending }) (name_at w.conn.requests p) h.holds.tied refl) refl))
-          (answer_tied b t p pending o e owes_now h.line h.holds.tied);
+          (answer_tied b t p pending o e owes_now h.line (λ up open_is. some_pending p pending (h.quiet up open_is)) h.holds.tied);
       line = subst (λ n. Rising 0 (pending ++ line_of (link_in w.conn.life) w.conn.admitted w.conn.waiting) n) (sym (length_with w.conn.requests p progress.Closed 0)) (rest_in_line w.conn.requests (link_in w.conn.life) w.conn.admitted w.conn.waiting p pending h.line);
+      quiet = λ up open_is. absurd (some_pending p pending (h.quiet up open_is));
       ledger_is = ap (λ (x : Book). x.link f.single.link) (book_of_more before f w.acts a) ∙ h.ledger_is;
       owed_is = λ n. ap (λ (x : Book). owed x n) (book_of_more before f w.acts a) ∙ owed_still b (name_at w.conn.requests p) o n ∙ h.owed_is n;
       named = λ q. name_with w.conn.requests p progress.Closed 0 q ∙ h.named q;
@@ -226,6 +240,7 @@ one_skipped : (before : List Action) (f : Core) (ledger : Ledger) (owes : ℕ �
 one_skipped before f ledger owes name was w p pending started e h = record {
   holds = record { stands = h.holds.stands; tied = skip_tied (book (trace_of_acts before f w.acts)) (seen f w.acts w.conn pending started) p pending e h.holds.tied };
   line = rest_in_line w.conn.requests (link_in w.conn.life) w.conn.admitted w.conn.waiting p pending h.line;
+  quiet = λ up open_is. absurd (some_pending p pending (h.quiet up open_is));
   ledger_is = h.ledger_is;
   owed_is = h.owed_is;
   named = h.named;
@@ -279,10 +294,9 @@ renewal_tied b t r within wanted waiting tied h = record {
     shut = h.numbers.shut;
     within = h.numbers.within ∙ sym within;
     few = h.numbers.few;
-    unrepeated = h.numbers.unrepeated;
     settings = record { size_is = h.numbers.settings.size_is; bound_is = h.numbers.settings.bound_is; limit_is = h.numbers.settings.limit_is; some = h.numbers.settings.some; limited = h.numbers.settings.limited };
     kind_is = h.numbers.kind_is;
-    quiet = λ w. let q = h.numbers.quiet w in record { none = q.none; unwanted = wanted ∙ q.unwanted; unrenewed = waiting ∙ q.unrenewed };
+    quiet = λ w. let q = h.numbers.quiet w in record { none = q.none; unwanted = wanted ∙ q.unwanted; unrenewed = waiting ∙ q.unrenewed; unrepeated = q.unrepeated };
     comes_back = h.numbers.comes_back;
     lazy = h.numbers.lazy;
     current_is = h.numbers.current_is;
@@ -300,6 +314,7 @@ renewal_tied b t r within wanted waiting tied h = record {
   creation = h.creation;
   uses = h.uses;
   renewal = tied;
+  repeat = subst (λ o. TiedRepeat (b.link t.link) b.tracked o t.again t.life) (sym within) h.repeat;
   setup = h.setup;
   link = h.link;
   names = h.names;
@@ -326,39 +341,104 @@ renewal_over b t r e within wanted waiting asked over h =
 pub answered_renewal : (w : Work) (p : ℕ) (o : Outcome) → (answered w p o).conn.renewal ≡ w.conn.renewal
 answered_renewal w p o = chosen (λ (x : Work). x.conn.renewal ≡ w.conn.renewal) (is_open_at w.conn.requests p) _ w (λ t. refl) (λ f. refl)
 
--- also where they come to these
-pub answered_renewing : (w : Work) (p : ℕ) (o : Outcome) (r : Renewal) → answered (renewing w r) p o ≡ renewing (answered w p o) r
-answered_renewing w p o r = by_open (is_open_at w.conn.requests p)
-  where
-    done : Work
-    done = record { conn = closed w.conn p; acts = w.acts ++ act.Outcome (name_at w.conn.requests p) o ∷ [] }
+-- what a settled message of the driver's own comes to: new credentials are answered, or what is subscribed again
+abbrev pub own_one : Work → Settled → Work
+own_one w s = if s.id == renewal_id then renewing w (replied w.conn.renewal (is_done s.verdict)) else (if s.id == repeat_id then served w else w)
 
-    by_open : (b : Bool) → (if b then renewing done r else renewing w r) ≡ renewing (if b then done else w) r
+-- and all of these
+abbrev pub own_each : Work → List Settled → Work
+own_each w [] = w
+own_each w (s ∷ ss) = own_each (own_one w s) ss
+
+-- an answer to a request leaves what new credentials come to, whichever comes first
+answered_auth : (w : Work) (p : ℕ) (o : Outcome) (done : Bool) → renewing (answered w p o) (replied (answered w p o).conn.renewal done) ≡ answered (renewing w (replied w.conn.renewal done)) p o
+answered_auth w p o done = by_open (is_open_at w.conn.requests p)
+  where
+    closes : Work → Work
+    closes v = record { conn = closed v.conn p; acts = v.acts ++ act.Outcome (name_at v.conn.requests p) o ∷ [] }
+
+    auth : Work → Work
+    auth v = renewing v (replied v.conn.renewal done)
+
+    by_open : (b : Bool) → auth (if b then closes w else w) ≡ (if b then closes (auth w) else auth w)
     by_open true = refl
     by_open false = refl
 
--- one that was settled is answered, where the others behind it are
-one_settled : (before : List Action) (f : Core) (ledger : Ledger) (owes : ℕ → Option Outcome) (name : ℕ → ℕ) (was : ℕ → Bool) (w : Work) (s : Settled) (ss : List Settled) (pending started : List ℕ) (auth : Bool) → IsDue owes name was s
-    → (let r = w.conn.renewal in let ids = requests_in (settled_ids ss) in IsAnswering before f ledger owes name was (renewing w (replied_each (if auth then replied r (is_done s.verdict) else r) ss)) ((if auth then ids else s.id ∷ ids) ++ pending) started)
-    → ((v : Work) → IsAnswering before f ledger owes name was (renewing v (replied_each v.conn.renewal ss)) (requests_in (settled_ids ss) ++ pending) started → IsAnswering before f ledger owes name was (settled_each v ss) pending started)
-    → IsAnswering before f ledger owes name was (settled_each (if auth then renewing w (replied w.conn.renewal (is_done s.verdict)) else answered w s.id (outcome_of s.verdict)) ss) pending started
-one_settled before f ledger owes name was w s ss pending started true due h rest = rest (renewing w (replied w.conn.renewal (is_done s.verdict))) h
-one_settled before f ledger owes name was w s ss pending started false due h rest =
-    let o = outcome_of s.verdict in
-    let ids = requests_in (settled_ids ss) in
-    let come = replied_each w.conn.renewal ss in
-    let done = answered_holds before f ledger owes name was (renewing w come) s.id o (ids ++ pending) started due h in
-    rest (answered w s.id o)
-    (subst (λ r. IsAnswering before f ledger owes name was (renewing (answered w s.id o) (replied_each r ss)) (ids ++ pending) started) (sym (answered_renewal w s.id o))
-    (subst (λ (x : Work). IsAnswering before f ledger owes name was x (ids ++ pending) started) (answered_renewing w s.id o come) done))
+-- and that what is subscribed again is answered
+answered_again : (w : Work) (p : ℕ) (o : Outcome) → served (answered w p o) ≡ answered (served w) p o
+answered_again w p o = by_test (is_repeating w.conn) (served (answered w p o) ≡ answered (served w) p o)
+    (λ t. taken_if (is_repeating (answered w p o).conn) (gone (answered w p o)) (answered w p o) (same ∙ t) ∙ by_open (is_open_at w.conn.requests p) ∙ ap (λ (x : Work). answered x p o) (sym (taken_if (is_repeating w.conn) (gone w) w t)))
+    (λ f. left_if (is_repeating (answered w p o).conn) (gone (answered w p o)) (answered w p o) (same ∙ f) ∙ ap (λ (x : Work). answered x p o) (sym (left_if (is_repeating w.conn) (gone w) w f)))
+  where
+    closes : Work → Work
+    closes v = record { conn = closed v.conn p; acts = v.acts ++ act.Outcome (name_at v.conn.requests p) o ∷ [] }
 
--- each that was settled is answered; AUTH's reply is of no account for requests
+    gone : Work → Work
+    gone v = all_fresh (repeating v again.Nothing)
+
+    by_open : (b : Bool) → gone (if b then closes w else w) ≡ (if b then closes (gone w) else gone w)
+    by_open true = refl
+    by_open false = refl
+
+    same : is_repeating (answered w p o).conn ≡ is_repeating w.conn
+    same = chosen (λ (x : Work). is_repeating x.conn ≡ is_repeating w.conn) (is_open_at w.conn.requests p) (closes w) w (λ t. refl) (λ f. refl)
+
+-- so it leaves what a message of the driver's own comes to
+answered_own : (w : Work) (p : ℕ) (o : Outcome) (s : Settled) → own_one (answered w p o) s ≡ answered (own_one w s) p o
+answered_own w p o s = by_kind (s.id == renewal_id) (s.id == repeat_id)
+  where
+    v : Work
+    v = answered w p o
+
+    done : Bool
+    done = is_done s.verdict
+
+    by_kind : (first second : Bool) → (if first then renewing v (replied v.conn.renewal done) else (if second then served v else v)) ≡ answered (if first then renewing w (replied w.conn.renewal done) else (if second then served w else w)) p o
+    by_kind true second = answered_auth w p o done
+    by_kind false true = answered_again w p o
+    by_kind false false = refl
+
+-- so it leaves all of them
+pub answered_owns : (w : Work) (p : ℕ) (o : Outcome) (ss : List Settled) → own_each (answered w p o) ss ≡ answered (own_each w ss) p o
+answered_owns w p o [] = refl
+answered_owns w p o (s ∷ ss) = ap (λ (x : Work). own_each x ss) (answered_own w p o s) ∙ answered_owns (own_one w s) p o ss
+
+-- a message of the driver's own is settled as it says
+pub own_settled : (w : Work) (s : Settled) → is_own s.id ≡ true → settled_one w s ≡ own_one w s
+own_settled w s own = by_test (s.id == renewal_id) (settled_one w s ≡ own_one w s)
+    (λ t. taken_if (s.id == renewal_id) (renewing w (replied w.conn.renewal (is_done s.verdict))) (settled_other w s) t ∙ sym (taken_if (s.id == renewal_id) (renewing w (replied w.conn.renewal (is_done s.verdict))) (if s.id == repeat_id then served w else w) t))
+    (λ f.
+    let second : (s.id == repeat_id) ≡ true = sym (ap (λ b. b || (s.id == repeat_id)) f) ∙ own in
+    left_if (s.id == renewal_id) (renewing w (replied w.conn.renewal (is_done s.verdict))) (settled_other w s) f ∙ taken_if (s.id == repeat_id) (served w) (answered w s.id (outcome_of s.verdict)) second
+    ∙ sym (left_if (s.id == renewal_id) (renewing w (replied w.conn.renewal (is_done s.verdict))) (if s.id == repeat_id then served w else w) f ∙ taken_if (s.id == repeat_id) (served w) w second))
+
+-- and a request's is answered
+pub request_settled : (w : Work) (s : Settled) → is_own s.id ≡ false → (settled_one w s ≡ answered w s.id (outcome_of s.verdict)) × (own_one w s ≡ w)
+request_settled w s other =
+    let first : (s.id == renewal_id) ≡ false = by_test (s.id == renewal_id) _ (λ t. absurd (not_both (is_own s.id) other (ap (λ b. b || (s.id == repeat_id)) t))) (λ f. f) in
+    let second : (s.id == repeat_id) ≡ false = sym (ap (λ b. b || (s.id == repeat_id)) first) ∙ other in (
+      left_if (s.id == renewal_id) (renewing w (replied w.conn.renewal (is_done s.verdict))) (settled_other w s) first ∙ left_if (s.id == repeat_id) (served w) (answered w s.id (outcome_of s.verdict)) second,
+      left_if (s.id == renewal_id) (renewing w (replied w.conn.renewal (is_done s.verdict))) (if s.id == repeat_id then served w else w) first ∙ left_if (s.id == repeat_id) (served w) w second,
+    )
+
+-- each that was settled is answered; the driver's own are of no account for requests
 pub settled_holds : (before : List Action) (f : Core) (ledger : Ledger) (owes : ℕ → Option Outcome) (name : ℕ → ℕ) (was : ℕ → Bool) (w : Work) (ss : List Settled) (pending started : List ℕ) → AllByRecursion (IsDue owes name was) ss
-    → IsAnswering before f ledger owes name was (renewing w (replied_each w.conn.renewal ss)) (requests_in (settled_ids ss) ++ pending) started → IsAnswering before f ledger owes name was (settled_each w ss) pending started
+    → IsAnswering before f ledger owes name was (own_each w ss) (requests_in (settled_ids ss) ++ pending) started → IsAnswering before f ledger owes name was (settled_each w ss) pending started
 settled_holds before f ledger owes name was w [] pending started due h = h
 settled_holds before f ledger owes name was w (s ∷ ss) pending started due h =
-    one_settled before f ledger owes name was w s ss pending started (s.id == renewal_id) due.0 h
-    (λ v k. settled_holds before f ledger owes name was v ss pending started due.1 k)
+    let o = outcome_of s.verdict in
+    let ids = requests_in (settled_ids ss) in
+    by_test (is_own s.id) (IsAnswering before f ledger owes name was (settled_each w (s ∷ ss)) pending started)
+    (λ t. subst (λ (x : Work). IsAnswering before f ledger owes name was (settled_each x ss) pending started) (sym (own_settled w s t))
+    (settled_holds before f ledger owes name was (own_one w s) ss pending started due.1
+    (subst (λ ns. IsAnswering before f ledger owes name was (own_each (own_one w s) ss) (ns ++ pending) started) (requests_behind s.id (settled_ids ss) t) h)))
+    (λ f1.
+    let k = request_settled w s f1 in
+    let first = subst (λ (x : Work). IsAnswering before f ledger owes name was (own_each x ss) (s.id ∷ (ids ++ pending)) started) k.1 (subst (λ ns. IsAnswering before f ledger owes name was (own_each (own_one w s) ss) (ns ++ pending) started) (requests_first s.id (settled_ids ss) f1) h) in
+    let done = answered_holds before f ledger owes name was (own_each w ss) s.id o (ids ++ pending) started due.0 first in
+    subst (λ (x : Work). IsAnswering before f ledger owes name was (settled_each x ss) pending started) (sym k.0)
+    (settled_holds before f ledger owes name was (answered w s.id o) ss pending started due.1
+    (subst (λ (x : Work). IsAnswering before f ledger owes name was x (ids ++ pending) started) (sym (answered_owns w s.id o ss)) done)))
 
 -- each of these requests is answered with this error
 pub failed_holds : (before : List Action) (f : Core) (ledger : Ledger) (owes : ℕ → Option Outcome) (name : ℕ → ℕ) (was : ℕ → Bool) (w : Work) (e : RedisError) (qs : List Waiting) (pending started : List ℕ) → AllByRecursion (IsDueError owes name was e) qs
@@ -368,20 +448,20 @@ failed_holds before f ledger owes name was w e (q ∷ qs) pending started due h 
     failed_holds before f ledger owes name was (answered w q.number (outcome.Fault e)) e qs pending started due.1
     (answered_holds before f ledger owes name was w q.number (outcome.Fault e) (waiting_ids qs ++ pending) started due.0 h)
 
--- what answers leave as it was
+-- what answers leave as it was: also that nothing is to be subscribed again, where nothing was
 pub record Leaves (w v : Work) : Type 0 where
   pub size : v.conn.size ≡ w.conn.size
   pub boundary : v.conn.boundary ≡ w.conn.boundary
   pub life : v.conn.life ≡ w.conn.life
   pub waiting : v.conn.waiting ≡ w.conn.waiting
   pub admitted : v.conn.admitted ≡ w.conn.admitted
-  pub fresh : v.conn.fresh ≡ w.conn.fresh
   pub moved : v.conn.moved ≡ w.conn.moved
   pub hears : v.conn.hears ≡ w.conn.hears
+  pub answered : is_outstanding w.conn.again ≡ false → is_outstanding v.conn.again ≡ false
 
 -- nothing is changed
 pub leaves_all : (w : Work) → Leaves w w
-leaves_all w = record { size = refl; boundary = refl; life = refl; waiting = refl; admitted = refl; fresh = refl; moved = refl; hears = refl }
+leaves_all w = record { size = refl; boundary = refl; life = refl; waiting = refl; admitted = refl; moved = refl; hears = refl; answered = λ e. e }
 
 -- one after another
 pub leaves_on : (u v w : Work) → Leaves u v → Leaves v w → Leaves u w
@@ -391,21 +471,24 @@ leaves_on u v w h k = record {
   life = k.life ∙ h.life;
   waiting = k.waiting ∙ h.waiting;
   admitted = k.admitted ∙ h.admitted;
-  fresh = k.fresh ∙ h.fresh;
   moved = k.moved ∙ h.moved;
   hears = k.hears ∙ h.hears;
+  answered = λ e. k.answered (h.answered e);
 }
 
 -- one answer leaves them
 pub answered_leaves : (w : Work) (p : ℕ) (o : Outcome) → Leaves w (answered w p o)
-answered_leaves w p o = chosen (Leaves w) (is_open_at w.conn.requests p) _ w (λ t. record { size = refl; boundary = refl; life = refl; waiting = refl; admitted = refl; fresh = refl; moved = refl; hears = refl }) (λ f. leaves_all w)
+answered_leaves w p o = chosen (Leaves w) (is_open_at w.conn.requests p) _ w (λ t. record { size = refl; boundary = refl; life = refl; waiting = refl; admitted = refl; moved = refl; hears = refl; answered = λ e. e }) (λ f. leaves_all w)
 
 -- so does what one settled message comes to
 pub one_leaves : (w : Work) (s : Settled) → Leaves w (settled_one w s)
 one_leaves w s =
-    chosen (Leaves w) (s.id == renewal_id) (renewing w (replied w.conn.renewal (is_done s.verdict))) (answered w s.id (outcome_of s.verdict))
-    (λ t. record { size = refl; boundary = refl; life = refl; waiting = refl; admitted = refl; fresh = refl; moved = refl; hears = refl })
-    (λ f. answered_leaves w s.id (outcome_of s.verdict))
+    chosen (Leaves w) (s.id == renewal_id) (renewing w (replied w.conn.renewal (is_done s.verdict))) (settled_other w s)
+    (λ t. record { size = refl; boundary = refl; life = refl; waiting = refl; admitted = refl; moved = refl; hears = refl; answered = λ e. e })
+    (λ f.
+    chosen (Leaves w) (s.id == repeat_id) (served w) (answered w s.id (outcome_of s.verdict))
+    (λ t. chosen (Leaves w) (is_repeating w.conn) (all_fresh (repeating w again.Nothing)) w (λ r. record { size = refl; boundary = refl; life = refl; waiting = refl; admitted = refl; moved = refl; hears = refl; answered = λ e. refl }) (λ n. leaves_all w))
+    (λ n. answered_leaves w s.id (outcome_of s.verdict)))
 
 -- so do the answers to what was settled
 pub settled_leaves : (w : Work) (ss : List Settled) → Leaves w (settled_each w ss)

@@ -8,7 +8,7 @@ use Rattle.driver_model.specs.declared.event.Event.{Event}
 use Rattle.link_core.specs.Link.{LinkState}
 use Rattle.mux_conn.specs.Connection.{Work, is_due, is_ready, is_resting, is_spent_in, is_used_up, work_with}
 use Rattle.mux_conn.specs.Requests.{is_admitted_at, is_open_at, is_waiting_at}
-use Rattle.mux_conn.specs.Turn.{early_wait, flushed, fresh_each_shown, fresh_shown, wait_shown, waits_shown, written_at}
+use Rattle.mux_conn.specs.Turn.{flushed, fresh_each_shown, fresh_shown, wait_shown, waits_shown, written_at, waits_for}
 use Rattle.link_laws.specs.Settles.{awaited_ids}
 use Rattle.mux_conn.specs.declared.connection.MultiplexedConnection.{MultiplexedConnection}
 use Rattle.mux_conn.specs.declared.life.Life.{Life}
@@ -34,6 +34,7 @@ use Rattle.session_laws.proofs.Server.{NoneRenewed, TiedRenewal}
 use Rattle.session_laws.proofs.Tied.{Tied, has_ended, inner, link_in, relined}
 use Rattle.session_laws.proofs.Turns.{heard_so, made, retired_same}
 use Rattle.session_laws.proofs.Whole.{managed_between, managed_core, managed_trace, what_of}
+use Rattle.session_laws.proofs.Serving.{unready_serves}
 
 -- so the session is behind a turn, whether a number ran out in it or not
 pub record IsTied (before : List Action) (c : Core) : Type 0 where
@@ -50,7 +51,7 @@ between_tied before c h = record { started = h.started; tied = h.between.sound.t
 -- no wait is shown
 none_fresh : (w : Work) (ps : List ℕ) → ((p : ℕ) → is_waiting_at w.conn.requests p ≡ false) → fresh_each_shown w ps ≡ w
 none_fresh w [] none = refl
-none_fresh w (p ∷ ps) none = ap (λ x. fresh_each_shown (wait_shown w p x) ps) (left_if (is_waiting_at w.conn.requests p) (Some (early_wait w.conn.life)) None (none p)) ∙ none_fresh w ps none
+none_fresh w (p ∷ ps) none = ap (λ x. fresh_each_shown (wait_shown w p x) ps) (left_if (is_waiting_at w.conn.requests p) (Some (waits_for w.conn)) None (none p)) ∙ none_fresh w ps none
 
 -- nor a byte
 over_flushed : (k : Core) (e : RedisError) → k.single.connection.life ≡ Ended e → ((p : ℕ) → is_open_at k.single.connection.requests p ≡ true → ⊥)
@@ -63,7 +64,7 @@ over_flushed k e over closed =
     let none_admitted : (p : ℕ) → is_admitted_at conn.requests p ≡ false = λ p. by_test (is_admitted_at conn.requests p) _ (λ a. absurd (closed p (admitted_open conn.requests p a).0)) (λ f. f) in
     let none_waits : (p : ℕ) → is_waiting_at conn.requests p ≡ false = λ p. by_test (is_waiting_at conn.requests p) _ (λ a. absurd (closed p (waiting_open conn.requests p a))) (λ f. f) in
     ap (λ (x : Life). waits_shown (written_at w x)) over
-    ∙ ap fresh_shown (unmoved v conn.moved (ap is_ready over) none_admitted)
+    ∙ ap fresh_shown (unmoved v conn.moved (ap (λ (x : Life). (link_in x).queue) over) none_admitted)
     ∙ none_fresh z conn.fresh none_waits
 
 -- and the session is tied without what was to be shown
@@ -78,7 +79,8 @@ over_tied b k started e over closed h =
       connect = λ p w x. absurd (closed p (waiting_open conn.requests p w));
       creds = λ p link w x. absurd (closed p (waiting_open conn.requests p w));
       setup = λ p link u w x. absurd (closed p (waiting_open conn.requests p w));
-      permit = λ p link w x. absurd (closed p (waiting_open conn.requests p w));
+      resubscribe = λ p link w x goes. absurd (closed p (waiting_open conn.requests p w));
+      permit = λ p link w x answered. absurd (closed p (waiting_open conn.requests p w));
       place = λ p a. absurd (closed p (admitted_open conn.requests p a).0);
       room = λ p i. absurd (subst (λ (x : Life). IsIn p (awaited_ids (link_in x).queue)) over i);
       newer = omega arith;
@@ -87,12 +89,14 @@ over_tied b k started e over closed h =
       no_connect = λ p i. absurd i;
       no_creds = λ p link i. absurd i;
       no_setup = λ p link u i. absurd i;
+      no_resubscribe = λ p link i. absurd i;
+      unpermitted = λ p link w x goes. absurd (closed p (waiting_open conn.requests p w));
       no_permit = λ p link i. absurd i;
       no_place = λ p i. absurd i;
       seatless = λ p a. absurd (closed p (admitted_open conn.requests p a).0);
       no_room = λ p i. absurd i;
     })
-    (rounds_down b.story conn.requests conn.fresh [] (ap is_ready over) h.rounds) h.late
+    (rounds_down b.story conn.requests conn.fresh [] (unready_serves conn.life conn.again (ap is_ready over)) h.rounds) h.late
 
 -- a connection without a link has used up nothing
 fresh_unused : (c : MultiplexedConnection) → c.life ≡ Resting → c.renewal.asked ≡ 0 → is_used_up c ≡ false

@@ -23,7 +23,7 @@ use Rattle.mux_conn.specs.declared.life.Life.TheVariants.{Dialing, Ready, Wantin
 use Rattle.mux_conn.specs.declared.request.Request.{Request}
 use Rattle.mux_conn.specs.declared.request.Waiting.{Waiting}
 use Rattle.legal_trace.specs.Book.{Book, entered, if_own, message_of}
-use Rattle.legal_trace.specs.Ledger.{Ledger, Start, begins, is_of_setup, noted, setup_count, is_of_renewal}
+use Rattle.legal_trace.specs.Ledger.{Ledger, Start, begins, is_of_setup, noted, setup_count, is_of_renewal, is_of_again}
 use Rattle.legal_trace.specs.Story.{Story, is_told, shape, shape_in, tried}
 use Rattle.session_laws.proofs.Rounded.{SameRounds, rounds_same}
 use Rattle.session_laws.proofs.Ahead.{queue_within, admitted_open, early_open}
@@ -31,17 +31,18 @@ use Rattle.session_laws.proofs.Behind.{nil_told, open_untold, some_more}
 use Rattle.session_laws.proofs.InLine.{awaited_in, first_is_apart, kept_ids}
 use Rattle.session_laws.proofs.Kept.{SameOutcomes, SameSubmissions, SameTimes, mine_noted, one_changed, others_kept, packed_same, queued_same, tied_by}
 use Rattle.session_laws.proofs.Names.{get_more, get_some, name_of_some, open_within, same_name, owner_below, request_not, asked_unwatched}
-use Rattle.session_laws.proofs.Numbers.{IsIn, Rising, in_left, in_right, rising_apart, rising_in, rising_right, requests_in, request_in, requests_in-append, requests_first}
+use Rattle.session_laws.proofs.Numbers.{IsIn, Rising, in_left, in_right, rising_apart, rising_in, rising_right, requests_in, request_in, requests_in-append, requests_first, is_own}
 use Rattle.session_laws.proofs.Owes.{get_in, request_story}
 use Rattle.session_laws.proofs.Permits.{IsHolding, holding_same, permits_same}
 use Rattle.legal_trace.proofs.Setups.{count_more}
 use Rattle.session_laws.proofs.SetUp.{set_up_begins, setups_begins}
-use Rattle.mux_conn.specs.Renewals.{renewal_id}
 use Rattle.session_laws.proofs.Renewals.{begins_renewed}
 use Rattle.session_laws.proofs.Server.{owners_of, setup_owners}
 use Rattle.session_laws.proofs.Tied.{AreQueued, Inner, IsEntry, IsQueued, IsRequest, Tied, TiedLines, TiedTries, TiedWaits, owner_of, owners_each, queue_ids, shown_wait, numbers_kept}
-use Rattle.session_laws.proofs.Unrepeated.{unrepeated_lined}
 use Rattle.driver_model.specs.Hearing.{is_watching}
+use Rattle.session_laws.proofs.Repeats.{begins_repeated}
+use Rattle.mux_conn.specs.declared.again.Again.{Again}
+use Rattle.session_laws.proofs.Closing.{one_of}
 
 -- the action that its start shows
 abbrev pub start_action : Inner → LinkState → Queued → Action
@@ -96,7 +97,7 @@ first_within story requests link waiting admitted started q qs h =
     (rising_in 0 (requests_in started ++ later) (length requests) q.id h.line (in_right q.id (requests_in started) later (inl refl))).1
 
 -- nor has it started
-pub first_new : (story : ℕ → Story) (requests : List Request) (link : LinkState) (waiting admitted : List Waiting) (started : List ℕ) (q : Queued) (qs : List Queued) → TiedLines story requests (with_queue link (q ∷ qs)) waiting admitted [] started → q.id ≢ renewal_id → IsIn q.id started
+pub first_new : (story : ℕ → Story) (requests : List Request) (link : LinkState) (waiting admitted : List Waiting) (started : List ℕ) (q : Queued) (qs : List Queued) → TiedLines story requests (with_queue link (q ∷ qs)) waiting admitted [] started → is_own q.id ≡ false → IsIn q.id started
     → ⊥
 first_new story requests link waiting admitted started q qs h other i =
     let k = rising_apart 0 (requests_in started) (q.id ∷ (queue_ids qs ++ kept_ids admitted waiting)) (length requests) q.id q.id h.line (request_in q.id started other i) (inl refl) in
@@ -110,7 +111,7 @@ first_apart story requests link waiting admitted started q qs h i =
     first_is_apart 0 q.id (queue_ids qs ++ kept) (length requests) (rising_right 0 (requests_in started) (q.id ∷ (queue_ids qs ++ kept)) (length requests) h.line) (in_left q.id (queue_ids qs) kept i)
 
 -- what is noted of the link is the message of the queue
-same_start : (b : Book) (link : ℕ) (requests : List Request) (q : Queued) → q.id ≢ renewal_id → IsQueued b.story requests q → message_of b link (owner.Try (name_at requests q.id) 0) ≡ start_from (owner_of requests) q
+same_start : (b : Book) (link : ℕ) (requests : List Request) (q : Queued) → is_own q.id ≡ false → IsQueued b.story requests q → message_of b link (owner.Try (name_at requests q.id) 0) ≡ start_from (owner_of requests) q
 same_start b link requests q other h = λ i. record { owner = sym (owner_below requests q.id other) i; shape = sym h.is_of.shape_is i; bytes = sym h.is_of.packs i }
 
 -- the owners of starts, and of others
@@ -145,7 +146,7 @@ owners_length (s ∷ ss) requests started (suc n) e = let long = owners_length s
 --
 -- one more of the started
 tries_started : (l : Ledger) (story : ℕ → Story) (requests : List Request) (link k : ℕ) (started : List ℕ) (s : Start) (p : ℕ)
-    → p ≢ renewal_id → ((m : ℕ) → m < length requests → IsIn m started → name_at requests m ≡ name_at requests p → ⊥) → ((m : ℕ) (r : Request) → slice_get requests m ≡ Some r → r.name ≡ name_at requests p → m ≡ p)
+    → is_own p ≡ false → ((m : ℕ) → m < length requests → IsIn m started → name_at requests m ≡ name_at requests p → ⊥) → ((m : ℕ) (r : Request) → slice_get requests m ≡ Some r → r.name ≡ name_at requests p → m ≡ p)
     → s.owner ≡ owner_of requests p → s.shape ≡ shape (story (name_at requests p)) → k ≡ length l.starts → (story (name_at requests p)).tries ≡ []
     → is_watching l.hearing ≡ false → TiedTries l story requests link started → TiedTries (noted l (begins s)) (tried_at (name_at requests p) link k story) requests link (started ++ p ∷ [])
 tries_started l story requests link k started s p other new one owned shaped counted none plain h =
@@ -186,18 +187,18 @@ tries_started l story requests link k started s p other new one owned shaped cou
 -- the line, and what is shown of waits
 --
 -- a request's number, or none, is a request's
-pub requests_own : (b : Bool) (n : ℕ) → n ≢ renewal_id → requests_in (if b then n ∷ [] else []) ≡ (if b then n ∷ [] else [])
+pub requests_own : (b : Bool) (n : ℕ) → is_own n ≡ false → requests_in (if b then n ∷ [] else []) ≡ (if b then n ∷ [] else [])
 requests_own true n other = requests_first n [] other
 requests_own false n other = refl
 
 -- one more entry of a request whose verdict is wanted, or not
-pub requests_wanted : (row : List Entry) (q : Queued) → q.id ≢ renewal_id → requests_in (wanted (row ++ entry_of q ∷ [])) ≡ requests_in (wanted row) ++ (if q.awaited then q.id ∷ [] else [])
+pub requests_wanted : (row : List Entry) (q : Queued) → is_own q.id ≡ false → requests_in (wanted (row ++ entry_of q ∷ [])) ≡ requests_in (wanted row) ++ (if q.awaited then q.id ∷ [] else [])
 requests_wanted row q other =
     let own = if q.awaited then q.id ∷ [] else [] in
     ap requests_in (wanted-append row (entry_of q ∷ []) ∙ ap (λ ns. wanted row ++ ns) (append-nil own)) ∙ requests_in-append (wanted row) own ∙ ap (λ ns. requests_in (wanted row) ++ ns) (requests_own q.awaited q.id other)
 
 -- the line when the first of the queue has started
-lines_started : (story : ℕ → Story) (requests : List Request) (link : LinkState) (waiting admitted : List Waiting) (started : List ℕ) (q : Queued) (qs : List Queued) (k l : ℕ) → q.id ≢ renewal_id
+lines_started : (story : ℕ → Story) (requests : List Request) (link : LinkState) (waiting admitted : List Waiting) (started : List ℕ) (q : Queued) (qs : List Queued) (k l : ℕ) → is_own q.id ≡ false
     → TiedLines story requests (with_queue link (q ∷ qs)) waiting admitted [] started
     → TiedLines (tried_at (name_at requests q.id) k l story) requests (with_queue (begun link q) qs) waiting admitted [] (started ++ q.id ∷ [])
 lines_started story requests link waiting admitted started q qs k l other h = record {
@@ -236,18 +237,19 @@ abbrev pub LosesWaits : (ℕ → Story) → (ℕ → Story) → Type 0
 LosesWaits f g = (n : ℕ) → ((g n).waiting ≡ None) ⊎ ((g n).waiting ≡ (f n).waiting)
 
 -- what is shown of waits is true still, where it is the same of those that wait for a place and of those in the queue
-pub waits_up : (f g : ℕ → Story) (requests : List Request) (link link' : LinkState) (fresh moved : List ℕ) → LosesWaits f g
+pub waits_up : (f g : ℕ → Story) (requests : List Request) (a : Again) (link link' : LinkState) (fresh moved : List ℕ) → LosesWaits f g
     → ((p : ℕ) → is_waiting_at requests p ≡ true → shown_wait g requests p ≡ shown_wait f requests p)
     → ((p : ℕ) → is_admitted_at requests p ≡ true → shown_wait g requests p ≡ shown_wait f requests p)
     → ((p : ℕ) → IsIn p (awaited_ids link'.queue) → IsIn p (awaited_ids link.queue) × (shown_wait g requests p ≡ shown_wait f requests p))
-    → TiedWaits f requests (Ready link) fresh moved → TiedWaits g requests (Ready link') fresh moved
-waits_up f g requests link link' fresh moved lost waiting admitted queued h = record {
-  early = λ p w. elim (h.early p w) [ inl k ↦ inl (waiting p w ∙ k) | inr k ↦ inr (elim k [ inl x ↦ inl (waiting p w ∙ x) | inr x ↦ inr (elim x [ inl y ↦ inl (waiting p w ∙ y) | inr y ↦ inr (elim y [ inl z ↦ inl (waiting p w ∙ z) | inr z ↦ inr (elim z [ inl v ↦ inl (waiting p w ∙ v) | inr v ↦ inr (waiting p w ∙ v) ]) ]) ]) ]) ];
+    → TiedWaits f requests a (Ready link) fresh moved → TiedWaits g requests a (Ready link') fresh moved
+waits_up f g requests a link link' fresh moved lost waiting admitted queued h = record {
+  early = λ p w. one_of (shown_wait g requests p) (shown_wait f requests p) (waiting p w) (h.early p w);
   backoff = λ p w e. absurd (not_resting link' e);
   connect = λ p w e. absurd (not_dialing link' e);
   creds = λ p l w e. absurd (not_wanting link' l e);
   setup = λ p l u w e. absurd (not_setting link' l u e);
-  permit = λ p l w e. elim (h.permit p link w refl) [ inl i ↦ inl i | inr k ↦ inr (waiting p w ∙ k) ];
+  resubscribe = λ p l w e goes. elim (h.resubscribe p link w refl goes) [ inl i ↦ inl i | inr k ↦ inr (waiting p w ∙ k) ];
+  permit = λ p l w e none. elim (h.permit p link w refl none) [ inl i ↦ inl i | inr k ↦ inr (waiting p w ∙ k) ];
   place = λ p a. elim (h.place p a) [ inl i ↦ inl i | inr k ↦ inr (admitted p a ∙ k) ];
   room = λ p i. let q = queued p i in elim (h.room p q.0) [ inl j ↦ inl j | inr k ↦ inr (q.1 ∙ k) ];
   newer = h.newer;
@@ -256,7 +258,9 @@ waits_up f g requests link link' fresh moved lost waiting admitted queued h = re
   no_connect = λ p i w e. absurd (not_dialing link' e);
   no_creds = λ p l i w e. absurd (not_wanting link' l e);
   no_setup = λ p l u i w e. absurd (not_setting link' l u e);
-  no_permit = λ p l i w e k. h.no_permit p link i w refl (sym (waiting p w) ∙ k);
+  no_resubscribe = λ p l i w e goes k. h.no_resubscribe p link i w refl goes (sym (waiting p w) ∙ k);
+  unpermitted = λ p l w e goes k. h.unpermitted p link w refl goes (sym (waiting p w) ∙ k);
+  no_permit = λ p l i w e none k. h.no_permit p link i w refl none (sym (waiting p w) ∙ k);
   no_place = λ p i a e. h.no_place p i a (sym (admitted p a) ∙ e);
   seatless = λ p a e. h.seatless p a (sym (admitted p a) ∙ e);
   no_room = λ p i j e. let q = queued p j in h.no_room p i q.0 (sym q.1 ∙ e);
@@ -280,14 +284,14 @@ queued_apart b t q h within is a =
 
 -- what is shown of waits is true when the first of the queue has started
 waits_started : (b : Book) (t : Inner) (link : LinkState) (q : Queued) (qs : List Queued) (k l : ℕ) → Tied b (on_link t (with_queue link (q ∷ qs)))
-    → TiedWaits (tried_at (name_at t.requests q.id) k l b.story) t.requests (Ready (with_queue (begun link q) qs)) t.fresh t.moved
+    → TiedWaits (tried_at (name_at t.requests q.id) k l b.story) t.requests t.again (Ready (with_queue (begun link q) qs)) t.fresh t.moved
 waits_started b t link q qs k l h =
     let was = on_link t (with_queue link (q ∷ qs)) in
     let n = name_at t.requests q.id in
     let within = first_within b.story t.requests link t.waiting t.admitted t.started q qs h.lines in
     let other : (p : ℕ) → p < length t.requests → (q.id ≡ p → ⊥) → shown_wait (tried_at n k l b.story) t.requests p ≡ shown_wait b.story t.requests p = λ p inside apart.
     tried_others n k l b.story (name_at t.requests p) (λ e. apart (same_name t.table t.requests q.id p h.names within inside e)) in
-    waits_up b.story (tried_at n k l b.story) t.requests (with_queue link (q ∷ qs)) (with_queue (begun link q) qs) t.fresh t.moved (tried_loses n k l b.story)
+    waits_up b.story (tried_at n k l b.story) t.requests t.again (with_queue link (q ∷ qs)) (with_queue (begun link q) qs) t.fresh t.moved (tried_loses n k l b.story)
     (λ p w. other p (open_within t.requests p (early_open t.requests p w).0) (λ same. queued_apart b was q h within h.lines.queued.0 (early_open t.requests q.id (subst (λ m. is_waiting_at t.requests m ≡ true) (sym same) w))))
     (λ p a. other p (open_within t.requests p (admitted_open t.requests p a).0) (λ same. queued_apart b was q h within h.lines.queued.0 (admitted_open t.requests q.id (subst (λ m. is_admitted_at t.requests m ≡ true) (sym same) a))))
     (λ p i.
@@ -339,7 +343,7 @@ start_tied b t link q qs h =
     tied_by (entered b (start_action t link q)) (after_start t link q qs) (noted l (begins s))
     (mine_noted l t.link (begins (message_of b t.link (owner.Try n 0))) ∙ ap (λ x. noted l (begins x)) (same_start b t.link t.requests q other is))
     (record {
-      numbers = numbers_kept b _ _ _ _ was _ _ _ _ _ _ _ _ _ _ (unrepeated_lined b.link t.link (begins (message_of b t.link (owner.Try n 0))) refl h.numbers.unrepeated) h.numbers;
+      numbers = numbers_kept b _ _ _ _ was _ _ _ _ _ _ _ _ _ _ h.numbers;
       others = others_kept b t.link (begins (message_of b t.link (owner.Try n 0))) h.others;
       notices = h.notices;
       life = h.life;
@@ -349,6 +353,7 @@ start_tied b t link q qs h =
       creation = h.creation;
       uses = h.uses;
       renewal = begins_renewed l t.renewal s (ap is_of_renewal try_is) h.renewal;
+      repeat = begins_repeated l s b.tracked t.renewal.within t.again (ap is_of_again try_is) h.repeat;
       setup = record { info_is = h.setup.info_is; sent = setups_begins l s (ap is_of_setup try_is) h.setup.sent; said = set_up_begins l s (ap is_of_setup try_is) h.setup.said };
       link = λ e. queue_tied name (noted l (begins s)) (begun (with_queue link (q ∷ qs)) q) qs (begun_tied name l (with_queue link (q ∷ qs)) q (queued_some b was q h within is) up);
       names = h.names;
@@ -363,6 +368,6 @@ start_tied b t link q qs h =
       waits = waits_started b t link q qs t.link link.started h;
       permits = permits_same b.story (tried_at n t.link link.started b.story) b.submissions t.requests t.link t.limit t.free t.letting (tried_holds n t.link link.started b.story) h.permits;
       rounds = rounds_same b.story (tried_at n t.link link.started b.story) t.requests t.fresh (tried_rounds n t.link link.started b.story) h.rounds;
-      early = h.early;
+      early = λ unserved alive. absurd (let no : q ∷ qs ≡ [] = (h.early unserved alive).empty in cc);
       late = λ p o e. h.late p o (sym (tried_late n t.link link.started b.story (name_at t.requests p)) ∙ e);
     })

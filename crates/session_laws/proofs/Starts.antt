@@ -10,7 +10,7 @@ use Rattle.link_core.specs.declared.message.Queued.{Queued}
 use Rattle.link_core.specs.declared.message.Started.{Started}
 use Rattle.link_laws.proofs.Choices.{chosen_both}
 use Rattle.link_laws.specs.Starts.{begun, starting}
-use Rattle.mux_conn.specs.Connection.{Work, acted, in_front}
+use Rattle.mux_conn.specs.Connection.{Work, acted, in_front, is_outstanding}
 use Rattle.mux_conn.specs.declared.life.Life.TheVariants.{Ready}
 use Rattle.mux_conn.specs.Passes.{shown_each as shown_starts}
 use Rattle.mux_conn.specs.Requests.{name_at}
@@ -33,16 +33,16 @@ use Rattle.session_laws.proofs.Server.{IsSetUp}
 use Rattle.session_laws.proofs.Tied.{Inner, Tied, queue_ids}
 
 -- a session on a link that is up, with this queue
-pub running_on : (t : Inner) (link : LinkState) (qs : List Queued) → IsFit t.size t.bound (with_queue link qs) → HasSeats t.moved (in_front t.renewal) (with_queue link qs) t.size → IsRunning (on_link t (with_queue link qs))
-running_on t link qs fit seats = record { settled = refl; up = refl; fit = fit; seats = seats }
+pub running_on : (t : Inner) (link : LinkState) (qs : List Queued) → IsFit t.size t.bound (with_queue link qs) → HasSeats t.moved (in_front t.renewal) (with_queue link qs) t.size → is_outstanding t.again ≡ false → IsRunning (on_link t (with_queue link qs))
+running_on t link qs fit seats served = record { settled = refl; up = refl; served = served; fit = fit; seats = seats }
 
 -- the first message of the queue may start, where nothing holds it back
-start_may : (b : Book) (t : Inner) (link : LinkState) (q : Queued) (qs : List Queued) → IsFit t.size t.bound (with_queue link (q ∷ qs)) → HasSeats t.moved (in_front t.renewal) (with_queue link (q ∷ qs)) t.size → holds_back link ≡ false
+start_may : (b : Book) (t : Inner) (link : LinkState) (q : Queued) (qs : List Queued) → IsFit t.size t.bound (with_queue link (q ∷ qs)) → HasSeats t.moved (in_front t.renewal) (with_queue link (q ∷ qs)) t.size → holds_back link ≡ false → is_outstanding t.again ≡ false
     → Tied b (on_link t (with_queue link (q ∷ qs))) → NoneEnds b → HasRenewed t.renewal (Ready (with_queue link (q ∷ qs))) → MayStart b t.link link.started (name_at t.requests q.id) (need_of q.shape) (length q.packed)
-start_may b t link q qs fit seats free h ended renewed =
+start_may b t link q qs fit seats free served h ended renewed =
     let was = on_link t (with_queue link (q ∷ qs)) in
     let is = h.lines.queued.0 in
-    let running = running_on t link (q ∷ qs) fit seats in
+    let running = running_on t link (q ∷ qs) fit seats served in
     record {
       begun = begun_up b was h running (refl, refl) ended renewed;
       unstarted = queue_unstarted b was q.id h (inl refl);
@@ -67,10 +67,11 @@ start_going trace t link q qs fit seats free h =
     let n = name_at t.requests q.id in
     let try_message = message_of b t.link (owner.Try n 0) in
     going_more trace (start_action t link q) (after_start t link q qs) h.sound.stands
-    (refl, start_may b t link q qs fit seats free h.sound.tied h.ended h.renewed)
+    (refl, start_may b t link q qs fit seats free (h.served refl) h.sound.tied h.ended h.renewed)
     (start_tied b t link q qs h.sound.tied)
     (none_ends_mine b t.link (begins try_message) (begins_ends_none (b.link t.link) try_message h.sound.tied.life.1 refl h.sound.tied.setup.said (h.ended t.link)) h.ended)
     (λ x e due. absurd (not_both (holds_back link) free (h.renewed (with_queue link (q ∷ qs)) refl due).1))
+    (λ up. h.served refl)
 
 -- the acts of the starts of one call
 --

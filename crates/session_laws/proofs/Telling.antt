@@ -31,8 +31,8 @@ use Rattle.legal_trace.specs.Story.{Story, Try, bytes_of, last_of, shape}
 use Rattle.legal_trace.specs.Book.{Book, book, entered, if_mine, push_line, blank_book}
 use Rattle.legal_trace.specs.Owed.{owed, owed_to_message, owed_to_try, owed_waiting}
 use Rattle.legal_trace.specs.Legal.{AllStand, IsBefore, IsOpen, MayNotify, MayPushBy, MayStand}
-use Rattle.session_laws.proofs.Numbers.{IsIn, Rising, in_either, in_left, in_right, requests_in, request_of}
-use Rattle.session_laws.proofs.Tied.{Inner, Tied, has_ended, link_in, owner_of, queue_ids, Sound}
+use Rattle.session_laws.proofs.Numbers.{IsIn, Rising, in_either, in_left, in_right, requests_in, request_of, is_own, requests_behind, requests_first}
+use Rattle.session_laws.proofs.Tied.{Inner, Tied, has_ended, link_in, owner_of, queue_ids, Sound, own_owner}
 use Rattle.session_laws.proofs.Said.{ready_shown, sources_asked, readied}
 use Rattle.session_laws.proofs.Names.{length_with, name_with, open_within, with_then}
 use Rattle.session_laws.proofs.InLine.{IsInLine, awaited_in, kept_ids, kept_in, line_of, wanted_in}
@@ -41,14 +41,14 @@ use Rattle.session_laws.proofs.Ahead.{later_untried}
 use Rattle.session_laws.proofs.Answer.{answer_tied, owed_still, skip_tied}
 use Rattle.session_laws.proofs.Told.{current_is, lined, notice_action, notice_tied, retells}
 use Rattle.session_laws.proofs.Kept.{mine_noted}
-use Rattle.session_laws.proofs.Settle.{IsDue, Tells, book_of_more, first_may, leaves_all, leaves_on, Leaves, rest_in_line, seen, settled_holds, settled_leaves, sound_told, trace_of_acts, answered_renewal, answered_renewing, one_leaves, replied_each, shown_now}
-use Rattle.mux_conn.specs.Renewals.{is_done, renewal_id, renewing, replied}
+use Rattle.session_laws.proofs.Settle.{IsDue, Tells, book_of_more, first_may, leaves_all, leaves_on, Leaves, rest_in_line, seen, settled_holds, settled_leaves, sound_told, trace_of_acts, one_leaves, shown_now, answered_owns, own_each, own_one, own_settled, request_settled, AnswersNone, some_pending}
 use Rattle.driver_model.specs.declared.hearing.Notice.{Notice}
 use Rattle.driver_model.specs.declared.hearing.Notice.TheVariants as notice
 use Rattle.link_laws.proofs.Notices.{IsNoEnd}
 use Rattle.driver_model.specs.Hearing.{hears_something}
 use Rattle.mux_conn.specs.declared.act.LinkAct.{LinkAct}
 use Rattle.mux_conn.specs.declared.connection.MultiplexedConnection.{MultiplexedConnection}
+use Rattle.session_laws.proofs.Own.{acted_own, own_leaves}
 
 -- the first of what is behind so many
 --
@@ -158,6 +158,7 @@ same_push x y e = cc
 pub record IsTelling (before : List Action) (f : Core) (ledger : Ledger) (owes : ℕ → Option Outcome) (name : ℕ → ℕ) (was : ℕ → Bool) (w : Work) (untold : List Heard) (pending started : List ℕ) : Type 0 where
   pub holds : Tells before f w untold pending started
   pub line : IsInLine w.conn.requests (link_in w.conn.life) w.conn.admitted w.conn.waiting pending
+  pub quiet : AnswersNone w.conn pending
   pub told : ℕ
   pub ledger_is : (book (trace_of_acts before f w.acts)).link f.single.link ≡ retells ledger told ledger.parted
   pub owed_is : (n : ℕ) → owed (book (trace_of_acts before f w.acts)) n ≡ owes n
@@ -170,13 +171,13 @@ lt_test a b less = by_test (nat_lt a b) _ (λ t. t) (λ f. absurd (let no_less =
 
 -- whose message that of a number is, where requests have these names
 abbrev pub try_of : (ℕ → ℕ) → ℕ → Owner
-try_of name p = if p == renewal_id then owner.Auth else owner.Try (name p) 0
+try_of name p = if is_own p then own_owner p else owner.Try (name p) 0
 
 -- what stands so in the ledger does so now
 late_now : (l now : Ledger) (told : ℕ) (name : ℕ → ℕ) (requests : List Request) (push : Heard) (p : ℕ) → now ≡ retells l told l.parted → name_at requests p ≡ name p → IsLate l (try_of name) push p → IsLate now (owner_of requests) push p
 late_now l now told name requests push p is named d =
     subst (λ (x : Ledger). IsLate x (owner_of requests) push p) (sym is)
-    (record { number = d.number; of_shape = d.of_shape; stands = subst (λ n. StandsAs l.starts (if p == renewal_id then owner.Auth else owner.Try n 0) d.of_shape d.number) (sym named) d.stands; late = d.late })
+    (record { number = d.number; of_shape = d.of_shape; stands = subst (λ n. StandsAs l.starts (if is_own p then own_owner p else owner.Try n 0) d.of_shape d.number) (sym named) d.stands; late = d.late })
 
 -- a notice that came
 --
@@ -302,6 +303,7 @@ one_told before f ledger owes name was w n h rest pending started hears alive sa
             tame = k.holds.tied.notices.tame;
           }) k.holds.tied);
       line = k.line;
+      quiet = k.quiet;
       told = l.told + 1;
       ledger_is = next_is ∙ ap (λ (x : Ledger). retells x (l.told + 1) x.parted) k.ledger_is;
       owed_is = λ m. ap (λ (x : Book). owed x m) (notice_book before f w.acts n) ∙ notice_owed b f.single.link n m ∙ k.owed_is m;
@@ -330,7 +332,7 @@ answered_between before f ledger owes name was w h rest p o pending started hear
     open_one e =
         let a = act.Outcome (name_at w.conn.requests p) o in
         let owes_now = k.owed_is (name_at w.conn.requests p) ∙ ap owes (k.named p) ∙ due (k.opens p e) in
-        let place = subst (λ n. StandsAs ledger.starts (if p == renewal_id then owner.Auth else owner.Try n 0) early.of_shape early.number) (sym (k.named p)) early.stands in
+        let place = subst (λ n. StandsAs ledger.starts (if is_own p then own_owner p else owner.Try n 0) early.of_shape early.number) (sym (k.named p)) early.stands in
         let here = subst (λ (x : Ledger). StandsAs x.starts (owner_of w.conn.requests p) early.of_shape early.number) (sym k.ledger_is) place in
         let full = subst (λ (x : Ledger). is_full_by x h.after early.number ≡ true) (sym k.ledger_is) early.full in
         let n = next_of l.told l.notices h rest (k.holds.tied.notices.untold_is hears) in
@@ -338,8 +340,9 @@ answered_between before f ledger owes name was w h rest p o pending started hear
           holds = sound_told before f w.acts a (closed w.conn p) (h ∷ rest) false pending started k.holds.stands
               (inl (first_may b t p pending o k.holds.tied k.line e owes_now
               (λ heard push next. full_before b (record t { pending = p ∷ pending }) p early.number early.of_shape push k.holds.tied (open_within w.conn.requests p e) here (subst (λ (x : Heard). is_full_by l x.after early.number ≡ true) (same_push h push (sym n.next ∙ next)) full)) refl))
-              (answer_tied b t p pending o e owes_now k.line k.holds.tied);
+              (answer_tied b t p pending o e owes_now k.line (λ up goes. some_pending p pending (k.quiet up goes)) k.holds.tied);
           line = subst (λ m. Rising 0 (pending ++ line_of (link_in w.conn.life) w.conn.admitted w.conn.waiting) m) (sym (length_with w.conn.requests p progress.Closed 0)) (rest_in_line w.conn.requests (link_in w.conn.life) w.conn.admitted w.conn.waiting p pending k.line);
+          quiet = λ up goes. absurd (some_pending p pending (k.quiet up goes));
           told = k.told;
           ledger_is = ap (λ (x : Book). x.link f.single.link) (book_of_more before f w.acts a) ∙ k.ledger_is;
           owed_is = λ m. ap (λ (x : Book). owed x m) (book_of_more before f w.acts a) ∙ owed_still b (name_at w.conn.requests p) o m ∙ k.owed_is m;
@@ -351,6 +354,7 @@ answered_between before f ledger owes name was w h rest p o pending started hear
     shut_one e = record {
       holds = record { stands = k.holds.stands; tied = skip_tied b t p pending e k.holds.tied };
       line = rest_in_line w.conn.requests (link_in w.conn.life) w.conn.admitted w.conn.waiting p pending k.line;
+      quiet = λ up goes. absurd (some_pending p pending (k.quiet up goes));
       told = k.told;
       ledger_is = k.ledger_is;
       owed_is = k.owed_is;
@@ -360,24 +364,29 @@ answered_between before f ledger owes name was w h rest p o pending started hear
 
 -- where no notice is left the others are answered
 answered_last : (before : List Action) (f : Core) (ledger : Ledger) (owes : ℕ → Option Outcome) (name : ℕ → ℕ) (was : ℕ → Bool) (w : Work) (ss : List Settled) (started : List ℕ) → AllByRecursion (IsDue owes name was) ss
-    → IsTelling before f ledger owes name was (renewing w (replied_each w.conn.renewal ss)) [] (requests_in (settled_ids ss) ++ []) started → IsTelling before f ledger owes name was (settled_each w ss) [] [] started
+    → IsTelling before f ledger owes name was (own_each w ss) [] (requests_in (settled_ids ss) ++ []) started → IsTelling before f ledger owes name was (settled_each w ss) [] [] started
 answered_last before f ledger owes name was w ss started due k =
-    let now = (book (trace_of_acts before f w.acts)).link f.single.link in
-    let a = settled_holds before f now owes name was w ss [] started due (record { holds = k.holds; line = k.line; ledger_is = refl; owed_is = k.owed_is; named = k.named; opens = k.opens }) in
-    record { holds = a.holds; line = a.line; told = k.told; ledger_is = a.ledger_is ∙ k.ledger_is; owed_is = a.owed_is; named = a.named; opens = a.opens }
+    let now = (book (trace_of_acts before f (own_each w ss).acts)).link f.single.link in
+    let a = settled_holds before f now owes name was w ss [] started due (record { holds = k.holds; line = k.line; quiet = k.quiet; ledger_is = refl; owed_is = k.owed_is; named = k.named; opens = k.opens }) in
+    record { holds = a.holds; line = a.line; quiet = a.quiet; told = k.told; ledger_is = a.ledger_is ∙ k.ledger_is; owed_is = a.owed_is; named = a.named; opens = a.opens }
 
 -- one that was settled is answered between, where it is a request's
-settled_between : (before : List Action) (f : Core) (ledger : Ledger) (owes : ℕ → Option Outcome) (name : ℕ → ℕ) (was : ℕ → Bool) (w : Work) (h : Heard) (rest : List Heard) (s : Settled) (ss : List Settled) (started : List ℕ) (auth : Bool) → hears_something w.conn.hears ≡ true → IsDue owes name was s → IsOnTime ledger (try_of name) h s.id
-    → (let r = w.conn.renewal in let ids = requests_in (settled_ids ss) in IsTelling before f ledger owes name was (renewing w (replied_each (if auth then replied r (is_done s.verdict) else r) ss)) (h ∷ rest) ((if auth then ids else s.id ∷ ids) ++ []) started)
-    → (let v = if auth then renewing w (replied w.conn.renewal (is_done s.verdict)) else answered w s.id (outcome_of s.verdict) in IsTelling before f ledger owes name was (renewing v (replied_each v.conn.renewal ss)) (h ∷ rest) (requests_in (settled_ids ss) ++ []) started)
-settled_between before f ledger owes name was w h rest s ss started true hears due early k = k
-settled_between before f ledger owes name was w h rest s ss started false hears due early k =
+settled_between : (before : List Action) (f : Core) (ledger : Ledger) (owes : ℕ → Option Outcome) (name : ℕ → ℕ) (was : ℕ → Bool) (w : Work) (h : Heard) (rest : List Heard) (s : Settled) (ss : List Settled) (started : List ℕ) → hears_something w.conn.hears ≡ true → IsDue owes name was s → IsOnTime ledger (try_of name) h s.id
+    → IsTelling before f ledger owes name was (own_each w (s ∷ ss)) (h ∷ rest) (requests_in (settled_ids (s ∷ ss)) ++ []) started
+    → IsTelling before f ledger owes name was (own_each (settled_one w s) ss) (h ∷ rest) (requests_in (settled_ids ss) ++ []) started
+settled_between before f ledger owes name was w h rest s ss started hears due early k =
     let o = outcome_of s.verdict in
-    let come = replied_each w.conn.renewal ss in
-    let pending = requests_in (settled_ids ss) ++ [] in
-    let done = answered_between before f ledger owes name was (renewing w come) h rest s.id o pending started hears due early k in
-    subst (λ r. IsTelling before f ledger owes name was (renewing (answered w s.id o) (replied_each r ss)) (h ∷ rest) pending started) (sym (answered_renewal w s.id o))
-    (subst (λ (x : Work). IsTelling before f ledger owes name was x (h ∷ rest) pending started) (answered_renewing w s.id o come) done)
+    let ids = requests_in (settled_ids ss) in
+    by_test (is_own s.id) (telling_so (own_each (settled_one w s) ss) ids)
+    (λ t. subst (λ (x : Work). telling_so (own_each x ss) ids) (sym (own_settled w s t)) (subst (telling_so (own_each (own_one w s) ss)) (requests_behind s.id (settled_ids ss) t) k))
+    (λ f1.
+    let q = request_settled w s f1 in
+    let first = subst (λ (x : Work). telling_so (own_each x ss) (s.id ∷ ids)) q.1 (subst (telling_so (own_each (own_one w s) ss)) (requests_first s.id (settled_ids ss) f1) k) in
+    let done = answered_between before f ledger owes name was (own_each w ss) h rest s.id o (ids ++ []) started (ap hears_something (own_leaves w ss).hears ∙ hears) due early first in
+    subst (λ (x : Work). telling_so (own_each x ss) ids) (sym q.0) (subst (λ (x : Work). telling_so x ids) (sym (answered_owns w s.id o ss)) done))
+  where
+    telling_so : Work → List ℕ → Type 0
+    telling_so x ns = IsTelling before f ledger owes name was x (h ∷ rest) (ns ++ []) started
 
 -- a request's number among these
 of_requests : (q : ℕ) (ids : List ℕ) → IsIn q (requests_in ids ++ []) → IsIn q (ids ++ [])
@@ -414,7 +423,7 @@ apart_rest name l p ps h hs j (s ∷ ss) all = (
 
 -- a notice leaves the connection
 notice_leaves : (w : Work) (n : Notice) → Leaves w (noticed w n)
-notice_leaves w n = record { size = refl; boundary = refl; life = refl; waiting = refl; admitted = refl; fresh = refl; moved = refl; hears = refl }
+notice_leaves w n = record { size = refl; boundary = refl; life = refl; waiting = refl; admitted = refl; moved = refl; hears = refl; answered = λ e. e }
 
 -- what telling leaves
 pub told_leaves : (w : Work) (n : ℕ) (ps : List NoticeAt) (ss : List Settled) → Leaves w (told_each w n ps ss)
@@ -429,7 +438,7 @@ told_leaves w n (p ∷ ps) (s ∷ ss) =
 
 -- each notice is told in its place, and all else is answered
 pub told_holds : (before : List Action) (f : Core) (ledger : Ledger) (owes : ℕ → Option Outcome) (name : ℕ → ℕ) (was : ℕ → Bool) (w : Work) (n : ℕ) (ps : List NoticeAt) (hs : List Heard) (ss : List Settled) (started : List ℕ) → hears_something w.conn.hears ≡ true → has_ended w.conn.life ≡ false → SayTheSame ps hs
-    → AreApart (try_of name) ledger ps hs n ss → AllByRecursion (IsHeard ledger) hs → AllByRecursion (IsDue owes name was) ss → IsTelling before f ledger owes name was (renewing w (replied_each w.conn.renewal ss)) hs (requests_in (settled_ids ss) ++ []) started → IsTelling before f ledger owes name was (told_each w n ps ss) [] [] started
+    → AreApart (try_of name) ledger ps hs n ss → AllByRecursion (IsHeard ledger) hs → AllByRecursion (IsDue owes name was) ss → IsTelling before f ledger owes name was (own_each w ss) hs (requests_in (settled_ids ss) ++ []) started → IsTelling before f ledger owes name was (told_each w n ps ss) [] [] started
 told_holds before f ledger owes name was w n [] [] ss started hears alive same apart heard due k =
     subst (λ (x : Work). IsTelling before f ledger owes name was x [] [] started) (sym (none_told w n ss)) (answered_last before f ledger owes name was w ss started due k)
 told_holds before f ledger owes name was w n [] (h ∷ hs) ss started hears alive same apart heard due k = absurd same
@@ -439,26 +448,28 @@ told_holds before f ledger owes name was w n (p ∷ ps) (h ∷ hs) [] started he
 told_holds before f ledger owes name was w n (p ∷ ps) (h ∷ hs) (s ∷ ss) started hears alive same apart heard due k =
     let v = settled_one w s in
     let still = one_leaves w s in
-    let come = replied_each w.conn.renewal (s ∷ ss) in
+    let come = own_each w (s ∷ ss) in
+    let leaves = own_leaves w (s ∷ ss) in
     let ids = settled_ids (s ∷ ss) in
     chosen (λ (x : Work). IsTelling before f ledger owes name was x [] [] started) (nat_le p.settled n) (told_each (noticed w p.notice) n ps (s ∷ ss)) (told_each v (n + 1) (p ∷ ps) ss)
     (λ t.
     told_holds before f ledger owes name was (noticed w p.notice) n ps hs (s ∷ ss) started hears alive same.1 (apart_rest (try_of name) ledger p ps h hs n (s ∷ ss) apart) heard.1 due
-    (one_told before f ledger owes name was (renewing w come) p.notice h hs (requests_in ids ++ []) started hears alive same.0 heard.0 (λ q i. behind_in name ledger p ps h hs n n (s ∷ ss) (le_from p.settled n t) (omega arith) apart q (of_requests q ids i)) k))
+    (subst (λ (x : Work). IsTelling before f ledger owes name was x hs (requests_in ids ++ []) started) (sym (acted_own w (notice_act p.notice) (s ∷ ss)))
+    (one_told before f ledger owes name was come p.notice h hs (requests_in ids ++ []) started (ap hears_something leaves.hears ∙ hears) (ap has_ended leaves.life ∙ alive) same.0 heard.0 (λ q i. behind_in name ledger p ps h hs n n (s ∷ ss) (le_from p.settled n t) (omega arith) apart q (of_requests q ids i)) k)))
     (λ t.
     let late = not_le_from p.settled n t in
     let next : n + 1 ≡ suc n = omega arith in
     told_holds before f ledger owes name was v (n + 1) (p ∷ ps) (h ∷ hs) ss started (ap hears_something still.hears ∙ hears) (ap has_ended still.life ∙ alive) same (subst (λ m. AreApart (try_of name) ledger (p ∷ ps) (h ∷ hs) m ss) (sym next) apart.1) heard due.1
-    (settled_between before f ledger owes name was w h hs s ss started (s.id == renewal_id) hears due.0
+    (settled_between before f ledger owes name was w h hs s ss started hears due.0
     (record { number = apart.0.number; of_shape = apart.0.of_shape; stands = apart.0.stands; full = sym (apart.0.apart 0 p h refl refl) ∙ lt_test n p.settled late }) k))
 
 -- and where nobody hears any
 pub unheard_holds : (before : List Action) (f : Core) (ledger : Ledger) (owes : ℕ → Option Outcome) (name : ℕ → ℕ) (was : ℕ → Bool) (w : Work) (n : ℕ) (ss : List Settled) (started : List ℕ) → AllByRecursion (IsDue owes name was) ss
-    → IsTelling before f ledger owes name was (renewing w (replied_each w.conn.renewal ss)) [] (requests_in (settled_ids ss) ++ []) started → IsTelling before f ledger owes name was (told_each w n [] ss) [] [] started
+    → IsTelling before f ledger owes name was (own_each w ss) [] (requests_in (settled_ids ss) ++ []) started → IsTelling before f ledger owes name was (told_each w n [] ss) [] [] started
 unheard_holds before f ledger owes name was w n ss started due k =
     subst (λ (x : Work). IsTelling before f ledger owes name was x [] [] started) (sym (none_told w n ss)) (answered_last before f ledger owes name was w ss started due k)
 
 -- it begins
-pub telling : (before : List Action) (f : Core) (w : Work) (untold : List Heard) (pending started : List ℕ) → Tells before f w untold pending started → IsInLine w.conn.requests (link_in w.conn.life) w.conn.admitted w.conn.waiting pending
+pub telling : (before : List Action) (f : Core) (w : Work) (untold : List Heard) (pending started : List ℕ) → Tells before f w untold pending started → IsInLine w.conn.requests (link_in w.conn.life) w.conn.admitted w.conn.waiting pending → AnswersNone w.conn pending
     → (let b = book (trace_of_acts before f w.acts) in IsTelling before f (b.link f.single.link) (owed b) (name_at w.conn.requests) (is_open_at w.conn.requests) w untold pending started)
-telling before f w untold pending started h line = record { holds = h; line = line; told = ((book (trace_of_acts before f w.acts)).link f.single.link).told; ledger_is = refl; owed_is = λ n. refl; named = λ p. refl; opens = λ p o. o }
+telling before f w untold pending started h line quiet = record { holds = h; line = line; quiet = quiet; told = ((book (trace_of_acts before f w.acts)).link f.single.link).told; ledger_is = refl; owed_is = λ n. refl; named = λ p. refl; opens = λ p o. o }

@@ -32,7 +32,9 @@ use Rattle.mux_conn.specs.declared.life.Greeting.TheVariants as greet
 use Rattle.mux_conn.specs.declared.life.Life.{Life}
 use Rattle.mux_conn.specs.declared.life.Life.TheVariants.{Resting, Dialing, Wanting, SettingUp, Ready, Ended}
 use Rattle.mux_conn.specs.declared.renewal.Renewal.{Renewal}
-use Rattle.mux_conn.specs.Connection.{is_ready}
+use Rattle.mux_conn.specs.declared.again.Again.{Again}
+use Rattle.mux_conn.specs.declared.again.Again.TheVariants as again
+use Rattle.mux_conn.specs.Connection.{is_outstanding}
 use Rattle.mux_conn.specs.Renewals.{renewal_id}
 use Rattle.mux_conn.specs.declared.request.Pending.{Pending}
 use Rattle.mux_conn.specs.declared.request.Request.{Request}
@@ -48,8 +50,9 @@ use Rattle.legal_trace.specs.Managers.{is_lazy, settings_in}
 use Rattle.legal_trace.specs.Steps.{configured, queue_size, permits_in, permits_held, is_let_in}
 use Rattle.legal_trace.specs.Legal.{AllStand, IsTimed, answer_time, is_attempt, is_cause}
 use Rattle.legal_trace.specs.Owed.{owed_unstarted}
-use Rattle.session_laws.proofs.Numbers.{IsIn, Rising, requests_in}
+use Rattle.session_laws.proofs.Numbers.{IsIn, Rising, is_own, requests_in}
 use Rattle.driver_model.specs.News.{News, came}
+use Rattle.session_laws.proofs.Repeats.{TiedRepeat, serves}
 use Rattle.session_laws.proofs.Server.{owners_of, setup_owners, hearing_at, TiedCreds, NoneRenewed, TiedRenewal, TiedSetup}
 
 -- what counts of a session in the middle of a turn: its generations, where it comes back, how many turns it has begun, how many links it
@@ -58,11 +61,11 @@ use Rattle.session_laws.proofs.Server.{owners_of, setup_owners, hearing_at, Tied
 -- messages the queue of its connection's link holds, at how many unwritten bytes none starts, how many permits there are, if
 -- they are counted, and how many are free; what is heard beside replies, what of that which came is still to be told, and whether
 -- the end of the link is; what the session is; what is said to the server before the first request, what is said to that of
--- each new link, and its credentials that come of sources; its connection's life, whether no other attempt follows where its opening
+-- each new link, and its credentials that come of sources; what is subscribed again on the link; its connection's life, whether no other attempt follows where its opening
 -- fails, whether it was told that it is ready, or that its opening failed, and whether its link was set up; its requests,
 -- those that wait for the connection, those that wait for a place, those that came in this turn and those that were moved in it,
 -- whose waits aren't shown yet; whether rounds are shown; the one that is being let in; the requests that are settled and not answered yet; and the numbers
--- of the messages that started behind the setups, in order: a request's, or AUTH's
+-- of the messages that started behind the setups, in order: a request's, or the driver's own
 pub record Inner : Type 0 where
   pub manager : Option Generations
   pub turns : ℕ
@@ -84,6 +87,7 @@ pub record Inner : Type 0 where
   pub info : RedisConnectionInfo
   pub address : RedisConnectionInfo
   pub renewal : Renewal
+  pub again : Again
   pub life : Life
   pub last : Bool
   pub told : Bool
@@ -120,9 +124,13 @@ has_ended (SettingUp link greeting) = false
 has_ended (Ready link) = false
 has_ended (Ended e) = true
 
--- whose message that of a number is: a request's, or AUTH
+-- whose message that of a number of the driver's own is
+abbrev pub own_owner : ℕ → Owner
+own_owner p = if p == renewal_id then owner.Auth else owner.Resub
+
+-- whose message that of a number is: a request's, AUTH, or what is subscribed again
 abbrev pub owner_of : List Request → ℕ → Owner
-owner_of requests p = if p == renewal_id then owner.Auth else owner.Try (name_at requests p) 0
+owner_of requests p = if is_own p then own_owner p else owner.Try (name_at requests p) 0
 
 -- the link of a connection, also while it waits for credentials, and while it is set up
 abbrev pub whole_link : Life → LinkState
@@ -169,7 +177,7 @@ IsAim (purpose.Response owner.Resub) link count = ⊥
 IsAim (purpose.Response owner.Monitor) link count = ⊥
 IsAim (purpose.Renewal l k) link count = l ≤ link
 IsAim (purpose.Backoff g) link count = Unit {0}
-IsAim (purpose.Resubscription l) link count = ⊥
+IsAim (purpose.Resubscription l) link count = l ≤ link
 IsAim (purpose.Response (owner.Try n round)) link count = (n < count) × (round ≡ 0)
 
 -- all timers are
@@ -195,15 +203,12 @@ pub record IsConfigured (b : Book) (size bound : ℕ) (limit : Option ℕ) : Typ
   pub some : 0 < size
   pub limited : limit ≢ Some 0
 
--- where the server is put into monitor mode nothing is submitted, and no credentials come of sources
-pub record IsBare (table : List (Option Pending)) (r : Renewal) : Type 0 where
+-- where the server is put into monitor mode nothing is submitted, no credentials come of sources, and nothing is subscribed again
+pub record IsBare (table : List (Option Pending)) (r : Renewal) (a : Again) : Type 0 where
   pub none : table ≡ []
   pub unwanted : r.wanted ≡ false
   pub unrenewed : r.waiting ≡ []
-
--- nothing is subscribed again on any link: no session does so
-abbrev pub AreUnrepeated : (ℕ → Ledger) → Type 0
-AreUnrepeated ledgers = (l : ℕ) → (ledgers l).again.wanted ≡ false
+  pub unrepeated : is_outstanding a ≡ false
 
 -- a session that comes back so: nothing of its configuration is refused, which says how it does, where its links are asked for, and how
 -- long a connect may take; so many generations began, and so many attempts of the current one failed; and it is without a first one
@@ -241,7 +246,7 @@ IsHeeded rest failed life (Some g) = HasHeeded rest failed life g
 -- told; its connection's link is the one that submissions go to; all timers are for it, for one
 -- before it, for a submission, or for the wait behind a failed attempt, and one was asked for each bounded connect; where it waits for
 -- its first submission it was created; what doesn't come back opens its link once; what is told to its server is to be answered within the
--- configured time; no more numbers were given to submissions than there are; and nothing is subscribed again
+-- configured time; and no more numbers were given to submissions than there are
 pub record TiedNumbers (b : Book) (t : Inner) : Type 0 where
   pub turns : b.turns ≡ t.turns
   pub links : b.links ≡ t.links
@@ -254,10 +259,9 @@ pub record TiedNumbers (b : Book) (t : Inner) : Type 0 where
   pub shut : b.shut ≡ t.shut
   pub within : answer_time b.config ≡ t.renewal.within
   pub few : length t.table ≤ 2 ^ 32
-  pub unrepeated : AreUnrepeated b.link
   pub settings : IsConfigured b t.size t.bound t.limit
   pub kind_is : kind_in b.config ≡ t.kind
-  pub quiet : is_watching t.hears ≡ true → IsBare t.table t.renewal
+  pub quiet : is_watching t.hears ≡ true → IsBare t.table t.renewal t.again
   pub comes_back : TiedManager b.config b.generation b.attempt t.manager
   pub lazy : is_lazy b.config ≡ true → b.created ≢ 0
   pub current_is : b.current ≡ t.link
@@ -437,15 +441,15 @@ pub record IsOfRequest (requests : List Request) (e : Entry) : Type 0 where
   pub below : e.id < length requests
   pub placed_at : e.awaited ≡ true → is_placed_at requests e.id ≡ true
 
--- AUTH that takes its reply
-pub record IsOfRenewal (e : Entry) : Type 0 where
-  pub is : e.id ≡ renewal_id
+-- what the driver said itself, which takes its replies: AUTH, which is a single confirmation, or what is subscribed again
+pub record IsOfDriver (e : Entry) : Type 0 where
+  pub is : is_own e.id ≡ true
   pub awaited_is : e.awaited ≡ true
-  pub shape_is : e.shape ≡ Confirmation
+  pub shape_is : e.id ≡ renewal_id → e.shape ≡ Confirmation
 
 -- a started message that takes more items is one of these
 abbrev pub IsEntry : List Request → Entry → Type 0
-IsEntry requests e = IsOfRequest requests e ⊎ IsOfRenewal e
+IsEntry requests e = IsOfRequest requests e ⊎ IsOfDriver e
 
 -- one that waits is as its submission says, and is to be answered within its time
 pub record IsPacked (story : ℕ → Story) (requests : List Request) (w : Waiting) : Type 0 where
@@ -481,16 +485,17 @@ abbrev pub shown_wait : (ℕ → Story) → List Request → ℕ → Option Wait
 shown_wait story requests p = (story (name_at requests p)).waiting
 
 -- a request that waits for the connection, or for a permit, has shown nothing or one of these; the first while there is no link, the
--- second while the connect isn't answered, the third while credentials are to come, the fourth while the link is set up, and the fifth
--- while it is up, where its wait isn't to be shown yet; one that waits for a place, or has one in the queue, was moved in this turn and its wait isn't shown
+-- second while the connect isn't answered, the third while credentials are to come, the fourth while the link is set up, the fifth while
+-- what is subscribed again isn't answered there, and until then not the sixth; and that once it takes requests, where its wait isn't to be shown yet; one that waits for a place, or has one in the queue, was moved in this turn and its wait isn't shown
 -- yet, or has shown it; one that waits for a place has never shown that it waits for room
-pub record TiedWaits (story : ℕ → Story) (requests : List Request) (life : Life) (fresh moved : List ℕ) : Type 0 where
-  pub early : (p : ℕ) → is_waiting_at requests p ≡ true → (shown_wait story requests p ≡ None) ⊎ ((shown_wait story requests p ≡ Some wait.Backoff) ⊎ ((shown_wait story requests p ≡ Some wait.Connect) ⊎ ((shown_wait story requests p ≡ Some wait.Creds) ⊎ ((shown_wait story requests p ≡ Some wait.Setup) ⊎ (shown_wait story requests p ≡ Some wait.Permit)))))
+pub record TiedWaits (story : ℕ → Story) (requests : List Request) (a : Again) (life : Life) (fresh moved : List ℕ) : Type 0 where
+  pub early : (p : ℕ) → is_waiting_at requests p ≡ true → (shown_wait story requests p ≡ None) ⊎ ((shown_wait story requests p ≡ Some wait.Backoff) ⊎ ((shown_wait story requests p ≡ Some wait.Connect) ⊎ ((shown_wait story requests p ≡ Some wait.Creds) ⊎ ((shown_wait story requests p ≡ Some wait.Setup) ⊎ ((shown_wait story requests p ≡ Some wait.Resubscribe) ⊎ (shown_wait story requests p ≡ Some wait.Permit))))))
   pub backoff : (p : ℕ) → is_waiting_at requests p ≡ true → life ≡ Resting → IsIn p fresh ⊎ (shown_wait story requests p ≡ Some wait.Backoff)
   pub connect : (p : ℕ) → is_waiting_at requests p ≡ true → life ≡ Dialing → IsIn p fresh ⊎ (shown_wait story requests p ≡ Some wait.Connect)
   pub creds : (p : ℕ) (link : LinkState) → is_waiting_at requests p ≡ true → life ≡ Wanting link → IsIn p fresh ⊎ (shown_wait story requests p ≡ Some wait.Creds)
   pub setup : (p : ℕ) (link : LinkState) (greeting : Greeting) → is_waiting_at requests p ≡ true → life ≡ SettingUp link greeting → IsIn p fresh ⊎ (shown_wait story requests p ≡ Some wait.Setup)
-  pub permit : (p : ℕ) (link : LinkState) → is_waiting_at requests p ≡ true → life ≡ Ready link → IsIn p fresh ⊎ (shown_wait story requests p ≡ Some wait.Permit)
+  pub resubscribe : (p : ℕ) (link : LinkState) → is_waiting_at requests p ≡ true → life ≡ Ready link → is_outstanding a ≡ true → IsIn p fresh ⊎ (shown_wait story requests p ≡ Some wait.Resubscribe)
+  pub permit : (p : ℕ) (link : LinkState) → is_waiting_at requests p ≡ true → life ≡ Ready link → is_outstanding a ≡ false → IsIn p fresh ⊎ (shown_wait story requests p ≡ Some wait.Permit)
   pub place : (p : ℕ) → is_admitted_at requests p ≡ true → IsIn p moved ⊎ (shown_wait story requests p ≡ Some wait.Place)
   pub room : (p : ℕ) → IsIn p (awaited_ids (link_in life).queue) → IsIn p moved ⊎ (shown_wait story requests p ≡ Some wait.Room)
   pub newer : Rising 0 fresh (length requests)
@@ -499,7 +504,9 @@ pub record TiedWaits (story : ℕ → Story) (requests : List Request) (life : L
   pub no_connect : (p : ℕ) → IsIn p fresh → is_waiting_at requests p ≡ true → life ≡ Dialing → shown_wait story requests p ≢ Some wait.Connect
   pub no_creds : (p : ℕ) (link : LinkState) → IsIn p fresh → is_waiting_at requests p ≡ true → life ≡ Wanting link → shown_wait story requests p ≢ Some wait.Creds
   pub no_setup : (p : ℕ) (link : LinkState) (greeting : Greeting) → IsIn p fresh → is_waiting_at requests p ≡ true → life ≡ SettingUp link greeting → shown_wait story requests p ≢ Some wait.Setup
-  pub no_permit : (p : ℕ) (link : LinkState) → IsIn p fresh → is_waiting_at requests p ≡ true → life ≡ Ready link → shown_wait story requests p ≢ Some wait.Permit
+  pub no_resubscribe : (p : ℕ) (link : LinkState) → IsIn p fresh → is_waiting_at requests p ≡ true → life ≡ Ready link → is_outstanding a ≡ true → shown_wait story requests p ≢ Some wait.Resubscribe
+  pub unpermitted : (p : ℕ) (link : LinkState) → is_waiting_at requests p ≡ true → life ≡ Ready link → is_outstanding a ≡ true → shown_wait story requests p ≢ Some wait.Permit
+  pub no_permit : (p : ℕ) (link : LinkState) → IsIn p fresh → is_waiting_at requests p ≡ true → life ≡ Ready link → is_outstanding a ≡ false → shown_wait story requests p ≢ Some wait.Permit
   pub no_place : (p : ℕ) → IsIn p moved → is_admitted_at requests p ≡ true → shown_wait story requests p ≢ Some wait.Place
   pub seatless : (p : ℕ) → is_admitted_at requests p ≡ true → shown_wait story requests p ≢ Some wait.Room
   pub no_room : (p : ℕ) → IsIn p moved → IsIn p (awaited_ids (link_in life).queue) → shown_wait story requests p ≢ Some wait.Room
@@ -513,16 +520,21 @@ pub record TiedPermits (story : ℕ → Story) (submissions : ℕ) (requests : L
   pub let_in : (p : ℕ) → (is_admitted_at requests p ≡ true) ⊎ (is_placed_at requests p ≡ true) → is_let_in limit (story (name_at requests p)) ≡ true
 
 -- rounds are shown where the session has generations. Of who waits and whose round has not begun none was shown, and of any other
--- request that is open it was, where they are shown; and then, where the link is up and set up, who waits so came in this turn
+-- request that is open it was, where they are shown; and then, where the link takes requests, who waits so came in this turn
 pub record TiedRounds (comes : Bool) (story : ℕ → Story) (requests : List Request) (ready : Bool) (fresh : List ℕ) (rounds : Bool) : Type 0 where
   pub rounds_is : comes ≡ rounds
   pub unbegun : (p : ℕ) → is_unbegun_at requests p ≡ true → (story (name_at requests p)).rounded ≡ false
   pub begun : (p : ℕ) → rounds ≡ true → is_open_at requests p ≡ true → is_unbegun_at requests p ≡ false → (story (name_at requests p)).rounded ≡ true
   pub new : (p : ℕ) → rounds ≡ true → ready ≡ true → is_unbegun_at requests p ≡ true → IsIn p fresh
 
--- until the link is up and set up, the round of no open request has begun
-abbrev pub AreEarly : List Request → Life → Type 0
-AreEarly requests life = is_ready life ≡ false → has_ended life ≡ false → (p : ℕ) → is_open_at requests p ≡ true → is_unbegun_at requests p ≡ true
+-- the round of no open request has begun, and no message is in the queue
+pub record NoneHasBegun (requests : List Request) (life : Life) : Type 0 where
+  pub unbegun : (p : ℕ) → is_open_at requests p ≡ true → is_unbegun_at requests p ≡ true
+  pub empty : (link_in life).queue ≡ []
+
+-- so it is until the link takes requests
+abbrev pub AreEarly : List Request → Again → Life → Type 0
+AreEarly requests a life = serves life a ≡ false → has_ended life ≡ false → NoneHasBegun requests life
 
 -- an open submission whose time is over is to be answered
 abbrev pub AreLate : (ℕ → Story) → List Request → List ℕ → Type 0
@@ -540,6 +552,7 @@ pub record Tied (b : Book) (t : Inner) : Type 0 where
   pub creds : TiedCreds (b.link t.link).creds t.renewal.wanted t.life
   pub uses : AreUses t.sources t.link (b.link t.link).creds.asked (b.link t.link).creds.renews
   pub renewal : TiedRenewal (b.link t.link) t.renewal t.life
+  pub repeat : TiedRepeat (b.link t.link) b.tracked t.renewal.within t.again t.life
   pub setup : TiedSetup (b.link t.link) t.info t.started t.life
   pub link : has_ended t.life ≡ false → TiedLink (carried t.life t.requests) (b.link t.link) (whole_link t.life)
   pub names : TiedNames t.table t.requests
@@ -547,10 +560,10 @@ pub record Tied (b : Book) (t : Inner) : Type 0 where
   pub tries : TiedTries (b.link t.link) b.story t.requests t.link t.started
   pub lines : TiedLines b.story t.requests (link_in t.life) t.waiting t.admitted t.pending t.started
   pub told : has_ended t.life ≡ false → AreQueued b.story t.requests t.link (link_in t.life)
-  pub waits : TiedWaits b.story t.requests t.life t.fresh t.moved
+  pub waits : TiedWaits b.story t.requests t.again t.life t.fresh t.moved
   pub permits : TiedPermits b.story b.submissions t.requests t.link t.limit t.free t.letting
-  pub rounds : TiedRounds (has_generations b) b.story t.requests (is_ready t.life) t.fresh t.rounds
-  pub early : AreEarly t.requests t.life
+  pub rounds : TiedRounds (has_generations b) b.story t.requests (serves t.life t.again) t.fresh t.rounds
+  pub early : AreEarly t.requests t.again t.life
   pub late : AreLate b.story t.requests t.pending
 
 -- the opening of the connection's link has failed in the turn that runs, and another attempt follows: the connection has no link any more
@@ -573,6 +586,7 @@ pub record IsRetiring (b : Book) (t : Inner) : Type 0 where
   pub creation : TiedCreation b.created t.told
   pub uses : AreUses t.sources t.link (b.link t.link).creds.asked (b.link t.link).creds.renews
   pub renewal : NoneRenewed blank_ledger t.renewal
+  pub repeat : t.again ≡ again.Nothing
   pub names : TiedNames t.table t.requests
   pub story : (n : ℕ) → TiedStory (b.story n) t.requests t.link (slice_get t.table n)
   pub untried : (p : ℕ) (r : Request) → slice_get t.requests p ≡ Some r → (b.story r.name).link ≡ t.link → (b.story r.name).tries ≡ []
@@ -621,6 +635,7 @@ inner c started = record {
   info = c.single.connection.info;
   address = c.single.connection.address;
   renewal = c.single.connection.renewal;
+  again = c.single.connection.again;
   life = c.single.connection.life;
   last = c.single.connection.last;
   told = c.single.connection.told;
@@ -637,9 +652,9 @@ inner c started = record {
 }
 
 -- the numbers, where only links, stories, what is subscribed, errors and the connection change
-pub numbers_kept : (b : Book) (link : ℕ → Ledger) (story : ℕ → Story) (tracked : List Call) (errors : List RedisError) (t : Inner) (life : Life) (free : ℕ) (requests : List Request) (waiting admitted : List Waiting) (fresh moved letting pending started : List ℕ) → AreUnrepeated link → TiedNumbers b t
+pub numbers_kept : (b : Book) (link : ℕ → Ledger) (story : ℕ → Story) (tracked : List Call) (errors : List RedisError) (t : Inner) (life : Life) (free : ℕ) (requests : List Request) (waiting admitted : List Waiting) (fresh moved letting pending started : List ℕ) → TiedNumbers b t
     → TiedNumbers (record b { link = link; story = story; tracked = tracked; errors = errors }) (record t { life = life; free = free; requests = requests; waiting = waiting; admitted = admitted; fresh = fresh; moved = moved; letting = letting; pending = pending; started = started })
-numbers_kept b link story tracked errors t life free requests waiting admitted fresh moved letting pending started unrepeated h = record {
+numbers_kept b link story tracked errors t life free requests waiting admitted fresh moved letting pending started h = record {
   turns = h.turns;
   links = h.links;
   timers = h.timers;
@@ -651,7 +666,6 @@ numbers_kept b link story tracked errors t life free requests waiting admitted f
   shut = h.shut;
   within = h.within;
   few = h.few;
-  unrepeated = unrepeated;
   settings = record { size_is = h.settings.size_is; bound_is = h.settings.bound_is; limit_is = h.settings.limit_is; some = h.settings.some; limited = h.settings.limited };
   kind_is = h.kind_is;
   quiet = h.quiet;
@@ -668,11 +682,11 @@ numbers_kept b link story tracked errors t life free requests waiting admitted f
 -- and those that are to be answered: the session stays tied where its lines and its waits are, and who is late is to be
 -- answered
 pub relined : (b : Book) (t : Inner) (waiting admitted : List Waiting) (fresh moved pending : List ℕ) → Tied b t
-    → TiedLines b.story t.requests (link_in t.life) waiting admitted pending t.started → TiedWaits b.story t.requests t.life fresh moved
-    → TiedRounds (has_generations b) b.story t.requests (is_ready t.life) fresh t.rounds → AreLate b.story t.requests pending
+    → TiedLines b.story t.requests (link_in t.life) waiting admitted pending t.started → TiedWaits b.story t.requests t.again t.life fresh moved
+    → TiedRounds (has_generations b) b.story t.requests (serves t.life t.again) fresh t.rounds → AreLate b.story t.requests pending
     → Tied b (record t { waiting = waiting; admitted = admitted; fresh = fresh; moved = moved; pending = pending })
 relined b t waiting admitted fresh moved pending h lines waits rounds late = record {
-  numbers = numbers_kept b b.link b.story b.tracked b.errors t t.life t.free t.requests waiting admitted fresh moved t.letting pending t.started h.numbers.unrepeated h.numbers;
+  numbers = numbers_kept b b.link b.story b.tracked b.errors t t.life t.free t.requests waiting admitted fresh moved t.letting pending t.started h.numbers;
   others = h.others;
   notices = h.notices;
   life = h.life;
@@ -682,6 +696,7 @@ relined b t waiting admitted fresh moved pending h lines waits rounds late = rec
   creation = h.creation;
   uses = h.uses;
   renewal = h.renewal;
+  repeat = h.repeat;
   setup = h.setup;
   link = h.link;
   names = h.names;

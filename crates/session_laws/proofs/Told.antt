@@ -15,7 +15,6 @@ use Rattle.legal_trace.specs.Book.{Book, entered, push_line, hearing_in, if_mine
 use Rattle.session_laws.proofs.Kept.{mine_noted, others_kept, tied_by}
 use Rattle.session_laws.proofs.Server.{hearing_at}
 use Rattle.session_laws.proofs.Tied.{Inner, Tied, TiedLife, TiedNotices, carried, whole_link, is_reading}
-use Rattle.session_laws.proofs.Unrepeated.{unrepeated_lined}
 use Rattle.session_laws.proofs.Renewals.{renewal_alike}
 use Rattle.session_laws.proofs.SameSaid.{SameSaid, said_alike, set_alike}
 use Rattle.driver_model.specs.declared.hearing.Notice.{Notice}
@@ -24,6 +23,7 @@ use Rattle.driver_model.specs.declared.action.Action.{Action}
 use Rattle.driver_model.specs.Push.{is_disconnection}
 use Rattle.containers.proofs.Choices.{left_if}
 use Rattle.link_laws.proofs.Notices.{IsNoEnd}
+use Rattle.session_laws.proofs.Repeats.{repeat_alike}
 
 -- a ledger of which so many notices were told, and its end or not
 abbrev pub retells : Ledger → ℕ → Bool → Ledger
@@ -75,7 +75,7 @@ pub line_tied : (b : Book) (t : Inner) (line : Line) (told : ℕ) (parted : Bool
 line_tied b t line told parted untold parting is pushed h =
     let l = b.link t.link in
     tied_by (lined b t.link line) (record t { untold = untold; parting = parting }) (retells l told parted) (mine_noted l t.link line ∙ is) (record {
-      numbers = record { turns = h.numbers.turns; links = h.numbers.links; submissions = h.numbers.submissions; timers = h.numbers.timers; sources = h.numbers.sources; aims = h.numbers.aims; timed = h.numbers.timed; timeout = h.numbers.timeout; shut = h.numbers.shut; within = h.numbers.within; few = h.numbers.few; unrepeated = unrepeated_lined b.link t.link line (ap (λ (x : Ledger). x.again.wanted) is) h.numbers.unrepeated; settings = record { size_is = h.numbers.settings.size_is; bound_is = h.numbers.settings.bound_is; limit_is = h.numbers.settings.limit_is; some = h.numbers.settings.some; limited = h.numbers.settings.limited }; kind_is = h.numbers.kind_is; quiet = h.numbers.quiet; comes_back = h.numbers.comes_back; lazy = h.numbers.lazy; current_is = h.numbers.current_is; speaks = h.numbers.speaks; address_is = h.numbers.address_is; wants = h.numbers.wants; alone = h.numbers.alone };
+      numbers = record { turns = h.numbers.turns; links = h.numbers.links; submissions = h.numbers.submissions; timers = h.numbers.timers; sources = h.numbers.sources; aims = h.numbers.aims; timed = h.numbers.timed; timeout = h.numbers.timeout; shut = h.numbers.shut; within = h.numbers.within; few = h.numbers.few; settings = record { size_is = h.numbers.settings.size_is; bound_is = h.numbers.settings.bound_is; limit_is = h.numbers.settings.limit_is; some = h.numbers.settings.some; limited = h.numbers.settings.limited }; kind_is = h.numbers.kind_is; quiet = h.numbers.quiet; comes_back = h.numbers.comes_back; lazy = h.numbers.lazy; current_is = h.numbers.current_is; speaks = h.numbers.speaks; address_is = h.numbers.address_is; wants = h.numbers.wants; alone = h.numbers.alone };
       others = others_kept b t.link line h.others;
       notices = pushed;
       life = life_told l told parted b.created t.life h.life;
@@ -85,6 +85,7 @@ line_tied b t line told parted untold parting is pushed h =
       creation = h.creation;
       uses = h.uses;
       renewal = renewal_alike l (retells l told parted) t.renewal t.life refl refl refl h.renewal;
+      repeat = repeat_alike l (retells l told parted) b.tracked t.renewal.within t.again t.life refl refl refl (λ e is. refl) h.repeat;
       setup = record { info_is = h.setup.info_is; sent = h.setup.sent; said = said_alike l (retells l told parted) t.started t.life (same_told l told parted) h.setup.said };
       link = λ up. link_told (carried t.life t.requests) l told parted (whole_link t.life) (h.link up);
       names = h.names;

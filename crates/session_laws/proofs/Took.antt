@@ -1,5 +1,5 @@
 -- Offered bytes were taken.
-use Rattle.std.proofs.Common.{◌≡◌, ℕ, ◌≤◌, Bool, false, List, [], ◌∷◌, ◌++◌, None, ap, refl, subst, sym, take, ◌∙◌, inl}
+use Rattle.std.proofs.Common.{◌≡◌, ℕ, ◌≤◌, Bool, false, List, [], ◌∷◌, ◌++◌, None, ap, refl, subst, take, ◌∙◌, inl}
 use Rattle.containers.proofs.Choices.{chosen}
 use Rattle.driver_model.specs.declared.action.Action.{Action}
 use Rattle.driver_model.specs.declared.action.Owner.TheVariants as owner
@@ -20,16 +20,20 @@ use Rattle.legal_trace.specs.Ledger.{Ledger, hears, noted, ending}
 use Rattle.legal_trace.specs.Story.{Story}
 use Rattle.legal_trace.specs.Book.{book, has_generations, hearing_in}
 use Rattle.mux_conn.specs.declared.renewal.Renewal.{Renewal}
-use Rattle.session_laws.proofs.Rounded.{rounds_down}
+use Rattle.session_laws.proofs.Rounded.{rounds_down, early_on}
 use Rattle.session_laws.proofs.Renewals.{renewal_alike}
 use Rattle.session_laws.proofs.Numbers.{IsIn}
 use Rattle.session_laws.proofs.Server.{TiedSetup, TiedCreds, TiedRenewal}
 use Rattle.session_laws.proofs.Tied.{carried, link_in, owner_of, whole_link, TiedLife, TiedLines, AreQueued, TiedWaits, has_ended, greeter, TiedRounds, AreEarly, HasCourse}
 use Rattle.session_laws.proofs.States.{IsFit, Between, HasApplied}
 use Rattle.session_laws.proofs.Announce.{turn_of, turned, IsNewsKind, asked_hear}
-use Rattle.session_laws.proofs.Heard.{quiet_applied, ended_quiet, dialing_quiet, setting_waits, still_none, pushes_still, wanting_waits, resting_quiet, hushed_there, heard_by}
+use Rattle.session_laws.proofs.Heard.{quiet_applied, ended_quiet, dialing_quiet, setting_waits, still_none, pushes_still, wanting_waits, resting_quiet, hushed_there, heard_by, repeat_still}
 use Rattle.session_laws.proofs.Said.{mild_end, setup_hears, setup_link, setup_ready, wanting_link, pushes_there}
 use Rattle.mux_conn.specs.Connection.{is_ready, is_resting}
+use Rattle.session_laws.proofs.Repeats.{serves, TiedRepeat}
+use Rattle.session_laws.proofs.Serving.{unready_serves}
+use Rattle.mux_conn.specs.declared.again.Again.{Again}
+use Rattle.session_laws.proofs.Held.{held_hears}
 
 -- it need not end
 took_no_end : (l : Ledger) (turn count : ℕ) → ending l ≡ None → ending (noted l (hears turn (took count))) ≡ None
@@ -69,15 +73,16 @@ wrote_lines : (story : ℕ → Story) (requests : List Request) (link : LinkStat
 wrote_lines story requests link count waiting admitted pending started h = record { line = h.line; queued = h.queued; entries = h.entries; packs = h.packs; packed_in = h.packed_in; there = h.there }
 
 -- and so do the waits, on a link with the same queue
-pub queue_waits : (story : ℕ → Story) (requests : List Request) (link after : LinkState) (fresh moved : List ℕ) → ((p : ℕ) → IsIn p (awaited_ids after.queue) → IsIn p (awaited_ids link.queue)) → TiedWaits story requests (Ready link) fresh moved
-    → TiedWaits story requests (Ready after) fresh moved
-queue_waits story requests link after fresh moved same h = record {
+pub queue_waits : (story : ℕ → Story) (requests : List Request) (a : Again) (link after : LinkState) (fresh moved : List ℕ) → ((p : ℕ) → IsIn p (awaited_ids after.queue) → IsIn p (awaited_ids link.queue)) → TiedWaits story requests a (Ready link) fresh moved
+    → TiedWaits story requests a (Ready after) fresh moved
+queue_waits story requests a link after fresh moved same h = record {
   early = h.early;
   backoff = λ p w d. cc;
   connect = λ p w d. cc;
   creds = λ p x w d. cc;
   setup = λ p x u w d. cc;
-  permit = λ p x w r. h.permit p link w refl;
+  resubscribe = λ p x w r goes. h.resubscribe p link w refl goes;
+  permit = λ p x w r none. h.permit p link w refl none;
   place = h.place;
   room = λ p i. h.room p (same p i);
   newer = h.newer;
@@ -86,7 +91,9 @@ queue_waits story requests link after fresh moved same h = record {
   no_connect = λ p i w d. cc;
   no_creds = λ p x i w d. cc;
   no_setup = λ p x u i w d. cc;
-  no_permit = λ p x i w r. h.no_permit p link i w refl;
+  no_resubscribe = λ p x i w r goes. h.no_resubscribe p link i w refl goes;
+  unpermitted = λ p x w r goes. h.unpermitted p link w refl goes;
+  no_permit = λ p x i w r none. h.no_permit p link i w refl none;
   no_place = h.no_place;
   seatless = h.seatless;
   no_room = λ p i r. h.no_room p i (same p r);
@@ -129,20 +136,21 @@ took_applied before c started word count kind h good k is can = by_life c.single
           course = (course.0, course.1, course.2, (asked_hear l c.turns (took count)).last ∙ course.3);
           creds = took_creds l conn.renewal.wanted c.turns count (Wanting (wrote_of link count)) (record { wanted_is = creds.wanted_is; sought = creds.sought });
           renewal_is = took_renewal l conn.renewal c.turns count (Wanting (wrote_of link count)) (subst (TiedRenewal l conn.renewal) e h.sound.tied.renewal);
+          repeat_is = held_hears b c started (took count) h.sound.tied (ap is_resting e) (ap is_ready e) (ap has_ended e);
           said = wanting_link (noted l (hears c.turns (took count))) conn.info started link (wrote_of link count) refl refl said;
           linked = λ n. wrote_tied (λ (p : ℕ). owner.Setup) l link c.turns count life.1 few tied;
           lines = subst (λ (x : Life). TiedLines b.story conn.requests (link_in x) conn.waiting conn.admitted [] started) e h.sound.tied.lines;
           told = λ n. subst (λ (x : Life). AreQueued b.story conn.requests c.single.link (link_in x)) e (h.sound.tied.told (ap has_ended e));
-          waits = wanting_waits b.story conn.requests link (wrote_of link count) conn.fresh conn.moved (subst (λ (x : Life). TiedWaits b.story conn.requests x conn.fresh conn.moved) e h.sound.tied.waits);
+          waits = wanting_waits b.story conn.requests conn.again link (wrote_of link count) conn.fresh conn.moved (subst (λ (x : Life). TiedWaits b.story conn.requests conn.again x conn.fresh conn.moved) e h.sound.tied.waits);
           rounds = rounds_down b.story conn.requests conn.fresh conn.fresh refl h.sound.tied.rounds;
-          early = subst (AreEarly conn.requests) e h.sound.tied.early;
+          early = early_on conn.requests conn.again conn.again conn.life (Wanting (wrote_of link count)) (unready_serves conn.life conn.again (ap is_ready e)) (ap has_ended e) refl h.sound.tied.early;
           notices = pushes_there conn.life (Wanting link) (hearing_in b.config) conn.hears (heard_by b c (took count)) e (pushes_still before c started (took count) h (inl tt));
         })
         (took_no_end l c.turns count (still_none before c started h c.single.link)) (record {
           wanting = wrote_fit_want conn.size conn.boundary link count (h.fit.wanting link e);
           setup = λ x u r. cc;
           link = λ x r. cc;
-          none = λ none. h.fit.none (λ x r. (let no : Wanting link ≡ Ready x = sym e ∙ r in cc));
+          none = λ down. h.fit.none (unready_serves conn.life conn.again (ap is_ready e));
         })
         (hushed_there c kind (took count) (Wanting (wrote_of link count)) is (λ z. cc) (ap is_resting e) (ap has_ended e) h.hushed)
     by_life (SettingUp link greeting) e =
@@ -161,20 +169,21 @@ took_applied before c started word count kind h good k is can = by_life c.single
           course = (course.0, course.1, course.2, (asked_hear l c.turns (took count)).last ∙ course.3);
           creds = took_creds l conn.renewal.wanted c.turns count (SettingUp (wrote_of link count) greeting) (record { wanted_is = creds.wanted_is; sought = creds.sought });
           renewal_is = took_renewal l conn.renewal c.turns count (SettingUp (wrote_of link count) greeting) (subst (TiedRenewal l conn.renewal) e h.sound.tied.renewal);
+          repeat_is = held_hears b c started (took count) h.sound.tied (ap is_resting e) (ap is_ready e) (ap has_ended e);
           said = setup_link (noted l (hears c.turns (took count))) conn.info started link (wrote_of link count) greeting refl refl said;
           linked = λ n. wrote_tied (λ (p : ℕ). greeter greeting) l link c.turns count life.1 few tied;
           lines = subst (λ (x : Life). TiedLines b.story conn.requests (link_in x) conn.waiting conn.admitted [] started) e h.sound.tied.lines;
           told = λ n. subst (λ (x : Life). AreQueued b.story conn.requests c.single.link (link_in x)) e (h.sound.tied.told (ap has_ended e));
-          waits = setting_waits b.story conn.requests link (wrote_of link count) greeting greeting conn.fresh conn.moved (subst (λ (x : Life). TiedWaits b.story conn.requests x conn.fresh conn.moved) e h.sound.tied.waits);
+          waits = setting_waits b.story conn.requests conn.again link (wrote_of link count) greeting greeting conn.fresh conn.moved (subst (λ (x : Life). TiedWaits b.story conn.requests conn.again x conn.fresh conn.moved) e h.sound.tied.waits);
           rounds = rounds_down b.story conn.requests conn.fresh conn.fresh refl h.sound.tied.rounds;
-          early = subst (AreEarly conn.requests) e h.sound.tied.early;
+          early = early_on conn.requests conn.again conn.again conn.life (SettingUp (wrote_of link count) greeting) (unready_serves conn.life conn.again (ap is_ready e)) (ap has_ended e) refl h.sound.tied.early;
           notices = pushes_there conn.life (SettingUp link greeting) (hearing_in b.config) conn.hears (heard_by b c (took count)) e (pushes_still before c started (took count) h (inl tt));
         })
         (took_no_end l c.turns count (still_none before c started h c.single.link)) (record {
           wanting = λ x r. cc;
           setup = wrote_fit_set conn.size conn.boundary link count greeting (h.fit.setup link greeting e);
           link = λ x r. cc;
-          none = λ none. h.fit.none (λ x r. (let no : SettingUp link greeting ≡ Ready x = sym e ∙ r in cc));
+          none = λ down. h.fit.none (unready_serves conn.life conn.again (ap is_ready e));
         })
         (hushed_there c kind (took count) (SettingUp (wrote_of link count) greeting) is (λ z. cc) (ap is_resting e) (ap has_ended e) h.hushed)
     by_life (Ready link) e =
@@ -193,19 +202,20 @@ took_applied before c started word count kind h good k is can = by_life c.single
           course = (course.0, course.1, course.2, (asked_hear l c.turns (took count)).last ∙ course.3);
           creds = took_creds l conn.renewal.wanted c.turns count (Ready (wrote_of link count)) (record { wanted_is = creds.wanted_is; sought = creds.sought });
           renewal_is = took_renewal l conn.renewal c.turns count (Ready (wrote_of link count)) (subst (TiedRenewal l conn.renewal) e h.sound.tied.renewal);
+          repeat_is = subst (TiedRepeat (heard_by b c (took count)) b.tracked conn.renewal.within conn.again) e (repeat_still b c started (took count) h.sound.tied (inl tt));
           said = setup_ready (noted l (hears c.turns (took count))) conn.info started link (wrote_of link count) said;
           linked = λ n. wrote_tied (owner_of conn.requests) l link c.turns count life.1 few tied;
           lines = wrote_lines b.story conn.requests link count conn.waiting conn.admitted [] started (subst (λ (x : Life). TiedLines b.story conn.requests (link_in x) conn.waiting conn.admitted [] started) e h.sound.tied.lines);
           told = λ n. subst (λ (x : Life). AreQueued b.story conn.requests c.single.link (link_in x)) e (h.sound.tied.told (ap has_ended e));
-          waits = queue_waits b.story conn.requests link (wrote_of link count) conn.fresh conn.moved (λ p i. i) (subst (λ (x : Life). TiedWaits b.story conn.requests x conn.fresh conn.moved) e h.sound.tied.waits);
-          rounds = subst (λ (x : Life). TiedRounds (has_generations b) b.story conn.requests (is_ready x) conn.fresh conn.rounds) e h.sound.tied.rounds;
-          early = λ up. cc;
+          waits = queue_waits b.story conn.requests conn.again link (wrote_of link count) conn.fresh conn.moved (λ p i. i) (subst (λ (x : Life). TiedWaits b.story conn.requests conn.again x conn.fresh conn.moved) e h.sound.tied.waits);
+          rounds = subst (λ (x : Life). TiedRounds (has_generations b) b.story conn.requests (serves x conn.again) conn.fresh conn.rounds) e h.sound.tied.rounds;
+          early = λ unserved alive. (let k = subst (AreEarly conn.requests conn.again) e h.sound.tied.early unserved alive in record { unbegun = k.unbegun; empty = k.empty });
           notices = pushes_there conn.life (Ready link) (hearing_in b.config) conn.hears (heard_by b c (took count)) e (pushes_still before c started (took count) h (inl tt));
         })
         (took_no_end l c.turns count (still_none before c started h c.single.link)) (record {
           wanting = λ x r. cc;
           setup = λ x u r. cc;
           link = wrote_fit conn.size conn.boundary link count (h.fit.link link e);
-          none = λ none. absurd (none (wrote_of link count) refl);
+          none = λ down. h.fit.none (ap (λ (x : Life). serves x conn.again) e ∙ down);
         })
         (hushed_there c kind (took count) (Ready (wrote_of link count)) is (λ z. cc) (ap is_resting e) (ap has_ended e) h.hushed)

@@ -18,7 +18,7 @@ use Rattle.shared_session.specs.declared.generations.Comeback.{Comeback}
 use Rattle.shared_session.specs.declared.generations.Comeback.TheVariants as comeback
 use Rattle.shared_session.specs.declared.generations.Generations.{Generations}
 use Rattle.shared_session.specs.Generations as machine
-use Rattle.shared_session.specs.Generations.{begun_with, came_back, comeback_of, comeback_shown, creation_fails, failed_behind, heeded, heeding, is_due, rests, wakes}
+use Rattle.shared_session.specs.Generations.{begun_with, came_back, comeback_shown, creation_fails, failed_behind, heeded, heeding, is_due, rests, wakes}
 use Rattle.shared_session.specs.Turn.{Turning, actions_of, come_back_behind, counted, effect, ended_apart, flushed_apart, is_bad, is_shutdown, next_turn, numbered, passed_by, shown_each, with_work, work_of}
 use Rattle.shared_session.proofs.Comebacks.{Suits, came_kept, suits_in}
 use Rattle.shared_session.proofs.Spent.{passed_same}
@@ -29,7 +29,7 @@ use Rattle.legal_trace.proofs.Plain.{same_some}
 use Rattle.session_laws.proofs.Announce.{turn_of}
 use Rattle.session_laws.proofs.Effects.{effect_holds}
 use Rattle.session_laws.proofs.First.{HasFirst, IsIdle, StaysIdle, effect_idle, first_opens}
-use Rattle.session_laws.proofs.Judge.{HasActed, acted_adds, has_acted, runs_on}
+use Rattle.session_laws.proofs.Judge.{HasActed, acted_adds, has_acted, runs_on, acted_informed}
 use Rattle.session_laws.proofs.Manage.{HasCome, HasHeard, NoneCame, rests_links, returned, woken_by}
 use Rattle.session_laws.proofs.Moved.{HasMoved, resting_passed}
 use Rattle.session_laws.proofs.Past.{is_founded}
@@ -239,7 +239,7 @@ module _ (before : List Action) (c : Core) (g : Generations) (e : Event) (is : c
       let acted = has_acted before c e.word e.kind u.acts stands in
       let back : ComesBack (book trace).config (book trace).generation (book trace).attempt q = subst (TiedManager (book trace).config (book trace).generation (book trace).attempt) heeds heard.numbers.comes_back in
       let some = retired_some r in
-      let all = return.rests_returned trace k q (backoff q.settings q.attempt e.word) stands heard shown heeds some (failed_is (book trace) acted) (ap (backoff q.settings q.attempt) (sym (ap word_of (acted_adds before c e.word e.kind (book trace) u.acts acted).running))) in
+      let all = return.rests_returned trace k q (backoff q.settings q.attempt e.word) stands heard shown heeds some (failed_is (book trace) acted) (acted_informed before c e.word e.kind (book trace) u.acts g acted is h.between.informed) (ap (backoff q.settings q.attempt) (sym (ap word_of (acted_adds before c e.word e.kind (book trace) u.acts acted).running))) in
       managed_between before c g e is made (λ none. r.began (ap (λ (x : Turning). x.core.turns) (sym same) ∙ sym (came_kept k (what_of c g e.kind u)).turns ∙ none))
       (subst (λ (what : Comeback). return.HasReturned (trace ++ comeback_shown q e.word what) (came_back k what)) (sym (retired_rests unused retiring)) all)
 

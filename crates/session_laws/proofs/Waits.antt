@@ -12,8 +12,7 @@ use Rattle.link_core.specs.declared.message.Entry.{Entry}
 use Rattle.link_core.specs.Link.{LinkState, first_in, holds_back, is_full_beside}
 use Rattle.link_core.specs.declared.message.Queued.{Queued}
 use Rattle.link_laws.specs.Settles.{awaited_ids, wanted}
-use Rattle.mux_conn.specs.Connection.{has_no_permit, is_ready, in_front}
-use Rattle.mux_conn.specs.Renewals.{renewal_id}
+use Rattle.mux_conn.specs.Connection.{has_no_permit, is_ready, in_front, is_outstanding}
 use Rattle.mux_conn.specs.Requests.{if_there, is_admitted, is_admitted_at, is_open_at, is_placed, is_placed_at, is_waiting, is_waiting_at, name_at, is_unbegun_at}
 use Rattle.mux_conn.specs.Turn.{is_from}
 use Rattle.mux_conn.specs.declared.life.Greeting.{Greeting}
@@ -27,17 +26,19 @@ use Rattle.legal_trace.specs.Legal.{IsWaiting, IsWritten, MayWait, WaitHolds}
 use Rattle.legal_trace.specs.Steps.{starts_or_waits}
 use Rattle.legal_trace.specs.Story.{Story, awaited_in, is_no_error, is_told, waits as waits_now}
 use Rattle.session_laws.proofs.Rounded.{SameRounds, rounds_new, rounds_same}
-use Rattle.session_laws.proofs.Ahead.{IsRunning, dialing_step, full_step, permit_step, queue_step, queue_within, running_of, setup_step, waiting_open, admitted_open, creds_step, HasSeats, resting_step}
+use Rattle.session_laws.proofs.Ahead.{IsRunning, dialing_step, full_step, permit_step, queue_step, queue_within, running_of, setup_step, waiting_open, admitted_open, creds_step, HasSeats, resting_step, repeat_step}
 use Rattle.session_laws.proofs.Closing.{one_of}
 use Rattle.session_laws.proofs.InLine.{awaited_in as in_queue, chosen_in, kept_ids, kept_in, row_ids, wanted_in}
 use Rattle.session_laws.proofs.Kept.{SameOutcomes, SameSubmissions, SameTimes, one_changed, packed_same, queued_same, tries_same}
 use Rattle.session_laws.proofs.Moves.{later_of, open_unstarted}
 use Rattle.session_laws.proofs.Names.{earlier_name, get_some, name_of_some, open_within, same_name, there_within, request_not}
-use Rattle.session_laws.proofs.Numbers.{IsIn, Rising, in_either, in_left, in_right, rising_apart, rising_from, rising_in, rising_right, requests_in, request_in, request_of}
+use Rattle.session_laws.proofs.Numbers.{IsIn, Rising, in_either, in_left, in_right, rising_apart, rising_from, rising_in, rising_right, requests_in, request_in, request_of, is_own}
 use Rattle.session_laws.proofs.Owes.{later_unstarted, none_open, open_request, request_story, row_in_line, open_on}
 use Rattle.session_laws.proofs.Permits.{IsHolding, permits_same}
 use Rattle.session_laws.proofs.States.{IsFit, AreBegun}
 use Rattle.session_laws.proofs.Tied.{AreQueued, Inner, IsEntry, IsKept, IsQueued, IsRequest, Tied, TiedWaits, has_ended, link_in, queue_ids, shown_wait, waiting_ids, numbers_kept}
+use Rattle.session_laws.proofs.Repeats.{serves}
+use Rattle.session_laws.proofs.Serving.{unready_serves, outstanding_serves, answered_serves}
 
 -- how far a request has come
 --
@@ -153,7 +154,7 @@ shown_other story requests p q kind other =
     ap (λ (s : Story). s.waiting) (left_if (name_at requests p == n) (waits_now (story n) kind) (story n) (ne_test (name_at requests p) n other))
 
 -- the session is tied to the book with one wait more, where its waits are
-pub wait_tied : (b : Book) (t : Inner) (p : ℕ) (kind : WaitKind) (moved fresh : List ℕ) → p < length t.requests → Tied b t → ((q : ℕ) → t.rounds ≡ true → is_ready t.life ≡ true → is_unbegun_at t.requests q ≡ true → IsIn q fresh) → TiedWaits (waits_at (name_at t.requests p) kind b.story) t.requests t.life fresh moved
+pub wait_tied : (b : Book) (t : Inner) (p : ℕ) (kind : WaitKind) (moved fresh : List ℕ) → p < length t.requests → Tied b t → ((q : ℕ) → t.rounds ≡ true → serves t.life t.again ≡ true → is_unbegun_at t.requests q ≡ true → IsIn q fresh) → TiedWaits (waits_at (name_at t.requests p) kind b.story) t.requests t.again t.life fresh moved
     → Tied (entered b (wait_action (name_at t.requests p) kind)) (with_unshown t moved fresh)
 wait_tied b t p kind moved fresh within h new waits =
     let n = name_at t.requests p in
@@ -161,7 +162,7 @@ wait_tied b t p kind moved fresh within h new waits =
     let same = waits_submissions n kind b.story in
     let answers = waits_outcomes n kind b.story in
     record {
-      numbers = numbers_kept b b.link after b.tracked b.errors t t.life t.free t.requests t.waiting t.admitted fresh moved t.letting t.pending t.started h.numbers.unrepeated h.numbers;
+      numbers = numbers_kept b b.link after b.tracked b.errors t t.life t.free t.requests t.waiting t.admitted fresh moved t.letting t.pending t.started h.numbers;
       others = h.others;
       notices = h.notices;
       life = h.life;
@@ -171,6 +172,7 @@ wait_tied b t p kind moved fresh within h new waits =
       creation = h.creation;
       uses = h.uses;
       renewal = h.renewal;
+      repeat = h.repeat;
       setup = h.setup;
       link = h.link;
       names = h.names;
@@ -198,13 +200,13 @@ pub record IsQuiet (t : Inner) : Type 0 where
   pub alone : t.letting ≡ []
   pub fit : (link : LinkState) → t.life ≡ Ready link → IsFit t.size t.bound link
   pub setup_fit : (link : LinkState) (greeting : Greeting) → t.life ≡ SettingUp link greeting → IsFit t.size t.bound link
-  pub none : ((link : LinkState) → t.life ≡ Ready link → ⊥) → t.admitted ≡ []
+  pub none : serves t.life t.again ≡ false → t.admitted ≡ []
   pub setup_held : (link : LinkState) (greeting : Greeting) → t.life ≡ SettingUp link greeting → (link.queue ≡ []) ⊎ (holds_back link ≡ true)
   pub held : (link : LinkState) → t.life ≡ Ready link → (link.queue ≡ []) ⊎ (holds_back link ≡ true)
   pub full : (link : LinkState) → t.life ≡ Ready link → (t.admitted ≡ []) ⊎ (is_full_beside link (in_front t.renewal) ≡ true)
   pub seats : HasSeats t.moved (in_front t.renewal) (link_in t.life) t.size
-  pub waiting : (link : LinkState) → t.life ≡ Ready link → (t.waiting ≡ []) ⊎ (has_no_permit t.limit t.free ≡ true)
-  pub begun : AreBegun t.rounds t.life t.requests
+  pub waiting : (link : LinkState) → t.life ≡ Ready link → is_outstanding t.again ≡ false → (t.waiting ≡ []) ⊎ (has_no_permit t.limit t.free ≡ true)
+  pub begun : AreBegun t.rounds t.again t.life t.requests
   pub gone : has_ended t.life ≡ true → t.waiting ≡ []
 
 -- where an open request is
@@ -254,12 +256,12 @@ untried_there b t p h none up o untried =
     ]
 
 -- a message of the row that is wanted has its place
-wanted_placed : (requests : List Request) (row : List Entry) (p : ℕ) → p ≢ renewal_id → AllByRecursion (IsEntry requests) row → IsIn p (wanted row) → is_placed_at requests p ≡ true
+wanted_placed : (requests : List Request) (row : List Entry) (p : ℕ) → is_own p ≡ false → AllByRecursion (IsEntry requests) row → IsIn p (wanted row) → is_placed_at requests p ≡ true
 wanted_placed requests [] p other all i = absurd i
 wanted_placed requests (e ∷ es) p other all i = elim (in_either p (if e.awaited then e.id ∷ [] else []) (wanted es) i) [
   | inl j ↦ elim all.0 [
     | inl r ↦ subst (λ n. is_placed_at requests n ≡ true) (chosen_in e.awaited p e.id j) (r.placed_at (own e.awaited j))
-    | inr a ↦ absurd (other (sym (chosen_in e.awaited p e.id j) ∙ a.is))
+    | inr a ↦ absurd (not_both (is_own p) other (ap is_own (sym (chosen_in e.awaited p e.id j)) ∙ a.is))
   ]
   | inr j ↦ wanted_placed requests es p other all.1 j
 ]
@@ -305,40 +307,36 @@ placed_there b t p h none up o placed from =
 
 -- which wait is true
 --
--- on a link that is up
-pub quiet_running : (t : Inner) (link : LinkState) → IsQuiet t → t.life ≡ Ready link → IsRunning t
-quiet_running t link q e = running_of t link q.settled e (q.fit link e) (subst (λ (x : LinkState). HasSeats t.moved (in_front t.renewal) x t.size) (ap link_in e) q.seats)
+-- on a link that takes requests
+pub quiet_running : (t : Inner) (link : LinkState) → IsQuiet t → t.life ≡ Ready link → is_outstanding t.again ≡ false → IsRunning t
+quiet_running t link q e served = running_of t link q.settled e served (q.fit link e) (subst (λ (x : LinkState). HasSeats t.moved (in_front t.renewal) x t.size) (ap link_in e) q.seats)
 
 -- a message of the queue waits for room
-pub room_holds : (b : Book) (t : Inner) (p : ℕ) (link : LinkState) → Tied b t → IsQuiet t → t.life ≡ Ready link → IsIn p (queue_ids (link_in t.life).queue) → WaitHolds b (name_at t.requests p) wait.Room
-room_holds b t p link h q e i =
+pub room_holds : (b : Book) (t : Inner) (p : ℕ) (link : LinkState) → Tied b t → IsQuiet t → t.life ≡ Ready link → is_outstanding t.again ≡ false → IsIn p (queue_ids (link_in t.life).queue) → WaitHolds b (name_at t.requests p) wait.Room
+room_holds b t p link h q e served i =
     let held : holds_back (link_in t.life) ≡ true = ap (λ (x : Life). holds_back (link_in x)) e ∙ elim (q.held link e) as (λ _. holds_back link ≡ true) [
       | inl none ↦ absurd (subst (λ qs. IsIn p (queue_ids qs)) none (subst (λ (x : Life). IsIn p (queue_ids (link_in x).queue)) e i))
       | inr on ↦ on
     ] in
-    queue_step b t p h (quiet_running t link q e) i ∙ ap starts_or_waits held
+    queue_step b t p h (quiet_running t link q e served) i ∙ ap starts_or_waits held
 
 -- who waits for a place waits for it
-pub place_holds : (b : Book) (t : Inner) (p : ℕ) (link : LinkState) → Tied b t → IsQuiet t → t.life ≡ Ready link → is_admitted_at t.requests p ≡ true → IsIn p (waiting_ids t.admitted) → WaitHolds b (name_at t.requests p) wait.Place
-place_holds b t p link h q e a i =
+pub place_holds : (b : Book) (t : Inner) (p : ℕ) (link : LinkState) → Tied b t → IsQuiet t → t.life ≡ Ready link → is_outstanding t.again ≡ false → is_admitted_at t.requests p ≡ true → IsIn p (waiting_ids t.admitted) → WaitHolds b (name_at t.requests p) wait.Place
+place_holds b t p link h q e served a i =
     let filled : is_full_beside (link_in t.life) (in_front t.renewal) ≡ true = ap (λ (x : Life). is_full_beside (link_in x) (in_front t.renewal)) e ∙ elim (q.full link e) as (λ _. is_full_beside link (in_front t.renewal) ≡ true) [
       | inl none ↦ absurd (subst (λ qs. IsIn p (waiting_ids qs)) none i)
       | inr on ↦ on
     ] in
-    full_step b t p h (quiet_running t link q e) filled a i
+    full_step b t p h (quiet_running t link q e served) filled a i
 
 -- who waits for a permit waits for it
-pub permit_holds : (b : Book) (t : Inner) (p : ℕ) (link : LinkState) → Tied b t → IsQuiet t → t.life ≡ Ready link → is_waiting_at t.requests p ≡ true → IsIn p (waiting_ids t.waiting) → WaitHolds b (name_at t.requests p) wait.Permit
-permit_holds b t p link h q e w i =
-    let stuck = elim (q.waiting link e) as (λ _. has_no_permit t.limit t.free ≡ true) [
+pub permit_holds : (b : Book) (t : Inner) (p : ℕ) (link : LinkState) → Tied b t → IsQuiet t → t.life ≡ Ready link → is_outstanding t.again ≡ false → is_waiting_at t.requests p ≡ true → IsIn p (waiting_ids t.waiting) → WaitHolds b (name_at t.requests p) wait.Permit
+permit_holds b t p link h q e served w i =
+    let stuck = elim (q.waiting link e served) as (λ _. has_no_permit t.limit t.free ≡ true) [
       | inl none ↦ absurd (subst (λ qs. IsIn p (waiting_ids qs)) none i)
       | inr on ↦ on
     ] in
-    permit_step b t p h (quiet_running t link q e) w (λ shows. q.begun shows (ap is_ready e) p) (λ j. subst (IsIn p) q.alone j) stuck
-
--- a life that is not ready
-not_ready : (life other : Life) (link : LinkState) → is_ready other ≡ false → life ≡ other → life ≡ Ready link → ⊥
-not_ready life other link f e r = not_both (is_ready other) f (ap is_ready (sym e ∙ r))
+    permit_step b t p h (quiet_running t link q e served) w (λ shows. q.begun shows (answered_serves t.life t.again (ap is_ready e) served) p) (λ j. subst (IsIn p) q.alone j) stuck
 
 -- who is in the queue, or has no place, waits as was shown, where this was shown
 pub waiting_is : (b : Book) (t : Inner) (p : ℕ) → Tied b t → IsQuiet t → is_open_at t.requests p ≡ true → IsPlacedOrKept t p → (IsIn p t.moved → ⊥) → (is_waiting_at t.requests p ≡ true → IsIn p t.fresh → ⊥) → IsWaiting b (name_at t.requests p)
@@ -357,39 +355,49 @@ waiting_is b t p h q o at unmoved old = by_life t.life refl
     by_life Resting e = elim at [
       | inl i ↦ absurd (subst (λ (x : Life). IsIn p (awaited_ids (link_in x).queue)) e i)
       | inr k ↦ elim k [
-        | inl a ↦ absurd (subst (λ ws. IsIn p (waiting_ids ws)) (q.none (λ link r. not_ready t.life Resting link refl e r)) a.1)
+        | inl a ↦ absurd (subst (λ ws. IsIn p (waiting_ids ws)) (q.none (unready_serves t.life t.again (ap is_ready e))) a.1)
         | inr w ↦ as_shown wait.Backoff (elim (h.waits.backoff p w.0 e) [ inl new ↦ absurd (old w.0 new) | inr s ↦ s ]) (resting_step b t p h e (open_on b t p h o))
       ]
     ]
     by_life Dialing e = elim at [
       | inl i ↦ absurd (subst (λ (x : Life). IsIn p (awaited_ids (link_in x).queue)) e i)
       | inr k ↦ elim k [
-        | inl a ↦ absurd (subst (λ ws. IsIn p (waiting_ids ws)) (q.none (λ link r. not_ready t.life Dialing link refl e r)) a.1)
+        | inl a ↦ absurd (subst (λ ws. IsIn p (waiting_ids ws)) (q.none (unready_serves t.life t.again (ap is_ready e))) a.1)
         | inr w ↦ as_shown wait.Connect (elim (h.waits.connect p w.0 e) [ inl new ↦ absurd (old w.0 new) | inr s ↦ s ]) (dialing_step b t p h e (open_on b t p h o))
       ]
     ]
     by_life (Wanting link) e = elim at [
       | inl i ↦ absurd (subst (λ (x : Life). IsIn p (awaited_ids (link_in x).queue)) e i)
       | inr k ↦ elim k [
-        | inl a ↦ absurd (subst (λ ws. IsIn p (waiting_ids ws)) (q.none (λ other r. not_ready t.life (Wanting link) other refl e r)) a.1)
+        | inl a ↦ absurd (subst (λ ws. IsIn p (waiting_ids ws)) (q.none (unready_serves t.life t.again (ap is_ready e))) a.1)
         | inr w ↦ as_shown wait.Creds (elim (h.waits.creds p link w.0 e) [ inl new ↦ absurd (old w.0 new) | inr s ↦ s ]) (creds_step b t p link h e (open_on b t p h o))
       ]
     ]
     by_life (SettingUp link greeting) e = elim at [
       | inl i ↦ absurd (subst (λ (x : Life). IsIn p (awaited_ids (link_in x).queue)) e i)
       | inr k ↦ elim k [
-        | inl a ↦ absurd (subst (λ ws. IsIn p (waiting_ids ws)) (q.none (λ other r. not_ready t.life (SettingUp link greeting) other refl e r)) a.1)
+        | inl a ↦ absurd (subst (λ ws. IsIn p (waiting_ids ws)) (q.none (unready_serves t.life t.again (ap is_ready e))) a.1)
         | inr w ↦ as_shown wait.Setup (elim (h.waits.setup p link greeting w.0 e) [ inl new ↦ absurd (old w.0 new) | inr s ↦ s ]) (setup_step b t p link greeting h e (open_on b t p h o))
       ]
     ]
-    by_life (Ready link) e = elim at [
-      | inl i ↦ as_shown wait.Room (elim (h.waits.room p i) [ inl m ↦ absurd (unmoved m) | inr s ↦ s ]) (room_holds b t p link h q e (in_queue p (link_in t.life).queue i))
-      | inr k ↦ elim k [
-        | inl a ↦ as_shown wait.Place (elim (h.waits.place p a.0) [ inl m ↦ absurd (unmoved m) | inr s ↦ s ]) (place_holds b t p link h q e a.0 a.1)
-        | inr w ↦ as_shown wait.Permit (elim (h.waits.permit p link w.0 e) [ inl new ↦ absurd (old w.0 new) | inr s ↦ s ]) (permit_holds b t p link h q e w.0 w.1)
-      ]
-    ]
-    by_life (Ended x) e = absurd (none_open b t (Ended x) n refl h q.settled e (λ i. kept_ids (q.none (λ link r. not_ready t.life (Ended x) link refl e r) i) (q.gone (ap has_ended e) i)) ((request_story b t p h within).open_is ∙ o))
+    by_life (Ready link) e = by_test (is_outstanding t.again) (IsWaiting b n)
+        (λ goes.
+        let down = outstanding_serves t.life t.again goes in
+        elim at [
+          | inl i ↦ absurd (subst (λ qs. IsIn p (awaited_ids qs)) (h.early down (ap has_ended e)).empty i)
+          | inr k ↦ elim k [
+            | inl a ↦ absurd (subst (λ ws. IsIn p (waiting_ids ws)) (q.none down) a.1)
+            | inr w ↦ as_shown wait.Resubscribe (elim (h.waits.resubscribe p link w.0 e goes) [ inl new ↦ absurd (old w.0 new) | inr s ↦ s ]) (repeat_step b t p link h e goes (open_on b t p h o))
+          ]
+        ])
+        (λ served. elim at [
+          | inl i ↦ as_shown wait.Room (elim (h.waits.room p i) [ inl m ↦ absurd (unmoved m) | inr s ↦ s ]) (room_holds b t p link h q e served (in_queue p (link_in t.life).queue i))
+          | inr k ↦ elim k [
+            | inl a ↦ as_shown wait.Place (elim (h.waits.place p a.0) [ inl m ↦ absurd (unmoved m) | inr s ↦ s ]) (place_holds b t p link h q e served a.0 a.1)
+            | inr w ↦ as_shown wait.Permit (elim (h.waits.permit p link w.0 e served) [ inl new ↦ absurd (old w.0 new) | inr s ↦ s ]) (permit_holds b t p link h q e served w.0 w.1)
+          ]
+        ])
+    by_life (Ended x) e = absurd (none_open b t (Ended x) n refl h q.settled e (λ i. kept_ids (q.none (unready_serves t.life t.again (ap is_ready e)) i) (q.gone (ap has_ended e) i)) ((request_story b t p h within).open_is ∙ o))
 
 -- a wait may be shown
 --
@@ -471,7 +479,7 @@ rest_rises : (p : ℕ) (ps : List ℕ) (hi : ℕ) → Rising 0 (p ∷ ps) hi →
 rest_rises p ps hi r = rising_from (suc p) 0 ps hi (omega arith) r.1
 
 -- the waits, with that of the first of those that were moved
-pub moved_waits : (b : Book) (t : Inner) (p : ℕ) (kind : WaitKind) (ps : List ℕ) → Tied b t → t.moved ≡ p ∷ ps → p < length t.requests → WaitsSo t p kind → TiedWaits (waits_at (name_at t.requests p) kind b.story) t.requests t.life t.fresh ps
+pub moved_waits : (b : Book) (t : Inner) (p : ℕ) (kind : WaitKind) (ps : List ℕ) → Tied b t → t.moved ≡ p ∷ ps → p < length t.requests → WaitsSo t p kind → TiedWaits (waits_at (name_at t.requests p) kind b.story) t.requests t.again t.life t.fresh ps
 moved_waits b t p kind ps h is l so =
     let requests = t.requests in
     let after = waits_at (name_at requests p) kind b.story in
@@ -487,7 +495,8 @@ moved_waits b t p kind ps h is l so =
       connect = λ q w d. elim (h.waits.connect q w d) [ inl i ↦ inl i | inr e ↦ inr (still q w ∙ e) ];
       creds = λ q link w r. elim (h.waits.creds q link w r) [ inl i ↦ inl i | inr e ↦ inr (still q w ∙ e) ];
       setup = λ q link u w r. elim (h.waits.setup q link u w r) [ inl i ↦ inl i | inr e ↦ inr (still q w ∙ e) ];
-      permit = λ q link w r. elim (h.waits.permit q link w r) [ inl i ↦ inl i | inr e ↦ inr (still q w ∙ e) ];
+      resubscribe = λ q link w r goes. elim (h.waits.resubscribe q link w r goes) [ inl i ↦ inl i | inr e ↦ inr (still q w ∙ e) ];
+      permit = λ q link w r served. elim (h.waits.permit q link w r served) [ inl i ↦ inl i | inr e ↦ inr (still q w ∙ e) ];
       place = λ q a. by_test (p == q) _
           (λ t1. inr (subst (λ m. shown_wait after requests m ≡ Some wait.Place) (eq_from p q t1) (shown_own b.story requests p kind ∙ ap Some (so.place (ap (is_admitted_at requests) (eq_from p q t1) ∙ a)))))
           (λ f.
@@ -510,7 +519,9 @@ moved_waits b t p kind ps h is l so =
       no_connect = λ q i w d e. h.waits.no_connect q i w d (sym (still q w) ∙ e);
       no_creds = λ q link i w r e. h.waits.no_creds q link i w r (sym (still q w) ∙ e);
       no_setup = λ q link u i w r e. h.waits.no_setup q link u i w r (sym (still q w) ∙ e);
-      no_permit = λ q link i w r e. h.waits.no_permit q link i w r (sym (still q w) ∙ e);
+      no_resubscribe = λ q link i w r goes e. h.waits.no_resubscribe q link i w r goes (sym (still q w) ∙ e);
+      unpermitted = λ q link w r goes e. h.waits.unpermitted q link w r goes (sym (still q w) ∙ e);
+      no_permit = λ q link i w r served e. h.waits.no_permit q link i w r served (sym (still q w) ∙ e);
       seatless = λ q a. by_test (p == q) _
           (λ t1 e. own_place (so.place (ap (is_admitted_at requests) (eq_from p q t1) ∙ a)) (subst (λ m. shown_wait after requests m ≡ Some wait.Room) (sym (eq_from p q t1)) e))
           (λ f e. h.waits.seatless q a (sym (shown_then b t p q kind h l (there_within is_admitted requests q a) (ne_from p q f)) ∙ e));
@@ -519,7 +530,7 @@ moved_waits b t p kind ps h is l so =
     }
 
 -- one of those that were moved waits no more
-pub passed_waits : (b : Book) (t : Inner) (p : ℕ) (ps : List ℕ) → Tied b t → t.moved ≡ p ∷ ps → is_admitted_at t.requests p ≡ false → (IsIn p (awaited_ids (link_in t.life).queue) → ⊥) → TiedWaits b.story t.requests t.life t.fresh ps
+pub passed_waits : (b : Book) (t : Inner) (p : ℕ) (ps : List ℕ) → Tied b t → t.moved ≡ p ∷ ps → is_admitted_at t.requests p ≡ false → (IsIn p (awaited_ids (link_in t.life).queue) → ⊥) → TiedWaits b.story t.requests t.again t.life t.fresh ps
 passed_waits b t p ps h is gone none =
     let line = subst (λ ns. Rising 0 ns (length t.requests)) is h.waits.rising in
     let back : (q : ℕ) → IsIn q ps → IsIn q t.moved = λ q i. subst (IsIn q) (sym is) (inr i) in
@@ -529,6 +540,7 @@ passed_waits b t p ps h is gone none =
       connect = h.waits.connect;
       creds = h.waits.creds;
       setup = h.waits.setup;
+      resubscribe = h.waits.resubscribe;
       permit = h.waits.permit;
       place = λ q a. elim (h.waits.place q a) [
         | inl i ↦ elim (subst (IsIn q) is i) [ inl same ↦ absurd (not_both (is_admitted_at t.requests q) (ap (is_admitted_at t.requests) (sym same) ∙ gone) a) | inr j ↦ inl j ]
@@ -544,31 +556,34 @@ passed_waits b t p ps h is gone none =
       no_connect = h.waits.no_connect;
       no_creds = h.waits.no_creds;
       no_setup = h.waits.no_setup;
+      no_resubscribe = h.waits.no_resubscribe;
+      unpermitted = h.waits.unpermitted;
       no_permit = h.waits.no_permit;
       seatless = h.waits.seatless;
       no_place = λ q i a. h.waits.no_place q (back q i) a;
       no_room = λ q i r. h.waits.no_room q (back q i) r;
     }
 
--- while the connect isn't answered, or the link is set up, nobody waits for a place
-pub down_admits : (b : Book) (t : Inner) (p : ℕ) (life : Life) → Tied b t → IsQuiet t → is_ready life ≡ false → t.life ≡ life → is_admitted_at t.requests p ≡ false
-down_admits b t p life h q down e = by_test (is_admitted_at t.requests p) _
-    (λ a. absurd (subst (λ ws. IsIn p (waiting_ids ws)) (q.none (λ link r. not_ready t.life life link down e r)) (admitted_there b t p h q.settled a)))
+-- until the link takes requests nobody waits for a place
+pub down_admits : (b : Book) (t : Inner) (p : ℕ) → Tied b t → IsQuiet t → serves t.life t.again ≡ false → is_admitted_at t.requests p ≡ false
+down_admits b t p h q down = by_test (is_admitted_at t.requests p) _
+    (λ a. absurd (subst (λ ws. IsIn p (waiting_ids ws)) (q.none down) (admitted_there b t p h q.settled a)))
     (λ f. f)
 
 -- the waits of those that came in this turn, or whose connect was answered in it
 --
--- one of them waits for the connect, for credentials, for the setup, or for a permit
+-- one of them waits for the next attempt, for the connect, for credentials, for the setup, for what is subscribed again, or for a permit
 pub record IsEarly (t : Inner) (kind : WaitKind) : Type 0 where
-  pub either : (kind ≡ wait.Backoff) ⊎ ((kind ≡ wait.Connect) ⊎ ((kind ≡ wait.Creds) ⊎ ((kind ≡ wait.Setup) ⊎ (kind ≡ wait.Permit))))
+  pub either : (kind ≡ wait.Backoff) ⊎ ((kind ≡ wait.Connect) ⊎ ((kind ≡ wait.Creds) ⊎ ((kind ≡ wait.Setup) ⊎ ((kind ≡ wait.Resubscribe) ⊎ (kind ≡ wait.Permit)))))
   pub backoff : t.life ≡ Resting → kind ≡ wait.Backoff
   pub connect : t.life ≡ Dialing → kind ≡ wait.Connect
   pub creds : (link : LinkState) → t.life ≡ Wanting link → kind ≡ wait.Creds
   pub setup : (link : LinkState) (greeting : Greeting) → t.life ≡ SettingUp link greeting → kind ≡ wait.Setup
-  pub permit : (link : LinkState) → t.life ≡ Ready link → kind ≡ wait.Permit
+  pub resubscribe : (link : LinkState) → t.life ≡ Ready link → is_outstanding t.again ≡ true → kind ≡ wait.Resubscribe
+  pub permit : (link : LinkState) → t.life ≡ Ready link → is_outstanding t.again ≡ false → kind ≡ wait.Permit
 
 -- with that of the first of them
-pub fresh_waits : (b : Book) (t : Inner) (p : ℕ) (kind : WaitKind) (ps : List ℕ) → Tied b t → t.fresh ≡ p ∷ ps → is_waiting_at t.requests p ≡ true → IsEarly t kind → TiedWaits (waits_at (name_at t.requests p) kind b.story) t.requests t.life ps t.moved
+pub fresh_waits : (b : Book) (t : Inner) (p : ℕ) (kind : WaitKind) (ps : List ℕ) → Tied b t → t.fresh ≡ p ∷ ps → is_waiting_at t.requests p ≡ true → IsEarly t kind → TiedWaits (waits_at (name_at t.requests p) kind b.story) t.requests t.again t.life ps t.moved
 fresh_waits b t p kind ps h is w so =
     let requests = t.requests in
     let after = waits_at (name_at requests p) kind b.story in
@@ -589,7 +604,7 @@ fresh_waits b t p kind ps h is w so =
           let shown = own q (eq_from p q t1) in
           inr (elim so.either [
             | inl e ↦ inl (shown ∙ ap Some e)
-            | inr k ↦ inr (elim k [ inl e ↦ inl (shown ∙ ap Some e) | inr x ↦ inr (elim x [ inl e ↦ inl (shown ∙ ap Some e) | inr y ↦ inr (elim y [ inl e ↦ inl (shown ∙ ap Some e) | inr e ↦ inr (shown ∙ ap Some e) ]) ]) ])
+            | inr k ↦ inr (elim k [ inl e ↦ inl (shown ∙ ap Some e) | inr x ↦ inr (elim x [ inl e ↦ inl (shown ∙ ap Some e) | inr y ↦ inr (elim y [ inl e ↦ inl (shown ∙ ap Some e) | inr z ↦ inr (elim z [ inl e ↦ inl (shown ∙ ap Some e) | inr e ↦ inr (shown ∙ ap Some e) ]) ]) ]) ])
           ]))
           (λ f. one_of (shown_wait after requests q) (shown_wait b.story requests q) (waits q v (ne_from p q f)) (h.waits.early q v));
       backoff = λ q v d. by_test (p == q) _
@@ -604,9 +619,12 @@ fresh_waits b t p kind ps h is w so =
       setup = λ q link u v r. by_test (p == q) _
           (λ t1. inr (own q (eq_from p q t1) ∙ ap Some (so.setup link u r)))
           (λ f. let other = ne_from p q f in elim (h.waits.setup q link u v r) [ inl i ↦ inl (rest_in p q ps other (subst (IsIn q) is i)) | inr e ↦ inr (waits q v other ∙ e) ]);
-      permit = λ q link v r. by_test (p == q) _
-          (λ t1. inr (own q (eq_from p q t1) ∙ ap Some (so.permit link r)))
-          (λ f. let other = ne_from p q f in elim (h.waits.permit q link v r) [ inl i ↦ inl (rest_in p q ps other (subst (IsIn q) is i)) | inr e ↦ inr (waits q v other ∙ e) ]);
+      resubscribe = λ q link v r goes. by_test (p == q) _
+          (λ t1. inr (own q (eq_from p q t1) ∙ ap Some (so.resubscribe link r goes)))
+          (λ f. let other = ne_from p q f in elim (h.waits.resubscribe q link v r goes) [ inl i ↦ inl (rest_in p q ps other (subst (IsIn q) is i)) | inr e ↦ inr (waits q v other ∙ e) ]);
+      permit = λ q link v r served. by_test (p == q) _
+          (λ t1. inr (own q (eq_from p q t1) ∙ ap Some (so.permit link r served)))
+          (λ f. let other = ne_from p q f in elim (h.waits.permit q link v r served) [ inl i ↦ inl (rest_in p q ps other (subst (IsIn q) is i)) | inr e ↦ inr (waits q v other ∙ e) ]);
       place = λ q a. elim (h.waits.place q a) [ inl i ↦ inl i | inr e ↦ inr (admitted q a ∙ e) ];
       room = λ q r. elim (h.waits.room q r) [ inl i ↦ inl i | inr e ↦ inr (queued q r ∙ e) ];
       newer = rest_rises p ps (length requests) line;
@@ -615,14 +633,18 @@ fresh_waits b t p kind ps h is w so =
       no_connect = λ q i v d e. h.waits.no_connect q (back q i) v d (sym (waits q v (rest_other p q ps (length requests) line i)) ∙ e);
       no_creds = λ q link i v r e. h.waits.no_creds q link (back q i) v r (sym (waits q v (rest_other p q ps (length requests) line i)) ∙ e);
       no_setup = λ q link u i v r e. h.waits.no_setup q link u (back q i) v r (sym (waits q v (rest_other p q ps (length requests) line i)) ∙ e);
-      no_permit = λ q link i v r e. h.waits.no_permit q link (back q i) v r (sym (waits q v (rest_other p q ps (length requests) line i)) ∙ e);
+      no_resubscribe = λ q link i v r goes e. h.waits.no_resubscribe q link (back q i) v r goes (sym (waits q v (rest_other p q ps (length requests) line i)) ∙ e);
+      unpermitted = λ q link v r goes e. by_test (p == q) ⊥
+          (λ t1. (let no : ◌≡◌ {A = Option WaitKind} (Some wait.Resubscribe) (Some wait.Permit) = ap Some (sym (so.resubscribe link r goes)) ∙ sym (own q (eq_from p q t1)) ∙ e in cc))
+          (λ f. h.waits.unpermitted q link v r goes (sym (waits q v (ne_from p q f)) ∙ e));
+      no_permit = λ q link i v r served e. h.waits.no_permit q link (back q i) v r served (sym (waits q v (rest_other p q ps (length requests) line i)) ∙ e);
       seatless = λ q a e. h.waits.seatless q a (sym (admitted q a) ∙ e);
       no_place = λ q i a e. h.waits.no_place q i a (sym (admitted q a) ∙ e);
       no_room = λ q i r e. h.waits.no_room q i r (sym (queued q r) ∙ e);
     }
 
 -- one of them waits no more
-pub stale_waits : (b : Book) (t : Inner) (p : ℕ) (ps : List ℕ) → Tied b t → t.fresh ≡ p ∷ ps → is_waiting_at t.requests p ≡ false → TiedWaits b.story t.requests t.life ps t.moved
+pub stale_waits : (b : Book) (t : Inner) (p : ℕ) (ps : List ℕ) → Tied b t → t.fresh ≡ p ∷ ps → is_waiting_at t.requests p ≡ false → TiedWaits b.story t.requests t.again t.life ps t.moved
 stale_waits b t p ps h is gone =
     let line = subst (λ ns. Rising 0 ns (length t.requests)) is h.waits.newer in
     let back : (q : ℕ) → IsIn q ps → IsIn q t.fresh = λ q i. subst (IsIn q) (sym is) (inr i) in
@@ -633,7 +655,8 @@ stale_waits b t p ps h is gone =
       connect = λ q w d. elim (h.waits.connect q w d) [ inl i ↦ inl (rest_in p q ps (other q w) (subst (IsIn q) is i)) | inr e ↦ inr e ];
       creds = λ q link w r. elim (h.waits.creds q link w r) [ inl i ↦ inl (rest_in p q ps (other q w) (subst (IsIn q) is i)) | inr e ↦ inr e ];
       setup = λ q link u w r. elim (h.waits.setup q link u w r) [ inl i ↦ inl (rest_in p q ps (other q w) (subst (IsIn q) is i)) | inr e ↦ inr e ];
-      permit = λ q link w r. elim (h.waits.permit q link w r) [ inl i ↦ inl (rest_in p q ps (other q w) (subst (IsIn q) is i)) | inr e ↦ inr e ];
+      resubscribe = λ q link w r goes. elim (h.waits.resubscribe q link w r goes) [ inl i ↦ inl (rest_in p q ps (other q w) (subst (IsIn q) is i)) | inr e ↦ inr e ];
+      permit = λ q link w r served. elim (h.waits.permit q link w r served) [ inl i ↦ inl (rest_in p q ps (other q w) (subst (IsIn q) is i)) | inr e ↦ inr e ];
       place = h.waits.place;
       room = h.waits.room;
       newer = rest_rises p ps (length t.requests) line;
@@ -642,7 +665,9 @@ stale_waits b t p ps h is gone =
       no_connect = λ q i w d. h.waits.no_connect q (back q i) w d;
       no_creds = λ q link i w r. h.waits.no_creds q link (back q i) w r;
       no_setup = λ q link u i w r. h.waits.no_setup q link u (back q i) w r;
-      no_permit = λ q link i w r. h.waits.no_permit q link (back q i) w r;
+      no_resubscribe = λ q link i w r goes. h.waits.no_resubscribe q link (back q i) w r goes;
+      unpermitted = h.waits.unpermitted;
+      no_permit = λ q link i w r served. h.waits.no_permit q link (back q i) w r served;
       seatless = h.waits.seatless;
       no_place = h.waits.no_place;
       no_room = h.waits.no_room;

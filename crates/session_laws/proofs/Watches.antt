@@ -42,7 +42,7 @@ use Rattle.session_laws.proofs.Start.{with_queue}
 use Rattle.session_laws.proofs.States.{IsFit}
 use Rattle.session_laws.proofs.Server.{IsWatchDue, IsWatching, watch_queued}
 use Rattle.session_laws.proofs.Tied.{Inner, Tied, TiedTries, numbers_kept}
-use Rattle.session_laws.proofs.Unrepeated.{unrepeated_lined}
+use Rattle.session_laws.proofs.Repeats.{begins_held}
 
 -- MONITOR is due
 --
@@ -129,7 +129,7 @@ watch_tied b t link due h =
     let said = h.setup.said in
     tied_by (entered b (watch_action t link)) (setting_on t (watched link) greet.Monitor) (noted l (begins s)) (mine_noted l t.link (begins s))
     (record {
-      numbers = numbers_kept b _ _ _ _ was _ _ _ _ _ _ _ _ _ _ (unrepeated_lined b.link t.link (begins s) refl h.numbers.unrepeated) h.numbers;
+      numbers = numbers_kept b _ _ _ _ was _ _ _ _ _ _ _ _ _ _ h.numbers;
       others = others_kept b t.link (begins s) h.others;
       notices = h.notices;
       life = h.life;
@@ -139,6 +139,7 @@ watch_tied b t link due h =
       creation = h.creation;
       uses = h.uses;
       renewal = none_begins l t.renewal s refl h.renewal;
+      repeat = begins_held l s b.tracked t.renewal.within t.again refl h.repeat;
       setup = record { info_is = h.setup.info_is; sent = setups_begins l s refl h.setup.sent; said = (said.0, watching_next l link tied.within due said.1) };
       link = λ e. queue_tied name (noted l (begins s)) (begun (queued link) watch_queued) [] (begun_tied name l (queued link) watch_queued monitor_has_bytes tied);
       names = h.names;
@@ -146,10 +147,10 @@ watch_tied b t link due h =
       tries = tries_watched l b.story t.requests t.link t.started said.1.watches said.0 h.tries;
       lines = h.lines;
       told = h.told;
-      waits = setting_waits b.story t.requests (queued link) (watched link) greet.Monitor greet.Monitor t.fresh t.moved h.waits;
+      waits = setting_waits b.story t.requests t.again (queued link) (watched link) greet.Monitor greet.Monitor t.fresh t.moved h.waits;
       permits = h.permits;
       rounds = h.rounds;
-      early = h.early;
+      early = λ unserved alive. (let k = h.early unserved alive in record { unbegun = k.unbegun; empty = k.empty });
       late = h.late;
     })
 
@@ -167,7 +168,7 @@ watch_going trace t link due fit free h =
     going_more trace (watch_action t link) (setting_on t (watched link) greet.Monitor) h.sound.stands
     (watch_may b t link due fit free h.sound.tied h.ended)
     (watch_tied b t link due h.sound.tied)
-    (watch_ends_none b t link due h.sound.tied h.ended) (λ x e. cc)
+    (watch_ends_none b t link due h.sound.tied h.ended) (λ x e. cc) (λ up. cc)
 
 -- the pass
 --

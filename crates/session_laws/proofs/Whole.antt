@@ -29,6 +29,7 @@ use Rattle.session_laws.proofs.Settle.{seen}
 use Rattle.session_laws.proofs.Settled.{IsBetween, returned_between}
 use Rattle.session_laws.proofs.Tied.{HasCourse, Inner, IsHeeded, IsRetiring, Sound, Tied, TiedManager, TiedNumbers, inner, is_begun}
 use Rattle.session_laws.proofs.Write.{HasReturned}
+use Rattle.session_laws.proofs.Informed.{IsInformed}
 
 -- other generations
 --
@@ -59,7 +60,6 @@ numbers_with b t m same managed n = record {
   shut = n.shut;
   within = n.within;
   few = n.few;
-  unrepeated = n.unrepeated;
   settings = record { size_is = n.settings.size_is; bound_is = n.settings.bound_is; limit_is = n.settings.limit_is; some = n.settings.some; limited = n.settings.limited };
   kind_is = n.kind_is;
   quiet = n.quiet;
@@ -85,6 +85,7 @@ tied_with b t m same managed h = record {
   creds = h.creds;
   uses = h.uses;
   renewal = h.renewal;
+  repeat = h.repeat;
   setup = h.setup;
   link = h.link;
   names = h.names;
@@ -117,6 +118,7 @@ retiring_with b t m same managed h = record {
   creation = h.creation;
   uses = h.uses;
   renewal = h.renewal;
+  repeat = h.repeat;
   names = h.names;
   story = h.story;
   untried = h.untried;
@@ -169,6 +171,7 @@ begins_anew trace d h =
       };
       put = λ x. subst (λ (y : List Action). NoneComes (book y)) (sym none) h.comes;
       heeded = subst (λ (y : List Action). IsHeeded (book y).rest (book y).failed d.single.connection.life d.manager) (sym none) h.heeded;
+      informed = subst (λ (y : List Action). IsInformed (book y) d.manager) (sym none) h.informed;
     }
 
 -- so they are shown

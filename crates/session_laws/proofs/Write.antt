@@ -28,16 +28,18 @@ use Rattle.session_laws.proofs.Said.{setup_link, setup_on}
 use Rattle.session_laws.proofs.SetsUp.{setting_on}
 use Rattle.session_laws.proofs.Ahead.{HasSeats}
 use Rattle.session_laws.proofs.Renewals.{renewal_alike}
-use Rattle.session_laws.proofs.Settle.{book_of_more, holds_more, seen, trace_of_acts}
+use Rattle.session_laws.proofs.Settle.{book_of_more, holds_more, seen, trace_of_acts, shown_now}
 use Rattle.session_laws.proofs.Start.{on_link}
 use Rattle.session_laws.proofs.Took.{queue_waits}
 use Rattle.session_laws.proofs.States.{IsFit, IsStopped}
 use Rattle.session_laws.proofs.Server.{HasSaid}
 use Rattle.session_laws.proofs.Tied.{Inner, Tied, TiedLife, carried, has_ended, numbers_kept, owner_of, whole_link, link_in, greeter, IsHeeded}
-use Rattle.session_laws.proofs.Unrepeated.{unrepeated_lined}
 use Rattle.session_laws.proofs.Comes.{plain_put}
 use Rattle.mux_conn.specs.declared.request.Waiting.{Waiting}
 use Rattle.shared_session.specs.declared.generations.Generations.{Generations}
+use Rattle.session_laws.proofs.Repeats.{repeat_alike, serves}
+use Rattle.session_laws.proofs.Serving.{unready_serves}
+use Rattle.session_laws.proofs.Informed.{IsInformed, alike_still, write_alike}
 
 -- an offer
 --
@@ -46,7 +48,7 @@ write_tied b t link h =
     let l = b.link t.link in
     let line = offers link.outbox.unwritten in
     tied_by (entered b (action.Write t.link link.outbox.unwritten)) (on_link t (offered_of link)) (noted l line) (mine_noted l t.link line) (record {
-      numbers = numbers_kept b _ _ _ _ (on_link t link) _ _ _ _ _ _ _ _ _ _ (unrepeated_lined b.link t.link line refl h.numbers.unrepeated) h.numbers;
+      numbers = numbers_kept b _ _ _ _ (on_link t link) _ _ _ _ _ _ _ _ _ _ h.numbers;
       others = others_kept b t.link line h.others;
       notices = h.notices;
       life = h.life;
@@ -56,6 +58,7 @@ write_tied b t link h =
       creation = h.creation;
       uses = h.uses;
       renewal = renewal_alike l (noted l line) t.renewal (Ready link) refl refl refl h.renewal;
+      repeat = repeat_alike l (noted l line) b.tracked t.renewal.within t.again (Ready link) refl refl refl (λ e is. cc) h.repeat;
       setup = record { info_is = h.setup.info_is; sent = h.setup.sent; said = record { well = h.setup.said.well; none = h.setup.said.none } };
       link = λ e. offered_tied (owner_of t.requests) l link (h.link refl);
       names = h.names;
@@ -63,10 +66,10 @@ write_tied b t link h =
       tries = record { owners = h.tries.owners; greeted = h.tries.greeted; shapes = h.tries.shapes; tried = h.tries.tried; untried = h.tries.untried };
       lines = record { line = h.lines.line; queued = h.lines.queued; entries = h.lines.entries; packs = h.lines.packs; packed_in = h.lines.packed_in; there = h.lines.there };
       told = λ e. h.told refl;
-      waits = queue_waits b.story t.requests link (offered_of link) t.fresh t.moved (λ p i. i) h.waits;
+      waits = queue_waits b.story t.requests t.again link (offered_of link) t.fresh t.moved (λ p i. i) h.waits;
       permits = h.permits;
       rounds = h.rounds;
-      early = h.early;
+      early = λ unserved alive. (let k = h.early unserved alive in record { unbegun = k.unbegun; empty = k.empty });
       late = h.late;
     })
 
@@ -76,7 +79,7 @@ write_set_tied b t link greeting h =
     let l = b.link t.link in
     let line = offers link.outbox.unwritten in
     tied_by (entered b (action.Write t.link link.outbox.unwritten)) (setting_on t (offered_of link) greeting) (noted l line) (mine_noted l t.link line) (record {
-      numbers = numbers_kept b _ _ _ _ (setting_on t link greeting) _ _ _ _ _ _ _ _ _ _ (unrepeated_lined b.link t.link line refl h.numbers.unrepeated) h.numbers;
+      numbers = numbers_kept b _ _ _ _ (setting_on t link greeting) _ _ _ _ _ _ _ _ _ _ h.numbers;
       others = others_kept b t.link line h.others;
       notices = h.notices;
       life = h.life;
@@ -86,6 +89,7 @@ write_set_tied b t link greeting h =
       creation = h.creation;
       uses = h.uses;
       renewal = renewal_alike l (noted l line) t.renewal (SettingUp link greeting) refl refl refl h.renewal;
+      repeat = repeat_alike l (noted l line) b.tracked t.renewal.within t.again (SettingUp link greeting) refl refl refl (λ e is. cc) h.repeat;
       setup = setup_link (noted l line) t.info t.started link (offered_of link) greeting refl refl
           (setup_on l l.asked l.up l.end l.taken link.outbox.unwritten l.rest l.heard t.info t.started (SettingUp link greeting) h.setup);
       link = λ e. offered_tied (λ (p : ℕ). greeter greeting) l link (h.link refl);
@@ -94,10 +98,10 @@ write_set_tied b t link greeting h =
       tries = record { owners = h.tries.owners; greeted = h.tries.greeted; shapes = h.tries.shapes; tried = h.tries.tried; untried = h.tries.untried };
       lines = record { line = h.lines.line; queued = h.lines.queued; entries = h.lines.entries; packs = h.lines.packs; packed_in = h.lines.packed_in; there = h.lines.there };
       told = λ e. h.told refl;
-      waits = setting_waits b.story t.requests link (offered_of link) greeting greeting t.fresh t.moved h.waits;
+      waits = setting_waits b.story t.requests t.again link (offered_of link) greeting greeting t.fresh t.moved h.waits;
       permits = h.permits;
       rounds = h.rounds;
-      early = h.early;
+      early = λ unserved alive. (let k = h.early unserved alive in record { unbegun = k.unbegun; empty = k.empty });
       late = h.late;
     })
 
@@ -132,6 +136,7 @@ pub record HasReturned (before : List Action) (f : Core) (w : Work) : Type 0 whe
   pub moved : HasMoved before f w
   pub put : StaysPut (book (trace_of_acts before f w.acts)) w.conn.life
   pub heeded : (let b = book (trace_of_acts before f w.acts) in IsHeeded b.rest b.failed w.conn.life f.manager)
+  pub informed : IsInformed (book (trace_of_acts before f w.acts)) f.manager
 
 -- so it is of a session that doesn't come back
 pub plain_returned : (before : List Action) (f : Core) (w : Work) → is_some f.manager ≡ false → HasMoved before f w → HasReturned before f w
@@ -141,11 +146,16 @@ plain_returned before f w plain h =
       moved = h;
       put = λ x. plain_put b (seen f w.acts w.conn [] h.started) h.holds.tied plain;
       heeded = none_heeded f.manager plain;
+      informed = none_informed f.manager plain;
     }
   where
     none_heeded : (m : Option Generations) → is_some m ≡ false → (let b = book (trace_of_acts before f w.acts) in IsHeeded b.rest b.failed w.conn.life m)
     none_heeded None none = tt
     none_heeded (Some g) none = cc
+
+    none_informed : (m : Option Generations) → is_some m ≡ false → IsInformed (book (trace_of_acts before f w.acts)) m
+    none_informed None none = tt
+    none_informed (Some g) none = cc
 
 -- where everything was shut down, nobody waits for a link
 pub hushed_in : (life : Life) (waiting : List Waiting) → IsStopped life waiting → is_resting life ≡ true → waiting ≡ []
@@ -170,7 +180,7 @@ pub record HasWritten (before : List Action) (f : Core) (w : Work) : Type 0 wher
 pub moved_book : (before : List Action) (f : Core) (w : Work) → HasReturned before f w → IsMoved (book (trace_of_acts before f w.acts))
 moved_book before f w r =
     let h = r.moved in
-    is_moved (book (trace_of_acts before f w.acts)) (seen f w.acts w.conn [] h.started) h.holds.tied refl (refl, refl) refl h.ended h.fit.link h.fit.none h.still.held h.still.full h.still.waiting h.still.none_waits (λ over. hushed_in w.conn.life w.conn.waiting (h.hushed over)) r.put h.fit.setup h.still.setup h.seats h.still.renewed h.still.begun
+    is_moved (book (trace_of_acts before f w.acts)) (seen f w.acts w.conn [] h.started) h.holds.tied refl (refl, refl) refl h.ended h.fit.link h.fit.none h.still.held h.still.full h.still.waiting h.still.none_waits (λ over. hushed_in w.conn.life w.conn.waiting (h.hushed over)) r.put h.fit.setup h.still.setup h.seats h.still.repeated h.still.renewed h.still.begun
 
 -- the link of a life
 same_link : (link other : LinkState) → Ready link ≡ Ready other → link ≡ other
@@ -196,15 +206,16 @@ write_shown before f w link life can r =
             wanting = λ other e. cc;
             setup = λ other u e. cc;
             link = λ other e. subst (IsFit w.conn.size w.conn.boundary) (same_link after other e) (record { sound = fit.sound; size_is = fit.size_is; bound_is = fit.bound_is; within = fit.within });
-            none = λ none. absurd (none after refl);
+            none = λ down. h.fit.none (ap (λ (x : Life). serves x w.conn.again) life ∙ down);
           };
           still = record {
             setup = λ other u e. cc;
             held = λ other e. subst (λ (x : LinkState). (x.queue ≡ []) ⊎ (holds_back x ≡ true)) (same_link after other e) (h.still.held link life);
+            repeated = λ other e due. let k = h.still.repeated link life due in (k.0, subst (λ (x : LinkState). holds_back x ≡ true) (same_link after other e) k.1);
             full = λ other e. subst (λ (x : LinkState). (w.conn.admitted ≡ []) ⊎ (is_full_beside x (in_front w.conn.renewal) ≡ true)) (same_link after other e) (h.still.full link life);
             renewed = λ other e due. let k = h.still.renewed link life due in (k.0, subst (λ (x : LinkState). holds_back x ≡ true) (same_link after other e) k.1);
-            waiting = λ other e. h.still.waiting link life;
-            begun = λ shows up. h.still.begun shows (ap is_ready life);
+            waiting = λ other e none. h.still.waiting link life none;
+            begun = λ shows up. h.still.begun shows (ap (λ (x : Life). serves x w.conn.again) life ∙ up);
             none_waits = λ e. cc;
           };
           hushed = λ over. subst (λ (x : Life). IsStopped x w.conn.waiting) life (h.hushed over);
@@ -212,6 +223,7 @@ write_shown before f w link life can r =
         };
         put = λ x. cc;
         heeded = subst (λ (x : Book). IsHeeded x.rest x.failed (Ready after) f.manager) (sym (book_of_more before f w.acts a)) (heeded_alike b.rest b.failed w.conn.life (Ready after) f.manager (ap is_resting life) r.heeded);
+        informed = subst (λ (x : Book). IsInformed x f.manager) (sym (book_of_more before f w.acts a)) (alike_still b (entered b (shown_now f w.acts a)) f.manager (write_alike b f.single.link 0 0 link.outbox.unwritten) r.informed);
       };
       offered = all_offered_can link.outbox;
     }
@@ -241,14 +253,15 @@ write_set_shown before f w link greeting life can r =
             wanting = λ other e. cc;
             setup = λ other u e. subst (IsFit w.conn.size w.conn.boundary) (same_set after other greeting u e) (record { sound = fit.sound; size_is = fit.size_is; bound_is = fit.bound_is; within = fit.within });
             link = λ other e. cc;
-            none = λ none. h.fit.none (λ other e. absurd (setting_not_ready w.conn.life link other greeting life e));
+            none = λ down. h.fit.none (unready_serves w.conn.life w.conn.again (ap is_ready life));
           };
           still = record {
             setup = λ other u e. subst (λ (x : LinkState). (x.queue ≡ []) ⊎ (holds_back x ≡ true)) (same_set after other greeting u e) (h.still.setup link greeting life);
             held = λ other e. cc;
             full = λ other e. cc;
+            repeated = λ other e due. cc;
             renewed = λ other e. cc;
-            waiting = λ other e. cc;
+            waiting = λ other e none. cc;
             begun = λ shows up. cc;
             none_waits = λ e. cc;
           };
@@ -257,6 +270,7 @@ write_set_shown before f w link greeting life can r =
         };
         put = λ x. cc;
         heeded = subst (λ (x : Book). IsHeeded x.rest x.failed (SettingUp after greeting) f.manager) (sym (book_of_more before f w.acts a)) (heeded_alike b.rest b.failed w.conn.life (SettingUp after greeting) f.manager (ap is_resting life) r.heeded);
+        informed = subst (λ (x : Book). IsInformed x f.manager) (sym (book_of_more before f w.acts a)) (alike_still b (entered b (shown_now f w.acts a)) f.manager (write_alike b f.single.link 0 0 link.outbox.unwritten) r.informed);
       };
       offered = all_offered_can link.outbox;
     }

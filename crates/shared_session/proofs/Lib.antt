@@ -8,3 +8,4 @@ pub mod Made
 pub mod Stays
 pub mod Plain
 pub mod Threads
+pub mod Tracked

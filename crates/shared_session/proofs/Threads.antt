@@ -7,11 +7,13 @@ use Rattle.driver_model.specs.contracts.msg.Msg as Msg
 use Rattle.driver_model.specs.contracts.outcome.Outcome as Outcome
 use Rattle.driver_model.specs.contracts.push_info.PushInfo as PushInfo
 use Rattle.mux_conn.proofs.Threads as connections
+use Rattle.sub_tracker.proofs.Threads.{tracker_send, tracker_sync}
 use Rattle.mux_conn.specs.contracts.act.LinkAct as Act
 use Rattle.shared_session.specs.contracts.core_state.Core as Core
 use Rattle.shared_session.specs.contracts.generations.Generations as Generations
 use Rattle.shared_session.specs.contracts.session.Session as Session
 use Rattle.shared_session.specs.contracts.showing.Done as Done
+use Rattle.shared_session.specs.contracts.subscriptions.Subscriptions as Subscriptions
 use Rattle.shared_session.specs.contracts.turns.Rooms as Rooms
 
 config_send : IsSend Config.the_field.row
@@ -32,11 +34,17 @@ outcome_send = search connections.crossing depth 60 fits 20000
 outcome_sync : IsSync Outcome.the_field.row
 outcome_sync = search connections.crossing depth 60 fits 20000
 
+subscriptions_send : IsSend Subscriptions.the_field.row
+subscriptions_send = search (tracker_send, connections.crossing) depth 60 fits 20000
+
+subscriptions_sync : IsSync Subscriptions.the_field.row
+subscriptions_sync = search (tracker_sync, connections.crossing) depth 60 fits 20000
+
 generations_send : IsSend Generations.the_field.row
-generations_send = search connections.crossing depth 60 fits 20000
+generations_send = search (subscriptions_send, connections.crossing) depth 60 fits 20000
 
 generations_sync : IsSync Generations.the_field.row
-generations_sync = search connections.crossing depth 60 fits 20000
+generations_sync = search (subscriptions_sync, connections.crossing) depth 60 fits 20000
 
 core_send : IsSend Core.the_field.row
 core_send = search (generations_send, connections.crossing) depth 60 fits 20000

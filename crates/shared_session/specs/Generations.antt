@@ -17,19 +17,22 @@ use Rattle.driver_model.specs.declared.outcome.Outcome.{Outcome}
 use Rattle.driver_model.specs.declared.outcome.Outcome.TheVariants as outcome
 use Rattle.mux_conn.specs.declared.act.LinkAct.{LinkAct}
 use Rattle.mux_conn.specs.declared.act.LinkAct.TheVariants as act
+use Rattle.mux_conn.specs.declared.again.Again.{Again}
+use Rattle.mux_conn.specs.declared.again.Again.TheVariants as again
 use Rattle.mux_conn.specs.declared.connection.MultiplexedConnection.{MultiplexedConnection}
 use Rattle.mux_conn.specs.declared.life.Life.{Life}
 use Rattle.mux_conn.specs.declared.life.Life.TheVariants.{Resting, Dialing, Wanting, SettingUp, Ready, Ended}
-use Rattle.mux_conn.specs.Connection.{is_resting, is_used_up}
+use Rattle.mux_conn.specs.Connection.{is_resting, is_outstanding, is_used_up}
 use Rattle.mux_conn.specs.Effects.{afresh, dialled}
 use Rattle.shared_session.specs.declared.core_state.Core.{Core}
 use Rattle.shared_session.specs.declared.generations.Comeback.{Comeback}
 use Rattle.shared_session.specs.declared.generations.Comeback.TheVariants as comeback
 use Rattle.shared_session.specs.declared.generations.Generations.{Generations}
+use Rattle.shared_session.specs.Subscriptions.{no_subscriptions, informed, repeat_after}
 
--- so many generations began of a manager that behaves so, and connects there; no attempt has failed
+-- so many generations began of a manager that behaves so, and connects there; no attempt has failed, and nothing is subscribed
 abbrev pub generations_at : ConnectionManagerConfig → ConnectionInfo → ℕ → Generations
-generations_at settings info number = record { settings = settings; info = info; number = number; attempt = 0; rest = None; halted = false }
+generations_at settings info number = record { settings = settings; info = info; number = number; attempt = 0; rest = None; halted = false; subscribed = no_subscriptions }
 
 -- no attempt of a generation follows one behind so many that failed
 abbrev pub is_last : ConnectionManagerConfig → ℕ → Bool
@@ -60,9 +63,10 @@ abbrev pub creation_fails : List LinkAct → Bool
 creation_fails [] = false
 creation_fails (a ∷ more) = fails_creation a || creation_fails more
 
--- an event came, which showed these acts: a wait may be over, or the creation have failed, behind which no generation begins
+-- an event came, which showed these acts: a wait may be over, or the creation have failed, behind which no generation begins; and
+-- subscription calls may be handed in, or confirmed
 abbrev pub heeded : Generations → EventKind → List LinkAct → Generations
-heeded g kind acts = record g { rest = if wakes g kind then None else g.rest; halted = g.halted || creation_fails acts }
+heeded g kind acts = record g { rest = if wakes g kind then None else g.rest; halted = g.halted || creation_fails acts; subscribed = informed g.subscribed kind acts }
 
 abbrev pub heeding : Core → EventKind → List LinkAct → Core
 heeding c kind acts = record c { manager = option_map (λ g. heeded g kind acts) c.manager }
@@ -97,10 +101,14 @@ abbrev pub has_cause : Bool → List LinkAct → Bool
 has_cause opened [] = false
 has_cause opened (a ∷ more) = shows_cause opened a || has_cause opened more
 
+-- where a link has ended, it took requests until then: it was set up, and what was subscribed again was answered, if anything was
+abbrev pub took_requests : MultiplexedConnection → Bool
+took_requests c = c.opened && not (is_outstanding c.again)
+
 -- there is a cause for the next generation: the link has ended, and, unless it was over before, it took requests, on RESP3; or a
 -- request was answered with such an error
 abbrev pub is_caused : Bool → MultiplexedConnection → List LinkAct → Bool
-is_caused over c acts = has_ended c.life && (((not over && c.opened) && is_resp3 c.info.protocol) || has_cause c.opened acts)
+is_caused over c acts = has_ended c.life && (((not over && took_requests c) && is_resp3 c.info.protocol) || has_cause c.opened acts)
 
 -- the next generation is to begin: the first one with the first request, and another one where there is a cause; none once the
 -- creation has failed
@@ -162,12 +170,20 @@ abbrev pub connect_purposes : ℕ → Option ℕ → List Purpose
 connect_purposes l None = []
 connect_purposes l (Some ms) = purpose.Connect l ∷ []
 
+-- what is subscribed again on the next link: all that is subscribed, where the manager does so
+abbrev pub repeat_for : Generations → Again
+repeat_for g = if g.settings.automatic_resubscription then repeat_after g.subscribed else again.Nothing
+
+abbrev pub repeat_in : Option Generations → Again
+repeat_in None = again.Nothing
+repeat_in (Some g) = repeat_for g
+
 -- that link is asked for
 abbrev pub dialling : Core → ℕ → Core
 dialling c l = record c {
   links = c.links + 1;
   timers = c.timers ++ connect_purposes l (bound_of c.manager);
-  single = record { link = l; connection = dialled c.single.connection (is_last_of c.manager) };
+  single = record { link = l; connection = dialled c.single.connection (is_last_of c.manager) (repeat_in c.manager) };
 }
 
 -- what it does of its own is done

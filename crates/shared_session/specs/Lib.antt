@@ -1,3 +1,4 @@
+pub mod Subscriptions
 pub mod Generations
 pub mod Turn
 pub mod Done

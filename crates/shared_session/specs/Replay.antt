@@ -13,6 +13,7 @@ use Rattle.driver_model.specs.declared.event.EventKind.TheVariants as event
 use Rattle.driver_model.specs.declared.outcome.Outcome.{Outcome}
 use Rattle.driver_model.specs.Config.{kind_of, address, connect_timeout, response_timeout, buffer_size, boundary, permits, hearing_of, wants_credentials, told_info, manager_of, is_lazy, first_fault}
 use Rattle.manager_config.specs.declared.config.ConnectionManagerConfig.{ConnectionManagerConfig}
+use Rattle.mux_conn.specs.declared.again.Again.TheVariants as again
 use Rattle.mux_conn.specs.declared.connection.MultiplexedConnection.{MultiplexedConnection}
 use Rattle.mux_conn.specs.Effects.{afresh, dialled}
 use Rattle.mux_conn.specs.Renewals.{no_renewal}
@@ -47,7 +48,7 @@ single_core config = record {
 
 -- on this connection a first generation begins, of a manager that behaves so: the rounds of its requests are shown
 abbrev pub first_dialled : ConnectionManagerConfig → MultiplexedConnection → MultiplexedConnection
-first_dialled settings c = dialled (record c { rounds = true }) (is_last settings 0)
+first_dialled settings c = dialled (record c { rounds = true }) (is_last settings 0) again.Nothing
 
 -- no link is asked for before a request, and its creation is told; the rounds of its requests are shown
 abbrev pub unused : MultiplexedConnection → MultiplexedConnection

@@ -477,7 +477,7 @@ impl Core {
         ensures sound { OnOk result (self.new.single.connection.failure ≡ None) }
     {
         self.number(acts)?;
-        let comeback = self.choose(event, over, acts);
+        let comeback = self.choose(alloc, event, over, acts)?;
         self.come_back(alloc, comeback)?;
         match self.single.connection.flush(alloc, rest) {
             Ok(()) => Ok(comeback),
@@ -603,6 +603,7 @@ fn note_timer(link: u32, act: &LinkAct, timers: &mut Seq<Purpose>) -> Result<(),
             link,
             number: *number,
         }),
+        LinkAct::RepeatTimer { ms: _ } => timers.push(Purpose::Resubscription { link }),
         _ => Ok(()),
     }
 }

@@ -1,14 +1,15 @@
-ghost use Rattle.std.specs.Prelude.{◌≡◌, ◌<◌, ◌-◌, ◌^◌, ◌++◌, OnOk, option_map};
+ghost use Rattle.std.specs.Prelude.{◌≡◌, ◌<◌, ◌-◌, ◌^◌, ◌++◌, OnOk, IfOk, option_map};
 ghost use Rattle.shared_session.specs.Generations.{fails_creation, creation_fails, has_ended};
 ghost use Rattle.shared_session.specs.Generations.{is_cause, is_cause_in, shows_cause, has_cause};
-ghost use Rattle.shared_session.specs.Generations.{bound_of, is_last_of, connect_purposes};
+ghost use Rattle.shared_session.specs.Generations.{took_requests, bound_of, is_last_of, repeat_in, connect_purposes};
 
 use crate::core_state::Core;
+use crate::subscriptions::Subscriptions;
 use connection_info::ConnectionInfo;
 use containers::Seq;
 use driver_model::{EventKind, Outcome, Purpose};
 use manager_config::ConnectionManagerConfig;
-use mux_conn::{Life, LinkAct};
+use mux_conn::{Again, Life, LinkAct, MultiplexedConnection};
 use redis_error::RedisError;
 use std::alloc::{AllocError, Global};
 
@@ -28,6 +29,8 @@ pub struct Generations {
     pub rest: Option<u64>,
     /// Whether the creation failed, so that no generation begins any more.
     pub halted: bool,
+    /// What is subscribed, which a new link subscribes again where the manager does so.
+    pub subscribed: Subscriptions,
 }
 
 /// What a manager does of its own in a turn, once the event has had its effect. What timer it asks for has the number `timer`.
@@ -51,10 +54,11 @@ pub enum Comeback {
 
 impl Generations {
     ghost use Rattle.shared_session.specs.Generations.{generations_at, is_last, is_timer, wakes, heeded};
-    ghost use Rattle.shared_session.specs.Generations.{failed_behind, begun_with};
+    ghost use Rattle.shared_session.specs.Generations.{failed_behind, begun_with, repeat_for};
 
-    /// So many generations began of a manager that behaves so, and connects there. No attempt has failed.
+    /// So many generations began of a manager that behaves so, and connects there. No attempt has failed, and nothing is subscribed.
     pub(crate) fn new(
+        alloc: Global,
         settings: ConnectionManagerConfig,
         info: ConnectionInfo,
         number: u64,
@@ -68,6 +72,7 @@ impl Generations {
             attempt: 0,
             rest: None,
             halted: false,
+            subscribed: Subscriptions::new(alloc),
         }
     }
 
@@ -98,14 +103,26 @@ impl Generations {
         }
     }
 
-    /// An event came, which showed these acts: a wait may be over, or the creation have failed.
-    fn heed(&mut self, event: &EventKind, acts: &[LinkAct])
-        ensures { self.new ≡ heeded self.old event.now acts.now }
+    /// An event came, which showed these acts: a wait may be over, or the creation have failed; and subscription calls may be
+    /// handed in, or confirmed.
+    fn heed(&mut self, alloc: Global, event: &EventKind, acts: &[LinkAct]) -> Result<(), AllocError>
+        ensures { OnOk result (self.new ≡ heeded self.old event.now acts.now) }
     {
         let woken = self.wakes(event);
         let failed = creation_fails(acts);
         self.rest = if woken { None } else { self.rest };
         self.halted = self.halted || failed;
+        self.subscribed.inform(alloc, event, acts)
+    }
+
+    /// What is subscribed again on the next link: all that is subscribed, where the manager does so.
+    fn again(&self, alloc: Global) -> Result<Again, AllocError>
+        ensures { IfOk result (λ again. again ≡ repeat_for self.now) }
+    {
+        if !self.settings.automatic_resubscription() {
+            return Ok(Again::Nothing);
+        }
+        self.subscribed.again(alloc)
     }
 
     /// This attempt failed, and that timer is asked for behind it.
@@ -141,7 +158,8 @@ impl Core {
         let connection = &self.single.connection;
         let resp3 = connection.info.protocol.supports_resp3();
         let caused = has_cause(connection.opened, acts);
-        has_ended(&connection.life) && ((!over && connection.opened && resp3) || caused)
+        let lost = !over && took_requests(connection) && resp3;
+        has_ended(&connection.life) && (lost || caused)
     }
 
     /// Whether the next generation is to begin.
@@ -231,12 +249,12 @@ impl Core {
     }
 
     /// An event came, which showed these acts.
-    fn heed(&mut self, event: &EventKind, acts: &[LinkAct])
-        ensures { self.new ≡ heeding self.old event.now acts.now }
+    fn heed(&mut self, alloc: Global, event: &EventKind, acts: &[LinkAct]) -> Result<(), AllocError>
+        ensures { OnOk result (self.new ≡ heeding self.old event.now acts.now) }
     {
         match &mut self.manager {
-            Some(generations) => generations.heed(event, acts),
-            None => {}
+            Some(generations) => generations.heed(alloc, event, acts),
+            None => Ok(()),
         }
     }
 
@@ -289,10 +307,11 @@ impl Core {
         ensures { OnOk result (self.new ≡ dialling self.old link) }
     {
         let last = is_last(&self.manager);
+        let again = again(alloc, &self.manager)?;
         note_connect(link, connect_bound(&self.manager), &mut self.timers)?;
         self.links += 1;
         self.single.link = link;
-        self.single.connection.dial(alloc, last)
+        self.single.connection.dial(alloc, last, again)
     }
 
     /// What the manager does of its own is done.
@@ -325,17 +344,25 @@ impl Core {
     }
 
     /// What the manager does of its own behind an event that showed these acts, where its link was over before or not.
-    pub(crate) fn choose(&mut self, event: &EventKind, over: bool, acts: &[LinkAct]) -> Comeback
+    pub(crate) fn choose(
+        &mut self,
+        alloc: Global,
+        event: &EventKind,
+        over: bool,
+        acts: &[LinkAct],
+    ) -> Result<Comeback, AllocError>
         requires counted { IsCounted self.old }
         requires links { self.old.links < 2 ^ 32 }
-        ensures core { self.new ≡ heeding self.old event.now acts.now }
-        ensures comeback { result
-            ≡ comeback_in self.new.manager (wakes_in self.old.manager event.now) over self.new acts.now }
-        ensures attempts { IsRestable result }
+        ensures core { OnOk result (self.new ≡ heeding self.old event.now acts.now) }
+        ensures comeback { IfOk result (λ comeback.
+            comeback
+            ≡ comeback_in self.new.manager (wakes_in self.old.manager event.now) over self.new acts.now
+            ) }
+        ensures attempts { IfOk result IsRestable }
     {
         let woken = self.wakes(event);
-        self.heed(event, acts);
-        self.comeback(woken, over, acts)
+        self.heed(alloc, event, acts)?;
+        Ok(self.comeback(woken, over, acts))
     }
 }
 
@@ -354,6 +381,13 @@ pub(crate) fn has_ended(life: &Life) -> bool
         Life::Ready { link: _ } => false,
         Life::Ended { error: _ } => true,
     }
+}
+
+/// Whether a connection whose link has ended took requests until then.
+fn took_requests(connection: &MultiplexedConnection) -> bool
+    ensures { result ≡ took_requests connection.now }
+{
+    connection.opened && !connection.again.is_outstanding()
 }
 
 /// Whether an act shows that the creation failed.
@@ -443,6 +477,16 @@ pub(crate) fn connect_bound(manager: &Option<Generations>) -> Option<u64>
     match manager {
         Some(generations) => generations.settings.connection_timeout(),
         None => None,
+    }
+}
+
+/// What is subscribed again on the next link.
+fn again(alloc: Global, manager: &Option<Generations>) -> Result<Again, AllocError>
+    ensures { IfOk result (λ again. again ≡ repeat_in manager.now) }
+{
+    match manager {
+        Some(generations) => generations.again(alloc),
+        None => Ok(Again::Nothing),
     }
 }
 

@@ -9,6 +9,7 @@ mod replaying;
 mod returning;
 mod session;
 mod showing;
+mod subscriptions;
 mod turns;
 
 pub use core_state::{Core, Single};
@@ -16,3 +17,4 @@ pub use errors::{MakeError, ReplayError, StepError};
 pub use generations::{Comeback, Generations};
 pub use session::{Failure, Session};
 pub use showing::Done;
+pub use subscriptions::{Call, Subscriptions};

@@ -11,7 +11,7 @@ use connection_info::{ConnectionInfo, RedisConnectionInfo};
 use containers::Seq;
 use driver_model::{Action, Cause, Config, Purpose};
 use manager_config::ConnectionManagerConfig;
-use mux_conn::{MultiplexedConnection, Renewal};
+use mux_conn::{Again, MultiplexedConnection, Renewal};
 use std::alloc::{AllocError, Global};
 
 /// The number of the first link.
@@ -74,11 +74,11 @@ impl Core {
             self.new ≡ as_managed (Some settings) (Some info) false self.old
             ) }
     {
-        let generations = Generations::new(settings, info, 1);
+        let generations = Generations::new(alloc, settings, info, 1);
         let last = generations.is_last();
         self.manager = Some(generations);
         self.single.connection.rounds = true;
-        self.single.connection.dial(alloc, last)
+        self.single.connection.dial(alloc, last, Again::Nothing)
     }
 
     /// It is such a manager, and its first generation begins with the first request.
@@ -92,7 +92,7 @@ impl Core {
             self.new ≡ as_managed (Some settings) (Some info) true self.old
             ) }
     {
-        self.manager = Some(Generations::new(settings, info, 0));
+        self.manager = Some(Generations::new(alloc, settings, info, 0));
         self.links = u64::from(FIRST_LINK);
         self.timers = Seq::new(alloc);
         self.single.connection.start_afresh(alloc)?;

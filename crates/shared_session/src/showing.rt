@@ -91,6 +91,7 @@ fn action_of(link: u32, timer: u64, source: u64, act: LinkAct) -> Action
         LinkAct::RenewalTimer { number, ms } => {
             timer_asked(timer, ms, Purpose::Renewal { link, number })
         }
+        LinkAct::RepeatTimer { ms } => timer_asked(timer, ms, Purpose::Resubscription { link }),
         LinkAct::NeedCreds => source_asked(source, link),
         LinkAct::NeedRenewals => source_asked(source, link),
         LinkAct::Push { info } => Action::Push { link, info },
@@ -111,6 +112,7 @@ fn action_of(link: u32, timer: u64, source: u64, act: LinkAct) -> Action
         LinkAct::SetUp { message, need, len } => started(link, message, Owner::Setup, need, len),
         LinkAct::Watch { message, need, len } => started(link, message, Owner::Monitor, need, len),
         LinkAct::Renewed { message, need, len } => started(link, message, Owner::Auth, need, len),
+        LinkAct::Repeated { message, need, len } => started(link, message, Owner::Resub, need, len),
         LinkAct::Outcome { request, outcome } => Action::Outcome {
             submission: request,
             outcome,
@@ -125,6 +127,7 @@ fn timers_in(act: &LinkAct) -> u64
     match act {
         LinkAct::Timer { request: _, ms: _ } => 1,
         LinkAct::RenewalTimer { number: _, ms: _ } => 1,
+        LinkAct::RepeatTimer { ms: _ } => 1,
         _ => 0,
     }
 }

@@ -38,6 +38,7 @@ no_turn l t c (act.Round n) = tt
 no_turn l t c (act.Took n count) = tt
 no_turn l t c (act.Timer n ms) = tt
 no_turn l t c (act.RenewalTimer k ms) = tt
+no_turn l t c (act.RepeatTimer ms) = tt
 no_turn l t c act.NeedCreds = tt
 no_turn l t c act.NeedRenewals = tt
 no_turn l t c act.Close = tt
@@ -49,6 +50,7 @@ no_turn l t c (act.Write bytes) = tt
 no_turn l t c (act.Wait n kind) = tt
 no_turn l t c (act.SetUp message need len) = tt
 no_turn l t c (act.Renewed message need len) = tt
+no_turn l t c (act.Repeated message need len) = tt
 no_turn l t c (act.Start message n need len) = tt
 no_turn l t c (act.Outcome n o) = tt
 

@@ -45,9 +45,13 @@ trying_twice = trying false 1
 abbrev pub trying_thrice : Config
 trying_thrice = trying false 2
 
--- one that speaks the third protocol, whose pushes somebody hears
-abbrev pub speaking : Config
-speaking = manager_to false (codes "redis://h:6379/?protocol=3") (record patient { push = Some true }) no_manager_words
+-- one that speaks the third protocol, whose pushes somebody hears, and which subscribes again what is subscribed
+abbrev pub resubscribing : Config
+resubscribing = manager_to false (codes "redis://h:6379/?protocol=3") (record patient { push = Some true }) (record no_manager_words { resub = Some true })
+
+-- the same, where what the driver says itself, as a request, is to be answered within 100 milliseconds
+abbrev pub resubscribing_in_time : Config
+resubscribing_in_time = manager_to false (codes "redis://h:6379/?protocol=3") (record patient { push = Some true; response = Some (Some 100) }) (record no_manager_words { resub = Some true })
 
 -- an event, and its turn, with this word
 abbrev pub drawn : ℕ → EventKind → Event
@@ -169,20 +173,76 @@ up_again config word =
 abbrev pub set_up_again : Config → ℕ → List Action
 set_up_again config word = up_again config word ++ turn 12 (event.Bytes 1 hello_bare) ∷ []
 
+-- what is subscribed is subscribed again
+abbrev pub repeated : Config → ℕ → List Action
+repeated config word = set_up_again config word ++ action.Start 1 1 owner.Resub 1 26 ∷ []
+
+-- and that is answered
+abbrev pub repeated_well : Config → ℕ → List Action
+repeated_well config word =
+    repeated config word ++ action.Wait (owner.Try 3 0) wait.Resubscribe ∷
+    turn 13 (event.Bytes 1 confirmation) ∷ action.Push 1 subscription ∷ []
+
 -- the key that was asked for meanwhile goes to the new link
 abbrev pub came_back : Config → ℕ → List Action
-came_back config word = set_up_again config word ++ action.Round (owner.Try 3 0) (Some 1) ∷ action.Start 1 1 (owner.Try 3 0) 1 20 ∷ []
+came_back config word = repeated_well config word ++ action.Round (owner.Try 3 0) (Some 1) ∷ action.Start 1 2 (owner.Try 3 0) 1 20 ∷ []
 
 -- a value comes there
 abbrev pub replied_there : Config → ℕ → List Action
-replied_there config word = came_back config word ++ turn 13 (event.Bytes 1 (codes "+x\r\n")) ∷ []
+replied_there config word = came_back config word ++ turn 14 (event.Bytes 1 (codes "+x\r\n")) ∷ []
 
 -- the events of it
 abbrev pub coming_back : List EventKind
 coming_back =
     event.Connected 0 ∷ event.Wrote 0 22 ∷ event.Bytes 0 hello_bare ∷ event.Submit call_of_c ∷ event.Wrote 0 26 ∷ event.Bytes 0 confirmation ∷
     event.Submit (get 97) ∷ event.Submit (get 98) ∷ event.Ended 0 ∷ event.Submit (get 100) ∷
-    event.Connected 1 ∷ event.Bytes 1 hello_bare ∷ []
+    event.Connected 1 ∷ event.Bytes 1 hello_bare ∷ event.Bytes 1 confirmation ∷ []
+
+-- a call about the channel d: of 26 bytes where it subscribes to it, and of 29 where it leaves it
+abbrev pub call_of_d : SubscriptionAction → Submission
+call_of_d what = submission.Subscription what (codes "d" ∷ [])
+
+-- another channel was subscribed, and no longer is, each call confirmed by whatever is answered, when the link ends and the next
+-- one is set up
+abbrev pub left_d : Config → ℕ → List Action
+left_d config word =
+    subscribed_c config word ++
+    turn 7 (event.Submit (call_of_d Subscribe)) ∷ started 0 2 1 26 (call_of_d Subscribe) ++
+    turn 8 (event.Wrote 0 26) ∷ turn 9 (event.Bytes 0 confirmation) ∷ action.Push 0 subscription ∷ action.Outcome 1 outcome.Done ∷
+    turn 10 (event.Submit (call_of_d Unsubscribe)) ∷ started 0 3 2 29 (call_of_d Unsubscribe) ++
+    turn 11 (event.Wrote 0 29) ∷ turn 12 (event.Bytes 0 confirmation) ∷ action.Push 0 subscription ∷ action.Outcome 2 outcome.Done ∷
+    turn 13 (event.Ended 0) ∷ action.Close 0 ∷ action.Push 0 disconnection ∷ action.Generation 2 ∷ connect 1 ∷
+    greeted_on 1 14 ++ turn 15 (event.Bytes 1 hello_bare) ∷ []
+
+-- the events of it
+abbrev pub leaving_d : List EventKind
+leaving_d =
+    event.Connected 0 ∷ event.Wrote 0 22 ∷ event.Bytes 0 hello_bare ∷ event.Submit call_of_c ∷ event.Wrote 0 26 ∷ event.Bytes 0 confirmation ∷
+    event.Submit (call_of_d Subscribe) ∷ event.Wrote 0 26 ∷ event.Bytes 0 confirmation ∷
+    event.Submit (call_of_d Unsubscribe) ∷ event.Wrote 0 29 ∷ event.Bytes 0 confirmation ∷
+    event.Ended 0 ∷ event.Connected 1 ∷ event.Bytes 1 hello_bare ∷ []
+
+-- in time, a channel is subscribed, the link ends, and the next one is set up
+abbrev pub up_in_time : Config → ℕ → List Action
+up_in_time config word =
+    ready config word ++
+    turn 4 (event.Submit call_of_c) ∷ action.Round (owner.Try 0 0) (Some 0) ∷ action.Timer 0 100 (purpose.Response (owner.Try 0 0)) ∷
+    action.Start 0 1 (owner.Try 0 0) 1 26 ∷ action.Write 0 (packed_bytes call_of_c) ∷
+    turn 5 (event.Wrote 0 26) ∷ turn 6 (event.Bytes 0 confirmation) ∷ action.Push 0 subscription ∷ action.Outcome 0 outcome.Done ∷
+    turn 7 (event.Ended 0) ∷ action.Close 0 ∷ action.Push 0 disconnection ∷ action.Generation 2 ∷ connect 1 ∷
+    greeted_on 1 8 ++ turn 9 (event.Bytes 1 hello_bare) ∷ []
+
+-- that is subscribed again, a key is asked for meanwhile, and the time is over
+abbrev pub over_in_time : Config → ℕ → List Action
+over_in_time config word =
+    up_in_time config word ++ action.Timer 1 100 (purpose.Resubscription 1) ∷ action.Start 1 1 owner.Resub 1 26 ∷
+    turn 10 (event.Submit (get 97)) ∷ action.Wait (owner.Try 1 0) wait.Resubscribe ∷ turn 11 (event.Fired 1) ∷ []
+
+-- the events of it
+abbrev pub running_over : List EventKind
+running_over =
+    event.Connected 0 ∷ event.Wrote 0 22 ∷ event.Bytes 0 hello_bare ∷ event.Submit call_of_c ∷ event.Wrote 0 26 ∷ event.Bytes 0 confirmation ∷
+    event.Ended 0 ∷ event.Connected 1 ∷ event.Bytes 1 hello_bare ∷ event.Submit (get 97) ∷ event.Fired 1 ∷ []
 
 -- with this configuration, these actions are a legal trace for these events, whatever the word of the opening
 abbrev pub AreLegal : Config → List Event → (Config → ℕ → List Action) → List Action → Type 0
@@ -193,4 +253,5 @@ abbrev pub manager_fronts : ℕ → List (List Action)
 manager_fronts word =
     opened_lazily lazy_once word ∷ failed_so lazy_once word ∷ begun_next lazy_once word ∷ replaced lazy_once word ∷
     attempt_failed 250 trying_twice word ∷ resting 250 50 trying_twice word ∷ asked_in_vain trying_twice word ∷ failed_again trying_thrice word ∷
-    subscribed_c speaking word ∷ lost speaking word ∷ set_up_again speaking word ∷ replied_there speaking word ∷ []
+    subscribed_c resubscribing word ∷ lost resubscribing word ∷ set_up_again resubscribing word ∷ repeated resubscribing word ∷
+    repeated_well resubscribing word ∷ replied_there resubscribing word ∷ left_d resubscribing word ∷ up_in_time resubscribing_in_time word ∷ []

@@ -1,11 +1,11 @@
 use Rattle.std.proofs.Common.{◌≡◌, ◌∙◌, ap, true, subst}
 use Rattle.mux_conn.specs.Connection.{Work, is_spent_in}
 use Rattle.mux_conn.specs.Passes.{started, moved_up_all}
-use Rattle.mux_conn.proofs.Spent.{spent_renewed, spent_first, spent_second}
+use Rattle.mux_conn.proofs.Spent.{spent_said, spent_first, spent_second}
 use Rattle.mux_conn.proofs.connection.MultiplexedConnection.move_all.Goals as goal
 
 pub returns-in-Err-clause-spent : goal.returns-in-Err-clause-spent
-returns-in-Err-clause-spent c is = spent_renewed (record { conn = c.args.self.now; acts = c.args.out.now.items }) (c.in-Err.ensures.spent is)
+returns-in-Err-clause-spent c is = spent_said (record { conn = c.args.self.now; acts = c.args.out.now.items }) (c.in-Err.ensures.spent is)
 
 pub returns-in-Err-start-clause-spent : goal.returns-in-Err-start-clause-spent
 returns-in-Err-start-clause-spent c is =

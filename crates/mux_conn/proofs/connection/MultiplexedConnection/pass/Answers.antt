@@ -1,5 +1,3 @@
-use Rattle.std.proofs.Common.{◌≡◌, true, subst}
-use Rattle.mux_conn.specs.Connection.{Work, uses_up}
 use Rattle.mux_conn.proofs.Spent.{spent_moved}
 use Rattle.mux_conn.proofs.connection.MultiplexedConnection.pass.Goals as goal
 

@@ -44,45 +44,45 @@ module _ (t : Turning) (n h d : Core) (over : Bool) (kind : EventKind) (what : C
       let k = came_kept (heeding (numbered t).core kind (numbered t).acts) (own_part (numbered t) over kind) in
       subst (λ (c : Core). c.single.connection.failure ≡ None) (sym back_is) (k.failure ∙ sound)
 
-pub choose-comeback-requires-clause-counted : goal.choose-comeback-requires-clause-counted
-choose-comeback-requires-clause-counted c = subst (λ (x : Turning). IsCounted x.core) (sym c.in_ok-number.ensures) c.requires.counted
+pub choose-requires-clause-counted : goal.choose-requires-clause-counted
+choose-requires-clause-counted c = subst (λ (x : Turning). IsCounted x.core) (sym c.in_ok-number.ensures) c.requires.counted
 
-pub choose-comeback-requires-clause-links : goal.choose-comeback-requires-clause-links
-choose-comeback-requires-clause-links c = subst (λ (x : Turning). x.core.links < 2 ^ 32) (sym c.in_ok-number.ensures) c.requires.links
+pub choose-requires-clause-links : goal.choose-requires-clause-links
+choose-requires-clause-links c = subst (λ (x : Turning). x.core.links < 2 ^ 32) (sym c.in_ok-number.ensures) c.requires.links
 
 pub come_back-requires-clause-links : goal.come_back-requires-clause-links
 come_back-requires-clause-links c =
-    subst (λ (x : Core). x.links < 2 ^ 32) (sym c.choose-comeback.ensures.core) (subst (λ (x : Turning). x.core.links < 2 ^ 32) (sym c.in_ok-number.ensures) c.requires.links)
+    subst (λ (x : Core). x.links < 2 ^ 32) (sym c.in_ok-comeback.ensures.core) (subst (λ (x : Turning). x.core.links < 2 ^ 32) (sym c.in_ok-number.ensures) c.requires.links)
 
 pub returns-in-Ok-clause-turning : goal.returns-in-Ok-clause-turning
 returns-in-Ok-clause-turning c =
     let t : Turning = record { core = c.args.self.now; acts = c.args.acts.now } in
     let w : Work = record { conn = c.flush.new.self; acts = c.flush.new.out.items } in
-    ended_is t c.number.new.self c.choose-comeback.new.self c.come_back.new.self c.args.over c.args.event.now c.choose-comeback.result c.in_ok-number.ensures c.choose-comeback.ensures.core c.choose-comeback.ensures.comeback c.in_ok-come_back.ensures
+    ended_is t c.number.new.self c.choose.new.self c.come_back.new.self c.args.over c.args.event.now c.in_ok-comeback.comeback c.in_ok-number.ensures c.in_ok-comeback.ensures.core c.in_ok-comeback.ensures.comeback c.in_ok-come_back.ensures
     w (c.in-Ok.ensures.work ∙ ap (λ (xs : List LinkAct). flushed (work_with c.come_back.new.self.single.connection xs)) c.requires.none)
 
 pub returns-in-Ok-clause-comeback : goal.returns-in-Ok-clause-comeback
 returns-in-Ok-clause-comeback c =
     let t : Turning = record { core = c.args.self.now; acts = c.args.acts.now } in
-    own_is t c.number.new.self c.choose-comeback.new.self c.come_back.new.self c.args.over c.args.event.now c.choose-comeback.result c.in_ok-number.ensures c.choose-comeback.ensures.core c.choose-comeback.ensures.comeback c.in_ok-come_back.ensures
+    own_is t c.number.new.self c.choose.new.self c.come_back.new.self c.args.over c.args.event.now c.in_ok-comeback.comeback c.in_ok-number.ensures c.in_ok-comeback.ensures.core c.in_ok-comeback.ensures.comeback c.in_ok-come_back.ensures
 
 pub returns-in-Ok-clause-rest : goal.returns-in-Ok-clause-rest
 returns-in-Ok-clause-rest c =
     let t : Turning = record { core = c.args.self.now; acts = c.args.acts.now } in
     let w : Work = record { conn = c.flush.new.self; acts = c.flush.new.out.items } in
     ap (λ (x : Work). x.acts)
-    (rest_is t c.number.new.self c.choose-comeback.new.self c.come_back.new.self c.args.over c.args.event.now c.choose-comeback.result c.in_ok-number.ensures c.choose-comeback.ensures.core c.choose-comeback.ensures.comeback c.in_ok-come_back.ensures
+    (rest_is t c.number.new.self c.choose.new.self c.come_back.new.self c.args.over c.args.event.now c.in_ok-comeback.comeback c.in_ok-number.ensures c.in_ok-comeback.ensures.core c.in_ok-comeback.ensures.comeback c.in_ok-come_back.ensures
     w (c.in-Ok.ensures.work ∙ ap (λ (xs : List LinkAct). flushed (work_with c.come_back.new.self.single.connection xs)) c.requires.none))
 
 pub returns-in-Ok-clause-fewer : goal.returns-in-Ok-clause-fewer
 returns-in-Ok-clause-fewer c =
     let t : Turning = record { core = c.args.self.now; acts = c.args.acts.now } in
-    let few = fewer_back t c.number.new.self c.choose-comeback.new.self c.come_back.new.self c.args.over c.args.event.now c.choose-comeback.result c.in_ok-number.ensures c.choose-comeback.ensures.core c.choose-comeback.ensures.comeback c.in_ok-come_back.ensures c.requires.fewer in
+    let few = fewer_back t c.number.new.self c.choose.new.self c.come_back.new.self c.args.over c.args.event.now c.in_ok-comeback.comeback c.in_ok-number.ensures c.in_ok-comeback.ensures.core c.in_ok-comeback.ensures.comeback c.in_ok-come_back.ensures c.requires.fewer in
     omega (arith, few, c.flush.ensures.count)
 
 pub returns-in-Err-clause-unspent : goal.returns-in-Err-clause-unspent
 returns-in-Err-clause-unspent c is =
     let t : Turning = record { core = c.args.self.now; acts = c.args.acts.now } in
     none_spent c.come_back.new.self.single.connection.failure Spent
-    (sound_back t c.number.new.self c.choose-comeback.new.self c.come_back.new.self c.args.over c.args.event.now c.choose-comeback.result c.in_ok-number.ensures c.choose-comeback.ensures.core c.choose-comeback.ensures.comeback c.in_ok-come_back.ensures c.requires.sound)
+    (sound_back t c.number.new.self c.choose.new.self c.come_back.new.self c.args.over c.args.event.now c.in_ok-comeback.comeback c.in_ok-number.ensures c.in_ok-comeback.ensures.core c.in_ok-comeback.ensures.comeback c.in_ok-come_back.ensures c.requires.sound)
     (c.in-Err.ensures.unspent (same_error c.in-Err.error Spent is))
