@@ -457,62 +457,42 @@ pub heard_tied_by : (b : Book) (c : Core) (started : List ℕ) (word created : �
 heard_tied_by b c started word created halted told opened kind info life fresh pending untold links l asked uses h made shown others is sourced used k =
     heard_tied_as b c started word created halted told opened kind info c.single.connection.renewal c.single.connection.again life fresh pending untold links l asked uses h made shown refl refl (quiet_still b c started h) others is sourced used k
 
--- news ask for no source
+-- what was asked for a link's credentials: a source, a second one, and timers
+record Sought : Type 0 where
+  first : Bool
+  second : Bool
+  timers : ℕ
+
+abbrev sought : Ledger → Sought
+sought l = record { first = l.creds.asked; second = l.creds.renews; timers = l.creds.timed }
+
+-- news ask for none of these
+news_seek : (l : Ledger) (turn : ℕ) (n : News) → sought (noted l (hears turn n)) ≡ sought l
+news_seek l turn silence = refl
+news_seek l turn overdue = refl
+news_seek l turn connected = chosen (λ (x : Ledger). sought x ≡ sought l) (is_over l) l (record l { up = true }) (λ t. refl) (λ f. refl)
+news_seek l turn (refused f) = chosen (λ (x : Ledger). sought x ≡ sought l) (dials l) (refused_in l turn (error.Io f)) l (λ t. refl) (λ d. refl)
+news_seek l turn (took count) = chosen (λ (x : Ledger). sought x ≡ sought l) l.up _ l (λ t. refl) (λ f. refl)
+news_seek l turn (came piece) = chosen (λ (x : Ledger). sought x ≡ sought l) l.up (bytes_came l piece) l (λ t. holds_bytes (λ (x : Ledger). sought x ≡ sought l) l piece (λ rest strange told more. refl)) (λ f. refl)
+news_seek l turn (failed f) = refl
+news_seek l turn (authorized c) = chosen (λ (x : Ledger). sought x ≡ sought l) (awaits_credentials l) (authorized_by l c) l (λ t. refl) (λ f. refl)
+news_seek l turn (denied text) = refl
+news_seek l turn deserted = refl
+news_seek l turn (renewed c) = chosen (λ (x : Ledger). sought x ≡ sought l) (may_renew l) (renewed_by l c) l (λ t. refl) (λ f. refl)
+news_seek l turn unrenewed = chosen (λ (x : Ledger). sought x ≡ sought l) l.up (unrenewed_by l) l (λ t. refl) (λ f. refl)
+news_seek l turn (late k) = chosen (λ (x : Ledger). sought x ≡ sought l) (l.up && is_renewal_open l k) (lost_by l) l (λ t. refl) (λ f. refl)
+news_seek l turn unrepeated = chosen (λ (x : Ledger). sought x ≡ sought l) (is_repeating l) (unrepeated_by l) l (λ t. refl) (λ f. refl)
+news_seek l turn dropped = refl
+news_seek l turn shut = refl
+
 pub sources_hear : (l : Ledger) (turn : ℕ) (n : News) → (noted l (hears turn n)).creds.asked ≡ l.creds.asked
-sources_hear l turn silence = refl
-sources_hear l turn overdue = refl
-sources_hear l turn connected = chosen (λ (x : Ledger). x.creds.asked ≡ l.creds.asked) (is_over l) l (record l { up = true }) (λ t. refl) (λ f. refl)
-sources_hear l turn (refused f) = chosen (λ (x : Ledger). x.creds.asked ≡ l.creds.asked) (dials l) (refused_in l turn (error.Io f)) l (λ t. refl) (λ d. refl)
-sources_hear l turn (took count) = chosen (λ (x : Ledger). x.creds.asked ≡ l.creds.asked) l.up _ l (λ t. refl) (λ f. refl)
-sources_hear l turn (came piece) = chosen (λ (x : Ledger). x.creds.asked ≡ l.creds.asked) l.up (bytes_came l piece) l (λ t. holds_bytes (λ (x : Ledger). x.creds.asked ≡ l.creds.asked) l piece (λ rest strange told more. refl)) (λ f. refl)
-sources_hear l turn (failed f) = refl
-sources_hear l turn (authorized c) = chosen (λ (x : Ledger). x.creds.asked ≡ l.creds.asked) (awaits_credentials l) (authorized_by l c) l (λ t. refl) (λ f. refl)
-sources_hear l turn (denied text) = refl
-sources_hear l turn deserted = refl
-sources_hear l turn (renewed c) = chosen (λ (x : Ledger). x.creds.asked ≡ l.creds.asked) (may_renew l) (renewed_by l c) l (λ t. refl) (λ f. refl)
-sources_hear l turn unrenewed = chosen (λ (x : Ledger). x.creds.asked ≡ l.creds.asked) l.up (unrenewed_by l) l (λ t. refl) (λ f. refl)
-sources_hear l turn (late k) = chosen (λ (x : Ledger). x.creds.asked ≡ l.creds.asked) (l.up && is_renewal_open l k) (lost_by l) l (λ t. refl) (λ f. refl)
-sources_hear l turn unrepeated = chosen (λ (x : Ledger). x.creds.asked ≡ l.creds.asked) (is_repeating l) (unrepeated_by l) l (λ t. refl) (λ f. refl)
-sources_hear l turn dropped = refl
-sources_hear l turn shut = refl
+sources_hear l turn n = ap (λ (s : Sought). s.first) (news_seek l turn n)
 
--- nor for a timer
-pub timed_hear : (l : Ledger) (turn : ℕ) (n : News) → (noted l (hears turn n)).creds.timed ≡ l.creds.timed
-timed_hear l turn silence = refl
-timed_hear l turn overdue = refl
-timed_hear l turn connected = chosen (λ (x : Ledger). x.creds.timed ≡ l.creds.timed) (is_over l) l (record l { up = true }) (λ t. refl) (λ f. refl)
-timed_hear l turn (refused f) = chosen (λ (x : Ledger). x.creds.timed ≡ l.creds.timed) (dials l) (refused_in l turn (error.Io f)) l (λ t. refl) (λ d. refl)
-timed_hear l turn (took count) = chosen (λ (x : Ledger). x.creds.timed ≡ l.creds.timed) l.up _ l (λ t. refl) (λ f. refl)
-timed_hear l turn (came piece) = chosen (λ (x : Ledger). x.creds.timed ≡ l.creds.timed) l.up (bytes_came l piece) l (λ t. holds_bytes (λ (x : Ledger). x.creds.timed ≡ l.creds.timed) l piece (λ rest strange told more. refl)) (λ f. refl)
-timed_hear l turn (failed f) = refl
-timed_hear l turn (authorized c) = chosen (λ (x : Ledger). x.creds.timed ≡ l.creds.timed) (awaits_credentials l) (authorized_by l c) l (λ t. refl) (λ f. refl)
-timed_hear l turn (denied text) = refl
-timed_hear l turn deserted = refl
-timed_hear l turn (renewed c) = chosen (λ (x : Ledger). x.creds.timed ≡ l.creds.timed) (may_renew l) (renewed_by l c) l (λ t. refl) (λ f. refl)
-timed_hear l turn unrenewed = chosen (λ (x : Ledger). x.creds.timed ≡ l.creds.timed) l.up (unrenewed_by l) l (λ t. refl) (λ f. refl)
-timed_hear l turn (late k) = chosen (λ (x : Ledger). x.creds.timed ≡ l.creds.timed) (l.up && is_renewal_open l k) (lost_by l) l (λ t. refl) (λ f. refl)
-timed_hear l turn unrepeated = chosen (λ (x : Ledger). x.creds.timed ≡ l.creds.timed) (is_repeating l) (unrepeated_by l) l (λ t. refl) (λ f. refl)
-timed_hear l turn dropped = refl
-timed_hear l turn shut = refl
-
--- nor for a second source
 pub renews_hear : (l : Ledger) (turn : ℕ) (n : News) → (noted l (hears turn n)).creds.renews ≡ l.creds.renews
-renews_hear l turn silence = refl
-renews_hear l turn overdue = refl
-renews_hear l turn connected = chosen (λ (x : Ledger). x.creds.renews ≡ l.creds.renews) (is_over l) l (record l { up = true }) (λ t. refl) (λ f. refl)
-renews_hear l turn (refused f) = chosen (λ (x : Ledger). x.creds.renews ≡ l.creds.renews) (dials l) (refused_in l turn (error.Io f)) l (λ t. refl) (λ d. refl)
-renews_hear l turn (took count) = chosen (λ (x : Ledger). x.creds.renews ≡ l.creds.renews) l.up _ l (λ t. refl) (λ f. refl)
-renews_hear l turn (came piece) = chosen (λ (x : Ledger). x.creds.renews ≡ l.creds.renews) l.up (bytes_came l piece) l (λ t. holds_bytes (λ (x : Ledger). x.creds.renews ≡ l.creds.renews) l piece (λ rest strange told more. refl)) (λ f. refl)
-renews_hear l turn (failed f) = refl
-renews_hear l turn (authorized c) = chosen (λ (x : Ledger). x.creds.renews ≡ l.creds.renews) (awaits_credentials l) (authorized_by l c) l (λ t. refl) (λ f. refl)
-renews_hear l turn (denied text) = refl
-renews_hear l turn deserted = refl
-renews_hear l turn (renewed c) = chosen (λ (x : Ledger). x.creds.renews ≡ l.creds.renews) (may_renew l) (renewed_by l c) l (λ t. refl) (λ f. refl)
-renews_hear l turn unrenewed = chosen (λ (x : Ledger). x.creds.renews ≡ l.creds.renews) l.up (unrenewed_by l) l (λ t. refl) (λ f. refl)
-renews_hear l turn (late k) = chosen (λ (x : Ledger). x.creds.renews ≡ l.creds.renews) (l.up && is_renewal_open l k) (lost_by l) l (λ t. refl) (λ f. refl)
-renews_hear l turn unrepeated = chosen (λ (x : Ledger). x.creds.renews ≡ l.creds.renews) (is_repeating l) (unrepeated_by l) l (λ t. refl) (λ f. refl)
-renews_hear l turn dropped = refl
-renews_hear l turn shut = refl
+renews_hear l turn n = ap (λ (s : Sought). s.second) (news_seek l turn n)
+
+pub timed_hear : (l : Ledger) (turn : ℕ) (n : News) → (noted l (hears turn n)).creds.timed ≡ l.creds.timed
+timed_hear l turn n = ap (λ (s : Sought). s.timers) (news_seek l turn n)
 
 -- what news leave of a link: that it was asked for, whether another attempt follows, and what protocol its server is told
 pub record KeepsAsked (l m : Ledger) : Type 0 where
