@@ -1,19 +1,19 @@
 -- Whoever's timer fired while it was open starts no message.
-use Rattle.std.proofs.Common.{◌≡◌, ◌⊎◌, inl, inr, ℕ, ◌<◌, ◌≤◌, ◌==◌, true, List, [], ◌∷◌, ◌++◌, None, refl, sym, ◌∙◌, subst, arith, max}
+use Rattle.std.proofs.Common.{◌≡◌, ◌⊎◌, inl, inr, ℕ, ◌<◌, ◌≤◌, ◌==◌, true, List, [], ◌∷◌, ◌++◌, refl, sym, ◌∙◌, subst, arith}
 use Rattle.std.specs.Prelude.{slice_get}
-use Rattle.containers.proofs.Choices.{by_test, chosen, taken_if, left_if, eq_from, ne_test, not_both}
+use Rattle.containers.proofs.Choices.{taken_if, ne_test, not_both}
 use Rattle.driver_model.specs.declared.action.Action.{Action}
 use Rattle.driver_model.specs.declared.action.Action.TheVariants as action
 use Rattle.driver_model.specs.declared.action.Cause.TheVariants as cause
-use Rattle.driver_model.specs.declared.action.Owner.TheVariants as owner
 use Rattle.driver_model.specs.declared.config.Config.{Config}
 use Rattle.driver_model.specs.declared.event.Event.{Event}
 use Rattle.driver_model.specs.declared.event.EventKind.{EventKind}
 use Rattle.driver_model.specs.declared.event.EventKind.TheVariants as event
 use Rattle.driver_model.specs.declared.outcome.Outcome.{Outcome}
-use Rattle.legal_trace.specs.Story.{Story, is_open, is_unstarted, handed_in, left, holds, rounds, fires, tried, waits, answered}
-use Rattle.legal_trace.specs.Book.{Book, blank_book, book, entered, entered_each, is_clock_of, after_event, is_unspoken}
+use Rattle.legal_trace.specs.Story.{Story, is_open, is_unstarted, left, fires, tried, answered}
+use Rattle.legal_trace.specs.Book.{Book, blank_book, book, entered, entered_each, is_clock_of, after_event}
 use Rattle.legal_trace.proofs.Clocks.{timer_keeps}
+use Rattle.legal_laws.proofs.Submissions.Steps.{action_keeps, fires_keeps, left_keeps}
 use Rattle.legal_trace.specs.Legal.{MayStand, MayAnswer, MayTell, AllStand, IsOpen, IsApplied, Legal}
 use Rattle.legal_trace.proofs.Books.{stand_front, stand_behind}
 use Rattle.legal_trace.proofs.Plain.{not_empty}
@@ -34,28 +34,6 @@ IsOver s = is_unstarted s ≡ true → (is_open s ≡ true) × (s.overdue ≡ tr
 not_over : (b : Book) (n : ℕ) → IsApplied b → is_unstarted (b.story n) ≡ true → IsOver (b.story n) → ⊥
 not_over b n done u h = let over = h u in not_both (b.story n).overdue (nothing_is_owed b (b.story n) (done.shown.answered n over.0)).runs over.1
 
--- so it is behind an event
-event_over : (b : Book) (n : ℕ) (kind : EventKind) → n < b.submissions → IsOver (b.story n) → IsOver (after_event b n kind)
-event_over b n (event.Submit what) i h = subst IsOver (sym (left_if (b.submissions == n) (handed_in (b.story n) what b.shut (is_unspoken b what) (max 1 b.generation) b.current b.timeout) (b.story n) (ne_test b.submissions n (omega arith)))) h
-event_over b n (event.Cancel m) i h = chosen IsOver (m == n) (left (b.story n)) (b.story n)
-    (λ t. by_test (is_open (b.story n)) (IsOver (left (b.story n))) (λ o u. absurd (leaver_is_done (b.story n) o u))
-    (λ o. subst IsOver (sym (left_if (is_open (b.story n)) (record (b.story n) { cancelled = true; permits = 0; waiting = None }) (b.story n) o)) h)) (λ f. h)
-event_over b n (event.Fired t) i h = chosen IsOver (is_clock_of n (slice_get b.timers t)) (fires (b.story n)) (b.story n)
-    (λ e. chosen IsOver (is_open (b.story n)) (record (b.story n) { overdue = true }) (b.story n) (λ o u. (o, refl)) (λ o. h)) (λ f. h)
-event_over b n (event.Connected l) i h = h
-event_over b n (event.Refused l f) i h = h
-event_over b n (event.Wrote l count) i h = h
-event_over b n (event.Bytes l piece) i h = h
-event_over b n (event.Ended l) i h = h
-event_over b n (event.ReadFault l kind) i h = h
-event_over b n (event.WriteFault l kind) i h = h
-event_over b n (event.Timeout ms) i h = h
-event_over b n (event.Creds c auth) i h = h
-event_over b n (event.CredsError c text) i h = h
-event_over b n (event.CredsEnd c) i h = h
-event_over b n event.DropStream i h = h
-event_over b n event.Shutdown i h = h
-
 -- an outcome of it leaves it done
 outcome_over : (b : Book) (n : ℕ) (o : Outcome) → MayAnswer b n o ⊎ MayTell b n o → IsOver (b.story n) → IsOver (answered (b.story n) o)
 outcome_over b n o (inl owes) h u = absurd (owed_is_done b n o owes u)
@@ -63,41 +41,20 @@ outcome_over b n o (inr told) h u = absurd (not_over b n told.begun.applied told
 
 -- so it is behind each action
 over_kept : (b : Book) (a : Action) → MayStand b a → (n : ℕ) → n < b.submissions → IsOver (b.story n) → IsOver ((entered b a).story n)
-over_kept b (action.Turn k (cause.Opening config word)) may n i h = h
-over_kept b (action.Turn k (cause.Event e)) may n i h = event_over b n e.kind i h
-over_kept b (action.Connect m host port) may n i h = h
-over_kept b (action.Timer t ms what) may n i h = timer_keeps IsOver b n t what (λ e o. h) (λ e. h) h
-over_kept b (action.Took owner.Setup l count) may n i h = absurd may
-over_kept b (action.Took owner.Auth l count) may n i h = absurd may
-over_kept b (action.Took owner.Resub l count) may n i h = absurd may
-over_kept b (action.Took owner.Monitor l count) may n i h = absurd may
-over_kept b (action.Took (owner.Try m round) l count) may n i h = chosen IsOver (m == n) (holds (b.story n) count) (b.story n) (λ e. h) (λ f. h)
-over_kept b (action.Push m info) may n i h = h
-over_kept b (action.Message msg) may n i h = h
-over_kept b (action.Monitor v) may n i h = h
-over_kept b (action.NeedCreds c m) may n i h = h
-over_kept b (action.Generation g) may n i h = h
-over_kept b (action.Round owner.Setup on) may n i h = absurd may
-over_kept b (action.Round owner.Auth on) may n i h = absurd may
-over_kept b (action.Round owner.Resub on) may n i h = absurd may
-over_kept b (action.Round owner.Monitor on) may n i h = absurd may
-over_kept b (action.Round (owner.Try m round) on) may n i h = chosen IsOver (m == n) (rounds (b.story n)) (b.story n) (λ e. h) (λ f. h)
-over_kept b (action.Close m) may n i h = h
-over_kept b (action.Write m bytes) may n i h = h
-over_kept b (action.Wait owner.Setup kind) may n i h = absurd may
-over_kept b (action.Wait owner.Auth kind) may n i h = absurd may
-over_kept b (action.Wait owner.Resub kind) may n i h = absurd may
-over_kept b (action.Wait owner.Monitor kind) may n i h = absurd may
-over_kept b (action.Wait (owner.Try m round) kind) may n i h = chosen IsOver (m == n) (waits (b.story n) kind) (b.story n) (λ e. h) (λ f. h)
-over_kept b (action.Start l k owner.Setup count len) may n i h = h
-over_kept b (action.Start l k owner.Auth count len) may n i h = h
-over_kept b (action.Start l k owner.Resub count len) may n i h = h
-over_kept b (action.Start l k owner.Monitor count len) may n i h = h
-over_kept b (action.Start l k (owner.Try m round) count len) may n i h = chosen IsOver (m == n) (tried (b.story n) l k) (b.story n)
-    (λ e u. absurd (not_empty (b.story n).tries (record { link = l; message = k }) (has_no_tries (tried (b.story n) l k) u))) (λ f. h)
-over_kept b (action.Created e) may n i h = h
-over_kept b (action.Outcome m o) may n i h = chosen IsOver (m == n) (answered (b.story n) o) (b.story n)
-    (λ t. subst (λ j. IsOver (b.story j) → IsOver (answered (b.story j) o)) (eq_from m n t) (outcome_over b m o may) h) (λ f. h)
+over_kept b a may n i h =
+    action_keeps IsOver b a n (record {
+      events = record {
+        handed = λ what e. absurd (not_both (b.submissions == n) (ne_test b.submissions n (omega (arith, i))) e);
+        left = left_keeps IsOver (b.story n) (λ o u. absurd (leaver_is_done (b.story n) o u)) h;
+        fired = λ t c. fires_keeps IsOver (b.story n) (λ o u. (o, refl)) h;
+      };
+      timed = λ t ms what e. timer_keeps IsOver b n t what (λ r o. h) (λ c. h) h;
+      held = λ l count round e. h;
+      rounded = h;
+      waited = λ kind. h;
+      started = λ l k round count len e u. absurd (not_empty (b.story n).tries (record { link = l; message = k }) (has_no_tries (tried (b.story n) l k) u));
+      answered = λ o e. outcome_over b n o (subst (MayStand b) e may) h;
+    }) h
 
 -- and behind many
 stays_over : (b : Book) (front : List Action) → AllStand b front → (n : ℕ) → n < b.submissions → IsOver (b.story n) → IsOver ((entered_each b front).story n)

@@ -1,20 +1,17 @@
 -- Who is to start on a link behind an action was so before it, and who was admitted to its line stays in it.
-use Rattle.std.proofs.Common.{◌≡◌, ◌≢◌, ◌⊎◌, inl, inr, ℕ, zero, suc, ◌<◌, ◌≤◌, ◌==◌, Bool, true, false, ◌&&◌, ◌||◌, not, List, [], ◌∷◌, ◌++◌, length, Option, None, Some, is_none, is_some, nat_lt, if◌then◌else◌, refl, sym, ◌∙◌, ap, subst, arith, max}
-use Rattle.std.specs.Prelude.{slice_get}
+use Rattle.std.proofs.Common.{◌≡◌, ◌≢◌, ◌⊎◌, inl, inr, ℕ, zero, suc, ◌<◌, ◌≤◌, ◌==◌, Bool, true, false, ◌&&◌, ◌||◌, not, List, [], ◌∷◌, ◌++◌, length, Option, None, Some, is_none, is_some, nat_lt, if◌then◌else◌, refl, sym, ◌∙◌, ap, subst, arith}
 use Rattle.containers.proofs.Choices.{by_test, chosen, left_if, eq_from, ne_from, eq_test, ne_test, not_both, both_left, both_right}
 use Rattle.driver_model.specs.declared.action.Action.{Action}
 use Rattle.driver_model.specs.declared.action.Action.TheVariants as action
 use Rattle.driver_model.specs.declared.action.Cause.TheVariants as cause
-use Rattle.driver_model.specs.declared.action.Owner.TheVariants as owner
-use Rattle.driver_model.specs.declared.event.EventKind.{EventKind}
-use Rattle.driver_model.specs.declared.event.EventKind.TheVariants as event
 use Rattle.driver_model.specs.declared.outcome.Outcome.{Outcome}
 use Rattle.driver_model.specs.declared.action.Purpose.{Purpose}
-use Rattle.legal_trace.specs.Story.{Story, is_open, is_told, is_awaited, is_no_error, is_unstarted, handed_in, carried, left, holds, clocked, rounds, fires, tried, waits, answered}
-use Rattle.legal_trace.specs.Book.{Book, entered, entered_each, has_generations, is_clock_of, after_event, after_timer, is_unspoken}
+use Rattle.legal_trace.specs.Story.{Story, is_open, is_told, is_awaited, is_no_error, is_unstarted, carried, left, holds, clocked, fires, tried, answered}
+use Rattle.legal_trace.specs.Book.{Book, entered, entered_each, has_generations, is_clock_of, after_timer}
 use Rattle.legal_trace.specs.Steps.{permits_in, is_let_in, is_in_line, line_before}
 use Rattle.legal_trace.specs.Legal.{MayStand, MayTimer, MayAnswer, MayTell, MayTake, MayStart, AllStand, current_link, is_attempt, rest_due}
 use Rattle.legal_trace.proofs.Clocks.{timer_keeps, timer_own, timer_rests}
+use Rattle.legal_laws.proofs.Submissions.Steps.{action_keeps}
 use Rattle.legal_laws.proofs.Links.Ended.{some_end}
 use Rattle.legal_laws.proofs.Generations.Lives.{attempt_is_over}
 use Rattle.legal_laws.proofs.Traces.Numbers.{links_grow, over_is_numbered}
@@ -166,25 +163,6 @@ answered_follows b n o (inr may) =
       });
     }
 
--- behind an event
-event_follows : (b : Book) (n : ℕ) (kind : EventKind) → n < b.submissions → Follows b (b.story n) (after_event b n kind)
-event_follows b n (event.Submit what) i = subst (Follows b (b.story n)) (sym (left_if (b.submissions == n) (handed_in (b.story n) what b.shut (is_unspoken b what) (max 1 b.generation) b.current b.timeout) (b.story n) (ne_test b.submissions n (omega arith)))) (same_story b (b.story n))
-event_follows b n (event.Cancel m) i = chosen (Follows b (b.story n)) (m == n) (left (b.story n)) (b.story n) (λ t. left_follows b (b.story n)) (λ f. same_story b (b.story n))
-event_follows b n (event.Fired t) i = chosen (Follows b (b.story n)) (is_clock_of n (slice_get b.timers t)) (fires (b.story n)) (b.story n) (λ e. fires_follows b (b.story n)) (λ f. same_story b (b.story n))
-event_follows b n (event.Connected l) i = same_story b (b.story n)
-event_follows b n (event.Refused l f) i = same_story b (b.story n)
-event_follows b n (event.Wrote l count) i = same_story b (b.story n)
-event_follows b n (event.Bytes l piece) i = same_story b (b.story n)
-event_follows b n (event.Ended l) i = same_story b (b.story n)
-event_follows b n (event.ReadFault l kind) i = same_story b (b.story n)
-event_follows b n (event.WriteFault l kind) i = same_story b (b.story n)
-event_follows b n (event.Timeout ms) i = same_story b (b.story n)
-event_follows b n (event.Creds c auth) i = same_story b (b.story n)
-event_follows b n (event.CredsError c text) i = same_story b (b.story n)
-event_follows b n (event.CredsEnd c) i = same_story b (b.story n)
-event_follows b n event.DropStream i = same_story b (b.story n)
-event_follows b n event.Shutdown i = same_story b (b.story n)
-
 -- behind a timer
 timer_follows : (b : Book) (t ms : ℕ) (what : Purpose) → MayTimer b t ms what → (n : ℕ) → Follows b (b.story n) (after_timer b n t what)
 timer_follows b t ms what may n = elim (timer_rests b t ms what may) [
@@ -195,44 +173,20 @@ timer_follows b t ms what may n = elim (timer_rests b t ms what may) [
 
 -- and behind each action
 pub follows : (b : Book) (a : Action) → MayStand b a → (n : ℕ) → n < b.submissions → Follows b (b.story n) ((entered b a).story n)
-follows b (action.Turn k (cause.Opening config word)) may n i = same_story b (b.story n)
-follows b (action.Turn k (cause.Event e)) may n i = event_follows b n e.kind i
-follows b (action.Connect l host port) may n i = same_story b (b.story n)
-follows b (action.Timer t ms what) may n i = timer_follows b t ms what may n
-follows b (action.Took owner.Setup l count) may n i = absurd may
-follows b (action.Took owner.Auth l count) may n i = absurd may
-follows b (action.Took owner.Resub l count) may n i = absurd may
-follows b (action.Took owner.Monitor l count) may n i = absurd may
-follows b (action.Took (owner.Try m round) l count) may n i = chosen (Follows b (b.story n)) (m == n) (holds (b.story n) count) (b.story n)
-    (λ t. subst (λ j. Follows b (b.story j) (holds (b.story j) count)) (eq_from m n t) (holds_follows b m l count may.1)) (λ f. same_story b (b.story n))
-follows b (action.Push l info) may n i = same_story b (b.story n)
-follows b (action.Message msg) may n i = same_story b (b.story n)
-follows b (action.Monitor v) may n i = same_story b (b.story n)
-follows b (action.NeedCreds c l) may n i = same_story b (b.story n)
-follows b (action.Generation g) may n i = same_story b (b.story n)
-follows b (action.Round owner.Setup on) may n i = absurd may
-follows b (action.Round owner.Auth on) may n i = absurd may
-follows b (action.Round owner.Resub on) may n i = absurd may
-follows b (action.Round owner.Monitor on) may n i = absurd may
-follows b (action.Round (owner.Try m round) on) may n i =
-    chosen (Follows b (b.story n)) (m == n) (rounds (b.story n)) (b.story n)
-    (λ t. record { unstarted = λ u. u; told = λ u e. e; on = inl (record { link = refl; stays = λ u e. e; holds = λ u e j. j }) }) (λ f. same_story b (b.story n))
-follows b (action.Close l) may n i = same_story b (b.story n)
-follows b (action.Write l bytes) may n i = same_story b (b.story n)
-follows b (action.Wait owner.Setup kind) may n i = absurd may
-follows b (action.Wait owner.Auth kind) may n i = absurd may
-follows b (action.Wait owner.Resub kind) may n i = absurd may
-follows b (action.Wait owner.Monitor kind) may n i = absurd may
-follows b (action.Wait (owner.Try m round) kind) may n i = chosen (Follows b (b.story n)) (m == n) (waits (b.story n) kind) (b.story n)
-    (λ t. record { unstarted = λ u. u; told = λ u e. e; on = inl (record { link = refl; stays = λ u e. e; holds = λ u e j. j }) }) (λ f. same_story b (b.story n))
-follows b (action.Start l k owner.Setup count len) may n i = same_story b (b.story n)
-follows b (action.Start l k owner.Auth count len) may n i = same_story b (b.story n)
-follows b (action.Start l k owner.Resub count len) may n i = same_story b (b.story n)
-follows b (action.Start l k owner.Monitor count len) may n i = same_story b (b.story n)
-follows b (action.Start l k (owner.Try m round) count len) may n i = chosen (Follows b (b.story n)) (m == n) (tried (b.story n) l k) (b.story n) (λ t. tried_follows b (b.story n) l k) (λ f. same_story b (b.story n))
-follows b (action.Created e) may n i = same_story b (b.story n)
-follows b (action.Outcome m o) may n i = chosen (Follows b (b.story n)) (m == n) (answered (b.story n) o) (b.story n)
-    (λ t. subst (λ j. Follows b (b.story j) (answered (b.story j) o)) (eq_from m n t) (answered_follows b m o may)) (λ f. same_story b (b.story n))
+follows b a may n i =
+    action_keeps (Follows b (b.story n)) b a n (record {
+      events = record {
+        handed = λ what e. absurd (not_both (b.submissions == n) (ne_test b.submissions n (omega (arith, i))) e);
+        left = left_follows b (b.story n);
+        fired = λ t c. fires_follows b (b.story n);
+      };
+      timed = λ t ms what e. timer_follows b t ms what (subst (MayStand b) e may) n;
+      held = λ l count round e. holds_follows b n l count (subst (MayStand b) e may).1;
+      rounded = (record { unstarted = λ u. u; told = λ u e. e; on = inl (record { link = refl; stays = λ u e. e; holds = λ u e j. j }) });
+      waited = λ kind. record { unstarted = λ u. u; told = λ u e. e; on = inl (record { link = refl; stays = λ u e. e; holds = λ u e j. j }) };
+      started = λ l k round count len e. tried_follows b (b.story n) l k;
+      answered = λ o e. answered_follows b n o (subst (MayStand b) e may);
+    }) (same_story b (b.story n))
 
 -- who is to start on a link behind an action stayed on it, where that isn't the next one behind an attempt
 pub to_start_stays : (b : Book) (a : Action) → MayStand b a → (l n : ℕ) → n < b.submissions → (rest_due b ≡ true → l ≢ b.links) → is_to_start l ((entered b a).story n) ≡ true → Stays b (b.story n) ((entered b a).story n)

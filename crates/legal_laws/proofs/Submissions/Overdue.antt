@@ -1,21 +1,20 @@
 -- Timers of submissions run only on links whose opening didn't fail.
-use Rattle.std.proofs.Common.{◌≡◌, ◌⊎◌, inl, inr, ℕ, zero, suc, ◌-◌, ◌<◌, ◌≤◌, ◌==◌, true, false, List, [], ◌∷◌, ◌++◌, Some, None, sym, ◌∙◌, ap, subst, refl, arith, max}
+use Rattle.std.proofs.Common.{◌≡◌, ◌⊎◌, inl, inr, ℕ, zero, suc, ◌-◌, ◌<◌, ◌≤◌, ◌==◌, true, false, List, [], ◌∷◌, ◌++◌, Some, None, sym, ◌∙◌, ap, subst, refl, arith}
 use Rattle.std.specs.Prelude.{slice_get}
-use Rattle.containers.proofs.Choices.{chosen, eq_from, not_both, both_right}
+use Rattle.containers.proofs.Choices.{eq_from, not_both, both_right}
 use Rattle.redis_error.specs.declared.redis_error.RedisError.{RedisError}
 use Rattle.driver_model.specs.declared.action.Action.{Action}
 use Rattle.driver_model.specs.declared.action.Action.TheVariants as action
 use Rattle.driver_model.specs.declared.action.Cause.TheVariants as cause
 use Rattle.driver_model.specs.declared.action.Owner.TheVariants as owner
 use Rattle.driver_model.specs.declared.action.Purpose.{Purpose}
-use Rattle.driver_model.specs.declared.event.EventKind.{EventKind}
-use Rattle.driver_model.specs.declared.event.EventKind.TheVariants as event
 use Rattle.driver_model.specs.News.{news_of}
 use Rattle.legal_trace.specs.Ledger.{Ledger, asks, begins, offers, ends, failure_in, setup_due, sources}
-use Rattle.legal_trace.specs.Story.{Story, is_open, handed_in, left, holds, rounds, fires, tried, waits, answered}
+use Rattle.legal_trace.specs.Story.{Story, left, answered}
 use Rattle.legal_trace.specs.Managers.{settings_in, is_last}
-use Rattle.legal_trace.specs.Book.{Book, blank_book, book, entered, entered_each, has_generations, info_in, wanted_in, hearing_in, message_of, is_clock_of, after_event, is_unspoken}
+use Rattle.legal_trace.specs.Book.{Book, blank_book, book, entered, entered_each, has_generations, info_in, wanted_in, hearing_in, message_of, is_clock_of}
 use Rattle.legal_trace.proofs.Clocks.{timer_keeps, timer_tells}
+use Rattle.legal_laws.proofs.Submissions.Steps.{action_keeps, left_keeps}
 use Rattle.legal_trace.specs.Legal.{MayTimer, MayTime, MayStand, AllStand, link_of, current_link, is_attempt}
 use Rattle.legal_trace.specs.Again.{repeats_in}
 use Rattle.legal_trace.proofs.Ledgers.{mine_keeps}
@@ -171,61 +170,22 @@ clock_before b (action.Outcome m o) may h run n c = run.asked n c
 abbrev WasOver : Book → ℕ → Story → Type 0
 WasOver b n s = s.overdue ≡ true → ((b.story n).overdue ≡ true) ⊎ HasClock n b.timers
 
--- so it is behind an event
-event_over : (b : Book) (n : ℕ) (kind : EventKind) → WasOver b n (after_event b n kind)
-event_over b n (event.Submit what) = chosen (WasOver b n) (b.submissions == n) (handed_in (b.story n) what b.shut (is_unspoken b what) (max 1 b.generation) b.current b.timeout) (b.story n) (λ t e. inl e) (λ f e. inl e)
-event_over b n (event.Cancel m) = chosen (WasOver b n) (m == n) (left (b.story n)) (b.story n)
-    (λ t. chosen (WasOver b n) (is_open (b.story n)) (record (b.story n) { cancelled = true; permits = 0; waiting = None }) (b.story n) (λ o e. inl e) (λ o e. inl e)) (λ f e. inl e)
-event_over b n (event.Fired t) = chosen (WasOver b n) (is_clock_of n (slice_get b.timers t)) (fires (b.story n)) (b.story n) (λ c e. inr (clock_at n b.timers t c)) (λ f e. inl e)
-event_over b n (event.Connected l) = λ e. inl e
-event_over b n (event.Refused l f) = λ e. inl e
-event_over b n (event.Wrote l count) = λ e. inl e
-event_over b n (event.Bytes l piece) = λ e. inl e
-event_over b n (event.Ended l) = λ e. inl e
-event_over b n (event.ReadFault l kind) = λ e. inl e
-event_over b n (event.WriteFault l kind) = λ e. inl e
-event_over b n (event.Timeout ms) = λ e. inl e
-event_over b n (event.Creds c auth) = λ e. inl e
-event_over b n (event.CredsError c text) = λ e. inl e
-event_over b n (event.CredsEnd c) = λ e. inl e
-event_over b n event.DropStream = λ e. inl e
-event_over b n event.Shutdown = λ e. inl e
-
--- and behind each action
+-- so it is behind each action
 over_before : (b : Book) (a : Action) (n : ℕ) → WasOver b n ((entered b a).story n)
-over_before b (action.Turn k (cause.Opening config word)) n = λ e. inl e
-over_before b (action.Turn k (cause.Event e)) n = event_over b n e.kind
-over_before b (action.Connect m host port) n = λ e. inl e
-over_before b (action.Timer t ms what) n = timer_keeps (WasOver b n) b n t what (λ c o e. inl e) (λ c e. inl e) (λ e. inl e)
-over_before b (action.Took owner.Setup l count) n = λ e. inl e
-over_before b (action.Took owner.Auth l count) n = λ e. inl e
-over_before b (action.Took owner.Resub l count) n = λ e. inl e
-over_before b (action.Took owner.Monitor l count) n = λ e. inl e
-over_before b (action.Took (owner.Try m round) l count) n = chosen (WasOver b n) (m == n) (holds (b.story n) count) (b.story n) (λ t e. inl e) (λ f e. inl e)
-over_before b (action.Push m info) n = λ e. inl e
-over_before b (action.Message msg) n = λ e. inl e
-over_before b (action.Monitor v) n = λ e. inl e
-over_before b (action.NeedCreds c m) n = λ e. inl e
-over_before b (action.Generation g) n = λ e. inl e
-over_before b (action.Round owner.Setup on) n = λ e. inl e
-over_before b (action.Round owner.Auth on) n = λ e. inl e
-over_before b (action.Round owner.Resub on) n = λ e. inl e
-over_before b (action.Round owner.Monitor on) n = λ e. inl e
-over_before b (action.Round (owner.Try m round) on) n = chosen (WasOver b n) (m == n) (rounds (b.story n)) (b.story n) (λ t e. inl e) (λ f e. inl e)
-over_before b (action.Close m) n = λ e. inl e
-over_before b (action.Write m bytes) n = λ e. inl e
-over_before b (action.Wait owner.Setup kind) n = λ e. inl e
-over_before b (action.Wait owner.Auth kind) n = λ e. inl e
-over_before b (action.Wait owner.Resub kind) n = λ e. inl e
-over_before b (action.Wait owner.Monitor kind) n = λ e. inl e
-over_before b (action.Wait (owner.Try m round) kind) n = chosen (WasOver b n) (m == n) (waits (b.story n) kind) (b.story n) (λ t e. inl e) (λ f e. inl e)
-over_before b (action.Start l k owner.Setup count len) n = λ e. inl e
-over_before b (action.Start l k owner.Auth count len) n = λ e. inl e
-over_before b (action.Start l k owner.Resub count len) n = λ e. inl e
-over_before b (action.Start l k owner.Monitor count len) n = λ e. inl e
-over_before b (action.Start l k (owner.Try m round) count len) n = chosen (WasOver b n) (m == n) (tried (b.story n) l k) (b.story n) (λ t e. inl e) (λ f e. inl e)
-over_before b (action.Created x) n = λ e. inl e
-over_before b (action.Outcome m o) n = chosen (WasOver b n) (m == n) (answered (b.story n) o) (b.story n) (λ t e. inl e) (λ f e. inl e)
+over_before b a n =
+    action_keeps (WasOver b n) b a n (record {
+      events = record {
+        handed = λ what t e. inl e;
+        left = left_keeps (WasOver b n) (b.story n) (λ o e. inl e) (λ e. inl e);
+        fired = λ t c e. inr (clock_at n b.timers t c);
+      };
+      timed = λ t ms what e. timer_keeps (WasOver b n) b n t what (λ r o e. inl e) (λ c e. inl e) (λ e. inl e);
+      held = λ l count round e u. inl u;
+      rounded = (λ e. inl e);
+      waited = λ kind e. inl e;
+      started = λ l k round count len e u. inl u;
+      answered = λ o e u. inl u;
+    }) (λ e. inl e)
 
 -- each action that may stand keeps it
 times_kept : (b : Book) (a : Action) → MayStand b a → Sound b → TimesRun b → TimesRun (entered b a)

@@ -17,6 +17,7 @@ use Rattle.legal_trace.specs.Story.{Story, has_place, is_room, is_open, is_told,
 use Rattle.legal_trace.specs.Book.{Book, blank_book, book, entered, entered_each, is_clock_of, after_event, is_unspoken}
 use Rattle.legal_trace.specs.Steps.{configured, queue_size, permits_in, free_permits, is_let_in, is_in_line, line_before, is_outside}
 use Rattle.legal_trace.proofs.Clocks.{timer_keeps}
+use Rattle.legal_laws.proofs.Submissions.Steps.{action_keeps, fires_keeps, left_keeps}
 use Rattle.legal_trace.specs.Legal.{MayStand, MayAnswer, MayTell, MayTake, MayWait, AllStand, CanMove, link_of}
 use Rattle.legal_trace.proofs.Moves.{lt_test, one_holds, both_hold, inside_has_room, rooms_mean, holds_some, is_timed, tells_mean, takes_mean, holder_is_timed, rester_holds, teller_moves, taker_moves, mover_is_served}
 use Rattle.legal_laws.proofs.Submissions.Tales.{open_has_none}
@@ -319,63 +320,22 @@ taker_behind b m n i t untold now =
 abbrev pub Gains : Book → ℕ → Story → Type 0
 Gains b n s = 0 < s.permits → (0 < (b.story n).permits) ⊎ TakesNow b n
 
--- an event gives none
-event_gains : (b : Book) (n : ℕ) (kind : EventKind) → Gains b n (after_event b n kind)
-event_gains b n (event.Submit what) = chosen (Gains b n) (b.submissions == n) (handed_in (b.story n) what b.shut (is_unspoken b what) (max 1 b.generation) b.current b.timeout) (b.story n) (λ t i. inl i) (λ f i. inl i)
-event_gains b n (event.Cancel m) = chosen (Gains b n) (m == n) (left (b.story n)) (b.story n)
-    (λ t. chosen (Gains b n) (is_open (b.story n)) (record (b.story n) { cancelled = true; permits = 0; waiting = None }) (b.story n) (λ o i. absurd (omega (arith, i))) (λ o i. inl i)) (λ f i. inl i)
-event_gains b n (event.Fired t) = chosen (Gains b n) (is_clock_of n (slice_get b.timers t)) (fires (b.story n)) (b.story n)
-    (λ e. chosen (Gains b n) (is_open (b.story n)) (record (b.story n) { overdue = true }) (b.story n) (λ o i. inl i) (λ o i. inl i)) (λ f i. inl i)
-event_gains b n (event.Connected l) = λ i. inl i
-event_gains b n (event.Refused l f) = λ i. inl i
-event_gains b n (event.Wrote l count) = λ i. inl i
-event_gains b n (event.Bytes l piece) = λ i. inl i
-event_gains b n (event.Ended l) = λ i. inl i
-event_gains b n (event.ReadFault l kind) = λ i. inl i
-event_gains b n (event.WriteFault l kind) = λ i. inl i
-event_gains b n (event.Timeout ms) = λ i. inl i
-event_gains b n (event.Creds c auth) = λ i. inl i
-event_gains b n (event.CredsError c text) = λ i. inl i
-event_gains b n (event.CredsEnd c) = λ i. inl i
-event_gains b n event.DropStream = λ i. inl i
-event_gains b n event.Shutdown = λ i. inl i
-
--- nor does another action than the taking
+-- no action gives any but the taking
 pub gains : (b : Book) (a : Action) → MayStand b a → (n : ℕ) → Gains b n ((entered b a).story n)
-gains b (action.Turn k (cause.Opening config word)) may n = λ i. inl i
-gains b (action.Turn k (cause.Event e)) may n = event_gains b n e.kind
-gains b (action.Connect l host port) may n = λ i. inl i
-gains b (action.Timer t ms what) may n = timer_keeps (Gains b n) b n t what (λ e o i. absurd (omega (arith, i))) (λ e i. inl i) (λ i. inl i)
-gains b (action.Took owner.Setup l count) may n = absurd may
-gains b (action.Took owner.Auth l count) may n = absurd may
-gains b (action.Took owner.Resub l count) may n = absurd may
-gains b (action.Took owner.Monitor l count) may n = absurd may
-gains b (action.Took (owner.Try m round) l count) may n = chosen (Gains b n) (m == n) (holds (b.story n) count) (b.story n)
-    (λ t i. inr (subst (TakesNow b) (eq_from m n t) (l, count, may.1))) (λ f i. inl i)
-gains b (action.Push l info) may n = λ i. inl i
-gains b (action.Message msg) may n = λ i. inl i
-gains b (action.Monitor v) may n = λ i. inl i
-gains b (action.NeedCreds c l) may n = λ i. inl i
-gains b (action.Generation g) may n = λ i. inl i
-gains b (action.Round owner.Setup on) may n = absurd may
-gains b (action.Round owner.Auth on) may n = absurd may
-gains b (action.Round owner.Resub on) may n = absurd may
-gains b (action.Round owner.Monitor on) may n = absurd may
-gains b (action.Round (owner.Try m round) on) may n = chosen (Gains b n) (m == n) (rounds (b.story n)) (b.story n) (λ t i. inl i) (λ f i. inl i)
-gains b (action.Close l) may n = λ i. inl i
-gains b (action.Write l bytes) may n = λ i. inl i
-gains b (action.Wait owner.Setup kind) may n = absurd may
-gains b (action.Wait owner.Auth kind) may n = absurd may
-gains b (action.Wait owner.Resub kind) may n = absurd may
-gains b (action.Wait owner.Monitor kind) may n = absurd may
-gains b (action.Wait (owner.Try m round) kind) may n = chosen (Gains b n) (m == n) (waits (b.story n) kind) (b.story n) (λ t i. inl i) (λ f i. inl i)
-gains b (action.Start l k owner.Setup count len) may n = λ i. inl i
-gains b (action.Start l k owner.Auth count len) may n = λ i. inl i
-gains b (action.Start l k owner.Resub count len) may n = λ i. inl i
-gains b (action.Start l k owner.Monitor count len) may n = λ i. inl i
-gains b (action.Start l k (owner.Try m round) count len) may n = chosen (Gains b n) (m == n) (tried (b.story n) l k) (b.story n) (λ t i. inl i) (λ f i. inl i)
-gains b (action.Created e) may n = λ i. inl i
-gains b (action.Outcome m o) may n = chosen (Gains b n) (m == n) (answered (b.story n) o) (b.story n) (λ t i. absurd (omega (arith, i))) (λ f i. inl i)
+gains b a may n =
+    action_keeps (Gains b n) b a n (record {
+      events = record {
+        handed = λ what t i. inl i;
+        left = left_keeps (Gains b n) (b.story n) (λ o i. absurd (omega (arith, i))) (λ i. inl i);
+        fired = λ t c. fires_keeps (Gains b n) (b.story n) (λ o i. inl i) (λ i. inl i);
+      };
+      timed = λ t ms what e. timer_keeps (Gains b n) b n t what (λ r o i. absurd (omega (arith, i))) (λ c i. inl i) (λ i. inl i);
+      held = λ l count round e i. inr (l, count, (subst (MayStand b) e may).1);
+      rounded = (λ i. inl i);
+      waited = λ kind i. inl i;
+      started = λ l k round count len e i. inl i;
+      answered = λ o e i. absurd (omega (arith, i));
+    }) (λ i. inl i)
 
 -- what isn't told behind an action wasn't before
 untold_before : (b : Book) (before after : Story) → Follows b before after → is_unstarted after ≡ true → is_told after ≡ false → is_told before ≡ false

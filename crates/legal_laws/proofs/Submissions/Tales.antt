@@ -1,6 +1,5 @@
 -- What each submission of a legal trace was answered, and which messages it started.
-use Rattle.std.proofs.Common.{◌≡◌, ◌≢◌, ◌⊎◌, inl, inr, ℕ, ◌+◌, ◌≤◌, ◌==◌, Bool, true, false, ◌&&◌, not, List, [], ◌∷◌, ◌++◌, length, Option, Some, None, if◌then◌else◌, refl, sym, ◌∙◌, subst, ap, arith, length-append, max}
-use Rattle.std.specs.Prelude.{slice_get}
+use Rattle.std.proofs.Common.{◌≡◌, ◌≢◌, ◌⊎◌, inl, inr, ℕ, ◌+◌, ◌≤◌, ◌==◌, Bool, true, false, ◌&&◌, not, List, [], ◌∷◌, ◌++◌, length, Option, Some, None, if◌then◌else◌, refl, sym, ◌∙◌, subst, ap, arith, length-append}
 use Rattle.std.proofs.lemmas.List.{nil_from_length}
 use Rattle.std.proofs.lemmas.Bool.Decides.{nat_tests}
 use Rattle.containers.proofs.Choices.{chosen, eq_from, eq_test, if_true}
@@ -10,18 +9,16 @@ use Rattle.driver_model.specs.Request.{packed_bytes}
 use Rattle.redis_error.specs.declared.redis_error.RedisError.TheVariants as error
 use Rattle.driver_model.specs.declared.action.Action.{Action}
 use Rattle.driver_model.specs.declared.action.Action.TheVariants as action
-use Rattle.driver_model.specs.declared.action.Cause.TheVariants as cause
 use Rattle.driver_model.specs.declared.action.Owner.TheVariants as owner
-use Rattle.driver_model.specs.declared.event.EventKind.{EventKind}
-use Rattle.driver_model.specs.declared.event.EventKind.TheVariants as event
 use Rattle.driver_model.specs.declared.outcome.Outcome.{Outcome}
 use Rattle.driver_model.specs.declared.outcome.Outcome.TheVariants as outcome
 use Rattle.legal_trace.specs.Ledger.{Ledger, Line, End, Ending, by_shutdown, by_fault, by_opening, by_attempt, begins, noted_each}
-use Rattle.legal_trace.specs.Story.{Story, Try, is_open, is_no_error, handed_in, left, holds, rounds, fires, tried, waits, answered, last_of, bytes_of}
+use Rattle.legal_trace.specs.Story.{Story, Try, is_open, is_no_error, left, tried, answered, last_of, bytes_of}
 use Rattle.legal_trace.specs.Owed.{owed, owed_to_try, owed_by, owed_unstarted, owed_waiting}
-use Rattle.legal_trace.specs.Book.{Book, entered, lines_of, message_of, is_clock_of, after_event, is_unspoken}
+use Rattle.legal_trace.specs.Book.{Book, entered, lines_of, message_of}
 use Rattle.legal_trace.specs.Legal.{MayAnswer, MayTell, MayStand, IsOpen}
 use Rattle.legal_trace.proofs.Clocks.{timer_keeps}
+use Rattle.legal_laws.proofs.Submissions.Steps.{action_keeps, fires_keeps, left_keeps}
 use Rattle.legal_trace.proofs.Ledgers.{each_keeps, HasStarted, started_keeps}
 use Rattle.legal_laws.proofs.Submissions.Owes.{has_bytes}
 use Rattle.legal_trace.proofs.Plain.{not_empty, same_some}
@@ -96,70 +93,26 @@ outcome_once : (b : Book) (n : ℕ) (o : Outcome) → MayAnswer b n o ⊎ MayTel
 outcome_once b n o (inl owes) = first_outcome b n o owes.asked (λ t e. absurd (unstarted_gets_a_fault b n o t owes.owes e))
 outcome_once b n o (inr told) = first_outcome b n o told.asked (λ t e. has_bytes b (b.story n) (told.begun.applied.shown.answered n told.asked))
 
--- events answer none
-event_once : (b : Book) (n : ℕ) (kind : EventKind) → HasStories b → AnsweredOnce (b.story n) → AnsweredOnce (after_event b n kind)
-event_once b n (event.Submit what) blank h =
-    chosen AnsweredOnce (b.submissions == n) (handed_in (b.story n) what b.shut (is_unspoken b what) (max 1 b.generation) b.current b.timeout) (b.story n)
-    (λ t. let e : b.submissions ≡ n = eq_from b.submissions n t in unanswered (b.story n).outcomes (b.story n).tries (packed_bytes what) (ap (λ (s : Story). s.outcomes) (blank n (omega arith))))
-    (λ f. h)
-event_once b n (event.Cancel m) blank h = chosen AnsweredOnce (m == n) (left (b.story n)) (b.story n) (λ t. chosen AnsweredOnce (is_open (b.story n)) (record (b.story n) { cancelled = true; permits = 0; waiting = None }) (b.story n) (λ o. h) (λ o. h)) (λ f. h)
-event_once b n (event.Connected l) blank h = h
-event_once b n (event.Refused l f) blank h = h
-event_once b n (event.Fired t) blank h = chosen AnsweredOnce (is_clock_of n (slice_get b.timers t)) (fires (b.story n)) (b.story n) (λ e. chosen AnsweredOnce (is_open (b.story n)) (record (b.story n) { overdue = true }) (b.story n) (λ o. h) (λ o. h)) (λ f. h)
-event_once b n (event.Timeout ms) blank h = h
-event_once b n (event.Creds c auth) blank h = h
-event_once b n (event.CredsError c text) blank h = h
-event_once b n (event.CredsEnd c) blank h = h
-event_once b n (event.Wrote l count) blank h = h
-event_once b n (event.Bytes l piece) blank h = h
-event_once b n (event.Ended l) blank h = h
-event_once b n (event.ReadFault l kind) blank h = h
-event_once b n (event.WriteFault l kind) blank h = h
-event_once b n event.DropStream blank h = h
-event_once b n event.Shutdown blank h = h
-
 -- a start answers none
 started_once : (s : Story) (l k : ℕ) → AnsweredOnce s → AnsweredOnce (tried s l k)
 started_once s l k h = record { once = h.once; told = λ e t. absurd (not_empty s.tries (record { link = l; message = k }) t) }
 
 -- each stays so
 pub once_kept : (b : Book) (a : Action) → MayStand b a → HasStories b → (n : ℕ) → AnsweredOnce (b.story n) → AnsweredOnce ((entered b a).story n)
-once_kept b (action.Turn k (cause.Opening config word)) may blank n h = h
-once_kept b (action.Turn k (cause.Event e)) may blank n h = event_once b n e.kind blank h
-once_kept b (action.Connect l host port) may blank n h = h
-once_kept b (action.Timer t ms what) may blank n h = timer_keeps AnsweredOnce b n t what (λ e o. h) (λ e. h) h
-once_kept b (action.Took owner.Setup l count) may blank n h = absurd may
-once_kept b (action.Took owner.Auth l count) may blank n h = absurd may
-once_kept b (action.Took owner.Resub l count) may blank n h = absurd may
-once_kept b (action.Took owner.Monitor l count) may blank n h = absurd may
-once_kept b (action.Took (owner.Try m round) l count) may blank n h = chosen AnsweredOnce (m == n) (holds (b.story n) count) (b.story n) (λ t. h) (λ f. h)
-once_kept b (action.Push l info) may blank n h = h
-once_kept b (action.Message msg) may blank n h = h
-once_kept b (action.Monitor v) may blank n h = h
-once_kept b (action.NeedCreds c l) may blank n h = h
-once_kept b (action.Generation g) may blank n h = h
-once_kept b (action.Round owner.Setup on) may blank n h = absurd may
-once_kept b (action.Round owner.Auth on) may blank n h = absurd may
-once_kept b (action.Round owner.Resub on) may blank n h = absurd may
-once_kept b (action.Round owner.Monitor on) may blank n h = absurd may
-once_kept b (action.Round (owner.Try m round) on) may blank n h = chosen AnsweredOnce (m == n) (rounds (b.story n)) (b.story n) (λ t. h) (λ f. h)
-once_kept b (action.Close l) may blank n h = h
-once_kept b (action.Write l bytes) may blank n h = h
-once_kept b (action.Wait owner.Setup kind) may blank n h = absurd may
-once_kept b (action.Wait owner.Auth kind) may blank n h = absurd may
-once_kept b (action.Wait owner.Resub kind) may blank n h = absurd may
-once_kept b (action.Wait owner.Monitor kind) may blank n h = absurd may
-once_kept b (action.Wait (owner.Try m round) kind) may blank n h = chosen AnsweredOnce (m == n) (waits (b.story n) kind) (b.story n) (λ t. h) (λ f. h)
-once_kept b (action.Start l k owner.Setup count len) may blank n h = h
-once_kept b (action.Start l k owner.Auth count len) may blank n h = h
-once_kept b (action.Start l k owner.Resub count len) may blank n h = h
-once_kept b (action.Start l k owner.Monitor count len) may blank n h = h
-once_kept b (action.Start l k (owner.Try m round) count len) may blank n h = chosen AnsweredOnce (m == n) (tried (b.story n) l k) (b.story n) (λ t. started_once (b.story n) l k h) (λ f. h)
-once_kept b (action.Created e) may blank n h = h
-once_kept b (action.Outcome m o) may blank n h =
-    chosen AnsweredOnce (m == n) (answered (b.story n) o) (b.story n)
-    (λ t. subst (λ j. AnsweredOnce (answered (b.story j) o)) (eq_from m n t) (outcome_once b m o may))
-    (λ f. h)
+once_kept b a may blank n h =
+    action_keeps AnsweredOnce b a n (record {
+      events = record {
+        handed = λ what t. let e : b.submissions ≡ n = eq_from b.submissions n t in unanswered (b.story n).outcomes (b.story n).tries (packed_bytes what) (ap (λ (s : Story). s.outcomes) (blank n (omega arith)));
+        left = left_keeps AnsweredOnce (b.story n) (λ o. h) h;
+        fired = λ t c. fires_keeps AnsweredOnce (b.story n) (λ o. h) h;
+      };
+      timed = λ t ms what e. timer_keeps AnsweredOnce b n t what (λ r o. h) (λ c. h) h;
+      held = λ l count round e. h;
+      rounded = h;
+      waited = λ kind. h;
+      started = λ l k round count len e. started_once (b.story n) l k h;
+      answered = λ o e. outcome_once b n o (subst (MayStand b) e may);
+    }) h
 
 -- each message that it started last stands among those of its link
 abbrev pub TriesAreStarted : (ℕ → Ledger) → Story → Type 0
@@ -183,63 +136,22 @@ starts_next b l k n count len round next t e =
     (let longer : length ((b.link l).starts ++ message_of b l (owner.Try n round) ∷ []) ≡ length (b.link l).starts + 1 = length-append (b.link l).starts (message_of b l (owner.Try n round) ∷ []) in
     if_true (λ (lines : List Line). HasStarted k (noted_each (b.link l) lines)) (l == l) (begins (message_of b l (owner.Try n round)) ∷ []) [] (eq_test l l refl) (omega arith))
 
--- events start none
-event_tries : (b : Book) (n : ℕ) (kind : EventKind) (link : ℕ → Ledger) → TriesAreStarted link (b.story n) → TriesAreStarted link (after_event b n kind)
-event_tries b n (event.Submit what) link h = chosen (TriesAreStarted link) (b.submissions == n) (handed_in (b.story n) what b.shut (is_unspoken b what) (max 1 b.generation) b.current b.timeout) (b.story n) (λ t. h) (λ f. h)
-event_tries b n (event.Cancel m) link h = chosen (TriesAreStarted link) (m == n) (left (b.story n)) (b.story n) (λ t. chosen (TriesAreStarted link) (is_open (b.story n)) (record (b.story n) { cancelled = true; permits = 0; waiting = None }) (b.story n) (λ o. h) (λ o. h)) (λ f. h)
-event_tries b n (event.Connected l) link h = h
-event_tries b n (event.Refused l f) link h = h
-event_tries b n (event.Fired t) link h = chosen (TriesAreStarted link) (is_clock_of n (slice_get b.timers t)) (fires (b.story n)) (b.story n) (λ e. chosen (TriesAreStarted link) (is_open (b.story n)) (record (b.story n) { overdue = true }) (b.story n) (λ o. h) (λ o. h)) (λ f. h)
-event_tries b n (event.Timeout ms) link h = h
-event_tries b n (event.Creds c auth) link h = h
-event_tries b n (event.CredsError c text) link h = h
-event_tries b n (event.CredsEnd c) link h = h
-event_tries b n (event.Wrote l count) link h = h
-event_tries b n (event.Bytes l piece) link h = h
-event_tries b n (event.Ended l) link h = h
-event_tries b n (event.ReadFault l kind) link h = h
-event_tries b n (event.WriteFault l kind) link h = h
-event_tries b n event.DropStream link h = h
-event_tries b n event.Shutdown link h = h
-
 -- what an action does to a story, over whichever links
 tries_kept : (b : Book) (a : Action) → MayStand b a → (n : ℕ) → TriesAreStarted (entered b a).link (b.story n) → TriesAreStarted (entered b a).link ((entered b a).story n)
-tries_kept b (action.Turn k (cause.Opening config word)) may n h = h
-tries_kept b (action.Turn k (cause.Event e)) may n h = event_tries b n e.kind (entered b (action.Turn k (cause.Event e))).link h
-tries_kept b (action.Connect l host port) may n h = h
-tries_kept b (action.Timer t ms what) may n h = timer_keeps (TriesAreStarted (entered b (action.Timer t ms what)).link) b n t what (λ e o. h) (λ e. h) h
-tries_kept b (action.Took owner.Setup l count) may n h = absurd may
-tries_kept b (action.Took owner.Auth l count) may n h = absurd may
-tries_kept b (action.Took owner.Resub l count) may n h = absurd may
-tries_kept b (action.Took owner.Monitor l count) may n h = absurd may
-tries_kept b (action.Took (owner.Try m round) l count) may n h = chosen (TriesAreStarted (entered b (action.Took (owner.Try m round) l count)).link) (m == n) (holds (b.story n) count) (b.story n) (λ t. h) (λ f. h)
-tries_kept b (action.Push l info) may n h = h
-tries_kept b (action.Message msg) may n h = h
-tries_kept b (action.Monitor v) may n h = h
-tries_kept b (action.NeedCreds c l) may n h = h
-tries_kept b (action.Generation g) may n h = h
-tries_kept b (action.Round owner.Setup on) may n h = absurd may
-tries_kept b (action.Round owner.Auth on) may n h = absurd may
-tries_kept b (action.Round owner.Resub on) may n h = absurd may
-tries_kept b (action.Round owner.Monitor on) may n h = absurd may
-tries_kept b (action.Round (owner.Try m round) on) may n h = chosen (TriesAreStarted (entered b (action.Round (owner.Try m round) on)).link) (m == n) (rounds (b.story n)) (b.story n) (λ t. h) (λ f. h)
-tries_kept b (action.Close l) may n h = h
-tries_kept b (action.Write l bytes) may n h = h
-tries_kept b (action.Wait owner.Setup kind) may n h = absurd may
-tries_kept b (action.Wait owner.Auth kind) may n h = absurd may
-tries_kept b (action.Wait owner.Resub kind) may n h = absurd may
-tries_kept b (action.Wait owner.Monitor kind) may n h = absurd may
-tries_kept b (action.Wait (owner.Try m round) kind) may n h = chosen (TriesAreStarted (entered b (action.Wait (owner.Try m round) kind)).link) (m == n) (waits (b.story n) kind) (b.story n) (λ t. h) (λ f. h)
-tries_kept b (action.Start l k owner.Setup count len) may n h = h
-tries_kept b (action.Start l k owner.Auth count len) may n h = h
-tries_kept b (action.Start l k owner.Resub count len) may n h = h
-tries_kept b (action.Start l k owner.Monitor count len) may n h = h
-tries_kept b (action.Start l k (owner.Try m round) count len) may n h =
-    chosen (TriesAreStarted (entered b (action.Start l k (owner.Try m round) count len)).link) (m == n) (tried (b.story n) l k) (b.story n)
-    (λ t. subst (λ j. TriesAreStarted (entered b (action.Start l k (owner.Try m round) count len)).link (tried (b.story j) l k)) (eq_from m n t) (starts_next b l k m count len round may.1.next))
-    (λ f. h)
-tries_kept b (action.Created e) may n h = h
-tries_kept b (action.Outcome m o) may n h = chosen (TriesAreStarted (entered b (action.Outcome m o)).link) (m == n) (answered (b.story n) o) (b.story n) (λ t. h) (λ f. h)
+tries_kept b a may n h =
+    action_keeps (TriesAreStarted (entered b a).link) b a n (record {
+      events = record {
+        handed = λ what t. h;
+        left = left_keeps (TriesAreStarted (entered b a).link) (b.story n) (λ o. h) h;
+        fired = λ t c. fires_keeps (TriesAreStarted (entered b a).link) (b.story n) (λ o. h) h;
+      };
+      timed = λ t ms what e. timer_keeps (TriesAreStarted (entered b a).link) b n t what (λ r o. h) (λ c. h) h;
+      held = λ l count round e. h;
+      rounded = h;
+      waited = λ kind. h;
+      started = λ l k round count len e. subst (λ (x : Action). TriesAreStarted (entered b x).link (tried (b.story n) l k)) (sym e) (starts_next b l k n count len round (subst (MayStand b) e may).1.next);
+      answered = λ o e. h;
+    }) h
 
 -- each stays so
 pub starts_kept : (b : Book) (a : Action) → MayStand b a → (n : ℕ) → TriesAreStarted b.link (b.story n) → TriesAreStarted (entered b a).link ((entered b a).story n)

@@ -1,7 +1,6 @@
 -- The timers of submissions: one at most for each, of the time that was in force where it was handed in, once it holds its permits.
 use Rattle.std.proofs.Common.{◌≡◌, ◌⊎◌, inl, inr, ℕ, ◌<◌, ◌≤◌, ◌==◌, Bool, true, false, List, [], ◌∷◌, ◌++◌, Option, Some, None, is_some, refl, sym, ◌∙◌, ap, subst, arith, max}
-use Rattle.std.specs.Prelude.{slice_get}
-use Rattle.containers.proofs.Choices.{chosen, if_true, left_if, eq_test, ne_test, lt_from}
+use Rattle.containers.proofs.Choices.{if_true, eq_test, ne_test, lt_from}
 use Rattle.driver_model.specs.declared.action.Action.{Action}
 use Rattle.driver_model.specs.declared.action.Action.TheVariants as action
 use Rattle.driver_model.specs.declared.action.Cause.TheVariants as cause
@@ -13,10 +12,11 @@ use Rattle.driver_model.specs.declared.event.Event.{Event}
 use Rattle.driver_model.specs.declared.event.EventKind.{EventKind}
 use Rattle.driver_model.specs.declared.event.EventKind.TheVariants as event
 use Rattle.driver_model.specs.declared.event.Submission.{Submission}
-use Rattle.legal_trace.specs.Story.{Story, is_open, handed_in, left, holds, clocked, rounds, fires, tried, waits, answered}
-use Rattle.legal_trace.specs.Book.{is_of_connect, is_rest, Book, blank_book, book, entered, entered_each, is_clock_of, after_event, is_unspoken}
+use Rattle.legal_trace.specs.Story.{Story, handed_in, left, clocked, answered}
+use Rattle.legal_trace.specs.Book.{is_of_connect, is_rest, Book, blank_book, book, entered, entered_each, after_event, is_unspoken}
 use Rattle.legal_trace.specs.Steps.{permits_in}
 use Rattle.legal_trace.proofs.Clocks.{timer_keeps}
+use Rattle.legal_laws.proofs.Submissions.Steps.{action_keeps, fires_keeps, left_keeps}
 use Rattle.legal_trace.specs.Legal.{MayTimer, MayTime, MayStand, AllStand, Legal}
 use Rattle.legal_trace.proofs.Books.{stand_behind}
 use Rattle.legal_laws.specs.Permits.{IsAsking, AsksTimers}
@@ -54,60 +54,22 @@ asked_of b t ms n round may =
 abbrev Clocked : Story → Type 0
 Clocked s = is_some s.clock ≡ true
 
--- so it does with an event
-event_clocked : (b : Book) (n : ℕ) (kind : EventKind) → Clocked (b.story n) → Clocked (after_event b n kind)
-event_clocked b n (event.Submit what) h = chosen Clocked (b.submissions == n) (handed_in (b.story n) what b.shut (is_unspoken b what) (max 1 b.generation) b.current b.timeout) (b.story n) (λ t. h) (λ f. h)
-event_clocked b n (event.Cancel m) h = chosen Clocked (m == n) (left (b.story n)) (b.story n) (λ t. chosen Clocked (is_open (b.story n)) (record (b.story n) { cancelled = true; permits = 0; waiting = None }) (b.story n) (λ o. h) (λ o. h)) (λ f. h)
-event_clocked b n (event.Fired t) h = chosen Clocked (is_clock_of n (slice_get b.timers t)) (fires (b.story n)) (b.story n) (λ e. chosen Clocked (is_open (b.story n)) (record (b.story n) { overdue = true }) (b.story n) (λ o. h) (λ o. h)) (λ f. h)
-event_clocked b n (event.Connected l) h = h
-event_clocked b n (event.Refused l f) h = h
-event_clocked b n (event.Wrote l count) h = h
-event_clocked b n (event.Bytes l piece) h = h
-event_clocked b n (event.Ended l) h = h
-event_clocked b n (event.ReadFault l kind) h = h
-event_clocked b n (event.WriteFault l kind) h = h
-event_clocked b n (event.Timeout ms) h = h
-event_clocked b n (event.Creds c auth) h = h
-event_clocked b n (event.CredsError c text) h = h
-event_clocked b n (event.CredsEnd c) h = h
-event_clocked b n event.DropStream h = h
-event_clocked b n event.Shutdown h = h
-
 -- with each action
 clock_stays : (b : Book) (a : Action) (n : ℕ) → Clocked (b.story n) → Clocked ((entered b a).story n)
-clock_stays b (action.Turn k (cause.Opening config word)) n h = h
-clock_stays b (action.Turn k (cause.Event e)) n h = event_clocked b n e.kind h
-clock_stays b (action.Connect m host port) n h = h
-clock_stays b (action.Timer t ms what) n h = timer_keeps Clocked b n t what (λ e o. h) (λ e. refl) h
-clock_stays b (action.Took owner.Setup l count) n h = h
-clock_stays b (action.Took owner.Auth l count) n h = h
-clock_stays b (action.Took owner.Resub l count) n h = h
-clock_stays b (action.Took owner.Monitor l count) n h = h
-clock_stays b (action.Took (owner.Try m round) l count) n h = chosen Clocked (m == n) (holds (b.story n) count) (b.story n) (λ e. h) (λ f. h)
-clock_stays b (action.Push m info) n h = h
-clock_stays b (action.Message msg) n h = h
-clock_stays b (action.Monitor v) n h = h
-clock_stays b (action.NeedCreds c m) n h = h
-clock_stays b (action.Generation g) n h = h
-clock_stays b (action.Round owner.Setup on) n h = h
-clock_stays b (action.Round owner.Auth on) n h = h
-clock_stays b (action.Round owner.Resub on) n h = h
-clock_stays b (action.Round owner.Monitor on) n h = h
-clock_stays b (action.Round (owner.Try m round) on) n h = chosen Clocked (m == n) (rounds (b.story n)) (b.story n) (λ e. h) (λ f. h)
-clock_stays b (action.Close m) n h = h
-clock_stays b (action.Write m bytes) n h = h
-clock_stays b (action.Wait owner.Setup kind) n h = h
-clock_stays b (action.Wait owner.Auth kind) n h = h
-clock_stays b (action.Wait owner.Resub kind) n h = h
-clock_stays b (action.Wait owner.Monitor kind) n h = h
-clock_stays b (action.Wait (owner.Try m round) kind) n h = chosen Clocked (m == n) (waits (b.story n) kind) (b.story n) (λ e. h) (λ f. h)
-clock_stays b (action.Start l k owner.Setup count len) n h = h
-clock_stays b (action.Start l k owner.Auth count len) n h = h
-clock_stays b (action.Start l k owner.Resub count len) n h = h
-clock_stays b (action.Start l k owner.Monitor count len) n h = h
-clock_stays b (action.Start l k (owner.Try m round) count len) n h = chosen Clocked (m == n) (tried (b.story n) l k) (b.story n) (λ e. h) (λ f. h)
-clock_stays b (action.Created e) n h = h
-clock_stays b (action.Outcome m o) n h = chosen Clocked (m == n) (answered (b.story n) o) (b.story n) (λ e. h) (λ f. h)
+clock_stays b a n h =
+    action_keeps Clocked b a n (record {
+      events = record {
+        handed = λ what t. h;
+        left = left_keeps Clocked (b.story n) (λ o. h) h;
+        fired = λ t c. fires_keeps Clocked (b.story n) (λ o. h) h;
+      };
+      timed = λ t ms what e. timer_keeps Clocked b n t what (λ r o. h) (λ c. refl) h;
+      held = λ l count round e. h;
+      rounded = h;
+      waited = λ kind. h;
+      started = λ l k round count len e. h;
+      answered = λ o e. h;
+    }) h
 
 -- and with many
 each_clocked : (b : Book) (front : List Action) (n : ℕ) → Clocked (b.story n) → Clocked ((entered_each b front).story n)
@@ -134,61 +96,21 @@ once_behind b middle more a c n all first second =
     let x : false ≡ true = sym (ap is_some none) ∙ some in cc x
 
 -- a submission keeps the time within which it is to be answered
-event_timeout : (b : Book) (n : ℕ) (kind : EventKind) → n < b.submissions → (after_event b n kind).timeout ≡ (b.story n).timeout
-event_timeout b n (event.Submit what) i = ap (λ (s : Story). s.timeout) (left_if (b.submissions == n) (handed_in (b.story n) what b.shut (is_unspoken b what) (max 1 b.generation) b.current b.timeout) (b.story n) (ne_test b.submissions n (omega arith)))
-event_timeout b n (event.Cancel m) i = chosen (λ (s : Story). s.timeout ≡ (b.story n).timeout) (m == n) (left (b.story n)) (b.story n)
-    (λ t. chosen (λ (s : Story). s.timeout ≡ (b.story n).timeout) (is_open (b.story n)) (record (b.story n) { cancelled = true; permits = 0; waiting = None }) (b.story n) (λ o. refl) (λ o. refl)) (λ f. refl)
-event_timeout b n (event.Fired t) i = chosen (λ (s : Story). s.timeout ≡ (b.story n).timeout) (is_clock_of n (slice_get b.timers t)) (fires (b.story n)) (b.story n)
-    (λ e. chosen (λ (s : Story). s.timeout ≡ (b.story n).timeout) (is_open (b.story n)) (record (b.story n) { overdue = true }) (b.story n) (λ o. refl) (λ o. refl)) (λ f. refl)
-event_timeout b n (event.Connected l) i = refl
-event_timeout b n (event.Refused l f) i = refl
-event_timeout b n (event.Wrote l count) i = refl
-event_timeout b n (event.Bytes l piece) i = refl
-event_timeout b n (event.Ended l) i = refl
-event_timeout b n (event.ReadFault l kind) i = refl
-event_timeout b n (event.WriteFault l kind) i = refl
-event_timeout b n (event.Timeout ms) i = refl
-event_timeout b n (event.Creds c auth) i = refl
-event_timeout b n (event.CredsError c text) i = refl
-event_timeout b n (event.CredsEnd c) i = refl
-event_timeout b n event.DropStream i = refl
-event_timeout b n event.Shutdown i = refl
-
--- so it does with each action
 timeout_stays : (b : Book) (a : Action) (n : ℕ) → n < b.submissions → ((entered b a).story n).timeout ≡ (b.story n).timeout
-timeout_stays b (action.Turn k (cause.Opening config word)) n i = refl
-timeout_stays b (action.Turn k (cause.Event e)) n i = event_timeout b n e.kind i
-timeout_stays b (action.Connect m host port) n i = refl
-timeout_stays b (action.Timer t ms what) n i = timer_keeps (λ (s : Story). s.timeout ≡ (b.story n).timeout) b n t what (λ e o. refl) (λ e. refl) refl
-timeout_stays b (action.Took owner.Setup l count) n i = refl
-timeout_stays b (action.Took owner.Auth l count) n i = refl
-timeout_stays b (action.Took owner.Resub l count) n i = refl
-timeout_stays b (action.Took owner.Monitor l count) n i = refl
-timeout_stays b (action.Took (owner.Try m round) l count) n i = chosen (λ (s : Story). s.timeout ≡ (b.story n).timeout) (m == n) (holds (b.story n) count) (b.story n) (λ e. refl) (λ f. refl)
-timeout_stays b (action.Push m info) n i = refl
-timeout_stays b (action.Message msg) n i = refl
-timeout_stays b (action.Monitor v) n i = refl
-timeout_stays b (action.NeedCreds c m) n i = refl
-timeout_stays b (action.Generation g) n i = refl
-timeout_stays b (action.Round owner.Setup on) n i = refl
-timeout_stays b (action.Round owner.Auth on) n i = refl
-timeout_stays b (action.Round owner.Resub on) n i = refl
-timeout_stays b (action.Round owner.Monitor on) n i = refl
-timeout_stays b (action.Round (owner.Try m round) on) n i = chosen (λ (s : Story). s.timeout ≡ (b.story n).timeout) (m == n) (rounds (b.story n)) (b.story n) (λ e. refl) (λ f. refl)
-timeout_stays b (action.Close m) n i = refl
-timeout_stays b (action.Write m bytes) n i = refl
-timeout_stays b (action.Wait owner.Setup kind) n i = refl
-timeout_stays b (action.Wait owner.Auth kind) n i = refl
-timeout_stays b (action.Wait owner.Resub kind) n i = refl
-timeout_stays b (action.Wait owner.Monitor kind) n i = refl
-timeout_stays b (action.Wait (owner.Try m round) kind) n i = chosen (λ (s : Story). s.timeout ≡ (b.story n).timeout) (m == n) (waits (b.story n) kind) (b.story n) (λ e. refl) (λ f. refl)
-timeout_stays b (action.Start l k owner.Setup count len) n i = refl
-timeout_stays b (action.Start l k owner.Auth count len) n i = refl
-timeout_stays b (action.Start l k owner.Resub count len) n i = refl
-timeout_stays b (action.Start l k owner.Monitor count len) n i = refl
-timeout_stays b (action.Start l k (owner.Try m round) count len) n i = chosen (λ (s : Story). s.timeout ≡ (b.story n).timeout) (m == n) (tried (b.story n) l k) (b.story n) (λ e. refl) (λ f. refl)
-timeout_stays b (action.Created e) n i = refl
-timeout_stays b (action.Outcome m o) n i = chosen (λ (s : Story). s.timeout ≡ (b.story n).timeout) (m == n) (answered (b.story n) o) (b.story n) (λ e. refl) (λ f. refl)
+timeout_stays b a n i =
+    action_keeps (λ (s : Story). s.timeout ≡ (b.story n).timeout) b a n (record {
+      events = record {
+        handed = λ what e. absurd (not_both (b.submissions == n) (ne_test b.submissions n (omega (arith, i))) e);
+        left = left_keeps (λ (s : Story). s.timeout ≡ (b.story n).timeout) (b.story n) (λ o. refl) refl;
+        fired = λ t c. fires_keeps (λ (s : Story). s.timeout ≡ (b.story n).timeout) (b.story n) (λ o. refl) refl;
+      };
+      timed = λ t ms what e. timer_keeps (λ (s : Story). s.timeout ≡ (b.story n).timeout) b n t what (λ r o. refl) (λ c. refl) refl;
+      held = λ l count round e. refl;
+      rounded = refl;
+      waited = λ kind. refl;
+      started = λ l k round count len e. refl;
+      answered = λ o e. refl;
+    }) refl
 
 -- and with many
 each_timeout : (b : Book) (front : List Action) (n : ℕ) → n < b.submissions → ((entered_each b front).story n).timeout ≡ (b.story n).timeout
