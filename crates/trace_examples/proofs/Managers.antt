@@ -128,21 +128,49 @@ manager_fronts_stand word =
     let left = repeats_what_is word in
     let without = goes_on_without word in (
       front_of _ _ _ (opened_lazily lazy_once word) _ once refl,
-      (front_of _ _ _ (failed_so lazy_once word) _ once refl,
-      (front_of _ _ _ (begun_next lazy_once word) _ once refl,
-      (front_of _ _ _ (replaced lazy_once word) _ once refl,
-      (front_of _ _ _ (attempt_failed 250 trying_twice word) _ twice refl,
-      (front_of _ _ _ (resting 250 50 trying_twice word) _ twice refl,
-      (front_of _ _ _ (asked_in_vain trying_twice word) _ twice refl,
-      (front_of _ _ _ (failed_again trying_thrice word) _ thrice refl,
-      (front_of _ _ _ (subscribed_c resubscribing word) _ back refl,
-      (front_of _ _ _ (lost resubscribing word) _ back refl,
-      (front_of _ _ _ (set_up_again resubscribing word) _ back refl,
-      (front_of _ _ _ (repeated resubscribing word) _ back refl,
-      (front_of _ _ _ (repeated_well resubscribing word) _ back refl,
-      (stands (replied_there resubscribing word) refl (at_repeated, (refl, (refl, (refl, (refl, (refl, (refl, (refl, (refl, (at_repeated, (refl, (refl, tt)))))))))))),
-      (front_of _ _ _ (left_d resubscribing word) _ left refl,
-      (front_of _ _ _ (up_in_time resubscribing_in_time word) _ without refl, tt))))))))))))))),
+      (
+        front_of _ _ _ (failed_so lazy_once word) _ once refl,
+        (
+          front_of _ _ _ (begun_next lazy_once word) _ once refl,
+          (
+            front_of _ _ _ (replaced lazy_once word) _ once refl,
+            (
+              front_of _ _ _ (attempt_failed 250 trying_twice word) _ twice refl,
+              (
+                front_of _ _ _ (resting 250 50 trying_twice word) _ twice refl,
+                (
+                  front_of _ _ _ (asked_in_vain trying_twice word) _ twice refl,
+                  (
+                    front_of _ _ _ (failed_again trying_thrice word) _ thrice refl,
+                    (
+                      front_of _ _ _ (subscribed_c resubscribing word) _ back refl,
+                      (
+                        front_of _ _ _ (lost resubscribing word) _ back refl,
+                        (
+                          front_of _ _ _ (set_up_again resubscribing word) _ back refl,
+                          (
+                            front_of _ _ _ (repeated resubscribing word) _ back refl,
+                            (
+                              front_of _ _ _ (repeated_well resubscribing word) _ back refl,
+                              (
+                                stands (replied_there resubscribing word) refl (at_repeated, (refl, (refl, (refl, (refl, (refl, (refl, (refl, (refl, (at_repeated, (refl, (refl, tt)))))))))))),
+                                (
+                                  front_of _ _ _ (left_d resubscribing word) _ left refl,
+                                  (front_of _ _ _ (up_in_time resubscribing_in_time word) _ without refl, tt),
+                                ),
+                              ),
+                            ),
+                          ),
+                        ),
+                      ),
+                    ),
+                  ),
+                ),
+              ),
+            ),
+          ),
+        ),
+      ),
     )
 
 -- a lazy one that begins as it opens
