@@ -1,7 +1,7 @@
 -- Whoever's timer fired while it was open starts no message.
-use Rattle.std.proofs.Common.{◌≡◌, ◌⊎◌, inl, inr, ℕ, ◌<◌, ◌≤◌, ◌==◌, true, List, [], ◌∷◌, ◌++◌, refl, sym, ◌∙◌, subst, arith}
+use Rattle.std.proofs.Common.{◌≡◌, ◌⊎◌, inl, inr, ℕ, ◌<◌, ◌≤◌, ◌==◌, true, List, [], ◌∷◌, ◌++◌, None, refl, sym, ◌∙◌, subst, arith}
 use Rattle.std.specs.Prelude.{slice_get}
-use Rattle.containers.proofs.Choices.{taken_if, ne_test, not_both}
+use Rattle.containers.proofs.Choices.{by_test, left_if, taken_if, ne_test, not_both}
 use Rattle.driver_model.specs.declared.action.Action.{Action}
 use Rattle.driver_model.specs.declared.action.Action.TheVariants as action
 use Rattle.driver_model.specs.declared.action.Cause.TheVariants as cause
@@ -13,7 +13,7 @@ use Rattle.driver_model.specs.declared.outcome.Outcome.{Outcome}
 use Rattle.legal_trace.specs.Story.{Story, is_open, is_unstarted, left, fires, tried, answered}
 use Rattle.legal_trace.specs.Book.{Book, blank_book, book, entered, entered_each, is_clock_of, after_event}
 use Rattle.legal_trace.proofs.Clocks.{timer_keeps}
-use Rattle.legal_laws.proofs.Submissions.Steps.{action_keeps, fires_keeps, left_keeps}
+use Rattle.legal_laws.proofs.Submissions.Steps.{action_keeps, fires_keeps}
 use Rattle.legal_trace.specs.Legal.{MayStand, MayAnswer, MayTell, AllStand, IsOpen, IsApplied, Legal}
 use Rattle.legal_trace.proofs.Books.{stand_front, stand_behind}
 use Rattle.legal_trace.proofs.Plain.{not_empty}
@@ -45,7 +45,8 @@ over_kept b a may n i h =
     action_keeps IsOver b a n (record {
       events = record {
         handed = λ what e. absurd (not_both (b.submissions == n) (ne_test b.submissions n (omega (arith, i))) e);
-        left = left_keeps IsOver (b.story n) (λ o u. absurd (leaver_is_done (b.story n) o u)) h;
+        left = by_test (is_open (b.story n)) (IsOver (left (b.story n))) (λ o u. absurd (leaver_is_done (b.story n) o u))
+            (λ f. subst IsOver (sym (left_if (is_open (b.story n)) (record (b.story n) { cancelled = true; permits = 0; waiting = None }) (b.story n) f)) h);
         fired = λ t c. fires_keeps IsOver (b.story n) (λ o u. (o, refl)) h;
       };
       timed = λ t ms what e. timer_keeps IsOver b n t what (λ r o. h) (λ c. h) h;

@@ -1,6 +1,6 @@
 -- The timers of submissions: one at most for each, of the time that was in force where it was handed in, once it holds its permits.
 use Rattle.std.proofs.Common.{◌≡◌, ◌⊎◌, inl, inr, ℕ, ◌<◌, ◌≤◌, ◌==◌, Bool, true, false, List, [], ◌∷◌, ◌++◌, Option, Some, None, is_some, refl, sym, ◌∙◌, ap, subst, arith, max}
-use Rattle.containers.proofs.Choices.{if_true, eq_test, ne_test, lt_from}
+use Rattle.containers.proofs.Choices.{not_both, if_true, eq_test, ne_test, lt_from}
 use Rattle.driver_model.specs.declared.action.Action.{Action}
 use Rattle.driver_model.specs.declared.action.Action.TheVariants as action
 use Rattle.driver_model.specs.declared.action.Cause.TheVariants as cause
