@@ -1,4 +1,4 @@
-pub mod Tie
+pub mod Ties
 pub mod Requests
 pub mod Links
 pub mod Internal

@@ -14,7 +14,7 @@ use Rattle.legal_trace.specs.Ledger.{End, Ending, Ledger, by_attempt, by_fault, 
 use Rattle.session_laws.proofs.Turn.Announce.{heard_starts}
 use Rattle.session_laws.proofs.Internal.Repeats.{HasServed, IsHeld, TiedRepeat, again_hear, held_alike}
 use Rattle.session_laws.proofs.Links.Said.{ready_life}
-use Rattle.session_laws.proofs.Tie.Tied.{Inner, Tied, has_ended, inner}
+use Rattle.session_laws.proofs.Ties.Tied.{Inner, Tied, has_ended, inner}
 
 -- it is to start then, or there is nothing
 pub early_held : (l : Ledger) (calls : List Call) (within : Option ℕ) (a : Again) (life : Life) → is_resting life ≡ false → is_ready_life life ≡ false → has_ended life ≡ false → TiedRepeat l calls within a life → IsHeld l calls within a

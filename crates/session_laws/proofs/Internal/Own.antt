@@ -15,7 +15,7 @@ use Rattle.mux_conn.specs.Renewals.{is_done, renewal_id, renewing, replied}
 use Rattle.mux_conn.specs.Repeats.{repeat_id, repeating}
 use Rattle.redis_error.specs.declared.redis_error.RedisError.{RedisError}
 use Rattle.link_laws.specs.Settles.{settled_ids}
-use Rattle.session_laws.proofs.Tie.Numbers.{IsIn, repeat_other}
+use Rattle.session_laws.proofs.Ties.Numbers.{IsIn, repeat_other}
 use Rattle.session_laws.proofs.Requests.Settle.{Leaves, own_each, replied_each}
 
 -- the reply to what is subscribed again is one of these

@@ -15,11 +15,11 @@ use Rattle.mux_conn.specs.Renewals.{asked_next, told_next}
 use Rattle.legal_trace.specs.Ledger.{Ledger, Start, begins, cut, is_done, is_full, is_of_renewal, is_taken, last_renewal, noted, reach, renewal_count, renewal_due, renewals_asked, times, Sourced}
 use Rattle.legal_trace.specs.Steps.{renewals_in_line}
 use Rattle.legal_trace.proofs.Renewals.{taken_begins}
-use Rattle.session_laws.proofs.Tie.Names.{get_more}
+use Rattle.session_laws.proofs.Ties.Names.{get_more}
 use Rattle.containers.proofs.Places.{get_within}
 use Rattle.legal_trace.specs.Book.{Book}
 use Rattle.session_laws.proofs.Links.Server.{AreFullBefore, AreRenewed, IsLost, IsTold, NoneRenewed, TiedRenewal, timed_of}
-use Rattle.session_laws.proofs.Tie.Tied.{Inner, Tied, TiedLife, has_ended}
+use Rattle.session_laws.proofs.Ties.Tied.{Inner, Tied, TiedLife, has_ended}
 use Rattle.session_laws.proofs.Links.SetUp.{begun_open}
 
 -- what is told next

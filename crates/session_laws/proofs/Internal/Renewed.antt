@@ -29,9 +29,9 @@ use Rattle.session_laws.proofs.Turn.Heard.{heard_by, book_kind, book_news, ended
 use Rattle.session_laws.proofs.Internal.Renewals.{due_is, due_well, none_renewed_due, renewed_alike}
 use Rattle.session_laws.proofs.Links.Said.{recredited, setup_on, setup_recredited, well_on, well_recredited, mild_end, renoticed}
 use Rattle.session_laws.proofs.Requests.Settle.{renewal_over, seen, trace_of_acts}
-use Rattle.session_laws.proofs.Tie.States.{Between, HasApplied, trace_with}
+use Rattle.session_laws.proofs.Ties.States.{Between, HasApplied, trace_with}
 use Rattle.session_laws.proofs.Links.Server.{AreRenewed, AreSought, NoneRenewed, TiedCreds, TiedRenewal, TiedSetup, on_link}
-use Rattle.session_laws.proofs.Tie.Tied.{Tied, TiedLife, carried, has_ended, inner, whole_link}
+use Rattle.session_laws.proofs.Ties.Tied.{Tied, TiedLife, carried, has_ended, inner, whole_link}
 use Rattle.session_laws.proofs.Links.ComeUp.{early_sources}
 use Rattle.session_laws.proofs.Internal.Repeats.{TiedRepeat, repeat_alike}
 

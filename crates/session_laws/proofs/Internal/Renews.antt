@@ -34,20 +34,20 @@ use Rattle.legal_trace.specs.Ledger.{Ledger, Start, begins, is_of_setup, noted, 
 use Rattle.legal_trace.specs.Legal.{MayRenew, MayTimeRenewal, NoneEnds}
 use Rattle.legal_trace.specs.Story.{Story}
 use Rattle.legal_trace.proofs.Setups.{count_more}
-use Rattle.session_laws.proofs.Tie.Ahead.{held_by}
+use Rattle.session_laws.proofs.Ties.Ahead.{held_by}
 use Rattle.session_laws.proofs.Requests.Going.{HasRenewed, applied_up, none_ends_kept, none_ends_mine, renewals_timed, setups_started, monitors_started}
-use Rattle.session_laws.proofs.Tie.InLine.{kept_ids}
-use Rattle.session_laws.proofs.Tie.Kept.{mine_noted, others_kept, tied_by}
-use Rattle.session_laws.proofs.Tie.Names.{get_more, owner_of_auth}
-use Rattle.session_laws.proofs.Tie.Numbers.{IsIn, Rising, in_left, requests_behind, requests_in, requests_in-append, auth_is_own, is_own}
+use Rattle.session_laws.proofs.Ties.InLine.{kept_ids}
+use Rattle.session_laws.proofs.Ties.Kept.{mine_noted, others_kept, tied_by}
+use Rattle.session_laws.proofs.Ties.Names.{get_more, owner_of_auth}
+use Rattle.session_laws.proofs.Ties.Numbers.{IsIn, Rising, in_left, requests_behind, requests_in, requests_in-append, auth_is_own, is_own}
 use Rattle.session_laws.proofs.Internal.Renewals.{auth_renewed, asked_renewed, down_renewed_due, due_first, due_is, some_wait, timed_renewed}
 use Rattle.session_laws.proofs.Links.SetUp.{set_up_begins, setups_begins}
 use Rattle.session_laws.proofs.Requests.Settle.{Holds, book_of_more, renewal_tied, seen, sound_act, trace_of_acts}
 use Rattle.session_laws.proofs.Requests.Start.{not_setting, on_link, owners-append, owners_each-append, owners_length, setup_owners-append}
 use Rattle.session_laws.proofs.Requests.Starts.{begins_ends_none}
-use Rattle.session_laws.proofs.Tie.States.{IsFit}
+use Rattle.session_laws.proofs.Ties.States.{IsFit}
 use Rattle.session_laws.proofs.Links.Server.{AreRenewed, TiedRenewal, setup_owners, timed_of}
-use Rattle.session_laws.proofs.Tie.Tied.{AreAimed, Inner, IsAim, IsEntry, Tied, TiedTries, numbers_kept, owner_of, owners_each, queue_ids}
+use Rattle.session_laws.proofs.Ties.Tied.{AreAimed, Inner, IsAim, IsEntry, Tied, TiedTries, numbers_kept, owner_of, owners_each, queue_ids}
 use Rattle.session_laws.proofs.Links.Took.{queue_waits}
 use Rattle.mux_conn.specs.declared.life.Greeting.TheVariants as greet
 use Rattle.driver_model.specs.Hearing.{is_watching}

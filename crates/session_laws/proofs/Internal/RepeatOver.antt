@@ -31,8 +31,8 @@ use Rattle.session_laws.proofs.Links.SameSaid.{set_alike}
 use Rattle.session_laws.proofs.Internal.Served.{served_rounds, served_waits}
 use Rattle.session_laws.proofs.Internal.Serving.{answered_serves, outstanding_serves}
 use Rattle.session_laws.proofs.Requests.Settle.{seen, trace_of_acts}
-use Rattle.session_laws.proofs.Tie.States.{Between, HasApplied}
-use Rattle.session_laws.proofs.Tie.Tied.{Tied, TiedLife, TiedRounds, TiedWaits, carried, has_ended, inner, whole_link}
+use Rattle.session_laws.proofs.Ties.States.{Between, HasApplied}
+use Rattle.session_laws.proofs.Ties.Tied.{Tied, TiedLife, TiedRounds, TiedWaits, carried, has_ended, inner, whole_link}
 
 -- the ledger of a link on which it is given up
 abbrev given_up : Ledger → Ledger

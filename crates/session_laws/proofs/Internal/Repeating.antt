@@ -13,8 +13,8 @@ use Rattle.legal_trace.specs.Ledger.{again_due}
 use Rattle.legal_trace.specs.Legal.{RepeatsAreTimed, RepeatsAreStarted}
 use Rattle.legal_trace.specs.Steps.{is_held_back}
 use Rattle.legal_trace.proofs.Again.{again_is_up}
-use Rattle.session_laws.proofs.Tie.Names.{get_more}
-use Rattle.session_laws.proofs.Tie.Tied.{AreAimed, Inner, IsAim, Tied}
+use Rattle.session_laws.proofs.Ties.Names.{get_more}
+use Rattle.session_laws.proofs.Ties.Tied.{AreAimed, Inner, IsAim, Tied}
 
 -- a timer more for the link
 pub aims_repeated : (timers : List Purpose) (link count : ℕ) → AreAimed timers link count → AreAimed (timers ++ purpose.Resubscription link ∷ []) link count

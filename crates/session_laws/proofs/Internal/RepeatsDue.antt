@@ -14,14 +14,14 @@ use Rattle.legal_trace.specs.Book.{Book}
 use Rattle.legal_trace.specs.Ledger.{Ledger, again_due, is_set_up}
 use Rattle.legal_trace.specs.Legal.{RepeatsAreTimed, RepeatsAreStarted}
 use Rattle.legal_trace.proofs.Again.{again_is_set, again_is_up}
-use Rattle.session_laws.proofs.Tie.Ahead.{held_by}
+use Rattle.session_laws.proofs.Ties.Ahead.{held_by}
 use Rattle.session_laws.proofs.Links.Creds.{wanting_lacks}
 use Rattle.session_laws.proofs.Internal.Repeating.{HasRepeated, repeats_started, repeats_timed}
 use Rattle.session_laws.proofs.Internal.Repeats.{IsRepeated, TiedRepeat, to_start_is}
 use Rattle.session_laws.proofs.Links.Server.{AreSought, HasSaid}
 use Rattle.session_laws.proofs.Internal.Serving.{answered_started}
 use Rattle.session_laws.proofs.Links.SetUp.{not_set_up, lacking_unset}
-use Rattle.session_laws.proofs.Tie.Tied.{Inner, Tied, TiedLife, carried, has_ended, owner_of, whole_link}
+use Rattle.session_laws.proofs.Ties.Tied.{Inner, Tied, TiedLife, carried, has_ended, owner_of, whole_link}
 
 -- nothing is to start on a link that takes requests
 pub served_repeated : (a : Again) (life : Life) → is_outstanding a ≡ false → HasRepeated a life

@@ -31,12 +31,12 @@ use Rattle.legal_trace.specs.Ledger.{Ledger, Start, again_due, begins, is_of_aga
 use Rattle.legal_trace.specs.Story.{Story}
 use Rattle.mux_conn.specs.declared.request.Request.{Request}
 use Rattle.legal_trace.specs.Legal.{MayRepeat, MayTimeRepeat, NoneEnds}
-use Rattle.session_laws.proofs.Tie.Ahead.{held_by}
+use Rattle.session_laws.proofs.Ties.Ahead.{held_by}
 use Rattle.session_laws.proofs.Requests.Going.{applied_up, monitors_started, none_ends_kept, none_ends_mine, setups_started}
-use Rattle.session_laws.proofs.Tie.InLine.{kept_ids}
-use Rattle.session_laws.proofs.Tie.Kept.{mine_noted, others_kept, tied_by}
-use Rattle.session_laws.proofs.Tie.Names.{owner_of_repeat}
-use Rattle.session_laws.proofs.Tie.Numbers.{IsIn, Rising, repeat_is_own, requests_behind, requests_in, requests_in-append}
+use Rattle.session_laws.proofs.Ties.InLine.{kept_ids}
+use Rattle.session_laws.proofs.Ties.Kept.{mine_noted, others_kept, tied_by}
+use Rattle.session_laws.proofs.Ties.Names.{owner_of_repeat}
+use Rattle.session_laws.proofs.Ties.Numbers.{IsIn, Rising, repeat_is_own, requests_behind, requests_in, requests_in-append}
 use Rattle.session_laws.proofs.Internal.Renewals.{begins_renewed, renewal_alike}
 use Rattle.session_laws.proofs.Internal.Renews.{one_link, tries_told, wanted_told}
 use Rattle.session_laws.proofs.Internal.Repeating.{HasRepeated, aims_repeated, due_here, repeats_timed as all_timed}
@@ -45,8 +45,8 @@ use Rattle.session_laws.proofs.Links.SetUp.{begun_open, set_up_begins, setups_be
 use Rattle.session_laws.proofs.Requests.Settle.{Holds, book_of_more, seen, sound_act, trace_of_acts}
 use Rattle.session_laws.proofs.Requests.Start.{not_setting, on_link}
 use Rattle.session_laws.proofs.Requests.Starts.{begins_ends_none}
-use Rattle.session_laws.proofs.Tie.States.{IsFit}
-use Rattle.session_laws.proofs.Tie.Tied.{Inner, IsEntry, Tied, TiedNumbers, TiedWaits, numbers_kept, owner_of, queue_ids}
+use Rattle.session_laws.proofs.Ties.States.{IsFit}
+use Rattle.session_laws.proofs.Ties.Tied.{Inner, IsEntry, Tied, TiedNumbers, TiedWaits, numbers_kept, owner_of, queue_ids}
 use Rattle.session_laws.proofs.Links.Took.{queue_waits}
 
 -- the session on this link, with this to be subscribed again, whose timer was asked for or not

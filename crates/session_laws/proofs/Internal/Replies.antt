@@ -31,15 +31,15 @@ use Rattle.legal_trace.specs.Ledger.{Ledger, Start, bytes_came, cut, is_full, is
 use Rattle.legal_trace.proofs.Came.{bytes_are, grown, holds_came}
 use Rattle.legal_trace.proofs.Renewals.{last_told, taken_more}
 use Rattle.legal_trace.proofs.Setups.{full_stays}
-use Rattle.session_laws.proofs.Tie.InLine.{row_ids, wanted_in}
-use Rattle.session_laws.proofs.Tie.Names.{auth_owner, owner_of_auth}
-use Rattle.session_laws.proofs.Tie.Numbers.{IsIn, in_left, in_right, in_either, is_own, auth_is_own}
-use Rattle.session_laws.proofs.Tie.Owes.{wanted_entry}
+use Rattle.session_laws.proofs.Ties.InLine.{row_ids, wanted_in}
+use Rattle.session_laws.proofs.Ties.Names.{auth_owner, owner_of_auth}
+use Rattle.session_laws.proofs.Ties.Numbers.{IsIn, in_left, in_right, in_either, is_own, auth_is_own}
+use Rattle.session_laws.proofs.Ties.Owes.{wanted_entry}
 use Rattle.session_laws.proofs.Requests.Settle.{replied_each}
 use Rattle.session_laws.proofs.Links.Server.{AreFullBefore, AreRenewed, IsLost, IsTold}
-use Rattle.session_laws.proofs.Tie.Tied.{IsEntry, owner_of}
-use Rattle.session_laws.proofs.Tie.More.{full_more}
-use Rattle.session_laws.proofs.Tie.New.{read_new}
+use Rattle.session_laws.proofs.Ties.Tied.{IsEntry, owner_of}
+use Rattle.session_laws.proofs.Ties.More.{full_more}
+use Rattle.session_laws.proofs.Ties.New.{read_new}
 use Rattle.session_laws.proofs.Internal.Renewals.{renewed_alike}
 
 -- AUTH's number

@@ -26,16 +26,16 @@ use Rattle.mux_conn.specs.Connection.{is_outstanding}
 use Rattle.mux_conn.specs.Repeats.{repeat_id}
 use Rattle.legal_trace.specs.Ledger.{Ledger, Start, again_among, again_of, bytes_came, is_answered, is_full, is_of_again, is_served, reach}
 use Rattle.legal_trace.proofs.Came.{bytes_are, grown, holds_came}
-use Rattle.session_laws.proofs.Tie.InLine.{wanted_in}
-use Rattle.session_laws.proofs.Tie.More.{full_more}
-use Rattle.session_laws.proofs.Tie.Names.{owner_of_repeat, repeat_owner}
-use Rattle.session_laws.proofs.Tie.New.{read_new}
-use Rattle.session_laws.proofs.Tie.Numbers.{IsIn, in_either, is_own, repeat_is_own}
+use Rattle.session_laws.proofs.Ties.InLine.{wanted_in}
+use Rattle.session_laws.proofs.Ties.More.{full_more}
+use Rattle.session_laws.proofs.Ties.Names.{owner_of_repeat, repeat_owner}
+use Rattle.session_laws.proofs.Ties.New.{read_new}
+use Rattle.session_laws.proofs.Ties.Numbers.{IsIn, in_either, is_own, repeat_is_own}
 use Rattle.session_laws.proofs.Internal.Own.{again_after, has_repeat, repeat_in}
-use Rattle.session_laws.proofs.Tie.Owes.{wanted_entry}
+use Rattle.session_laws.proofs.Ties.Owes.{wanted_entry}
 use Rattle.session_laws.proofs.Internal.Repeats.{IsRepeatSent, IsRepeated, none_again, repeated_alike}
 use Rattle.session_laws.proofs.Internal.Replies.{entry_at, row_tied, wanted_at, with_items}
-use Rattle.session_laws.proofs.Tie.Tied.{IsEntry, owner_of}
+use Rattle.session_laws.proofs.Ties.Tied.{IsEntry, owner_of}
 
 -- its message
 --

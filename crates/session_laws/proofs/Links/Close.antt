@@ -31,24 +31,24 @@ use Rattle.legal_trace.specs.Book.{Book, book, entered}
 use Rattle.legal_trace.specs.Owed.{owed, owed_by, owed_unstarted, owed_waiting}
 use Rattle.legal_trace.specs.Legal.{MayClose, MayPart}
 use Rattle.session_laws.proofs.Requests.Rounded.{rounds_down}
-use Rattle.session_laws.proofs.Tie.Numbers.{IsIn, in_left, in_right, Rising, rising_in, rising_within, rising_right, rising_tail, requests_in, requests_in-append, all_requests}
+use Rattle.session_laws.proofs.Ties.Numbers.{IsIn, in_left, in_right, Rising, rising_in, rising_within, rising_right, rising_tail, requests_in, requests_in-append, all_requests}
 use Rattle.session_laws.proofs.Links.Server.{hearing_there, on_link}
-use Rattle.session_laws.proofs.Tie.Tied.{TiedCreation, Inner, no_link, link_in, owner_of, queue_ids, waiting_ids, IsKept, TiedLines, TiedWaits, Tied, relined, FailureIsShown, IsOver, TiedLife, has_ended}
+use Rattle.session_laws.proofs.Ties.Tied.{TiedCreation, Inner, no_link, link_in, owner_of, queue_ids, waiting_ids, IsKept, TiedLines, TiedWaits, Tied, relined, FailureIsShown, IsOver, TiedLife, has_ended}
 use Rattle.session_laws.proofs.Links.Said.{ready_shown, sources_asked, ready_served}
-use Rattle.session_laws.proofs.Tie.States.{HasApplied, IsStopped}
-use Rattle.session_laws.proofs.Tie.InLine.{kept_ids, kept_in, line_of, IsInLine, awaited_rises, awaited_in}
-use Rattle.session_laws.proofs.Tie.Owes.{in_time, none_owed, in_line, later_unstarted, owed_none_started, settled_owed, notices_told, lives, is_asked, owed_asked}
-use Rattle.session_laws.proofs.Tie.Kept.{mine_noted, others_kept, tied_by}
+use Rattle.session_laws.proofs.Ties.States.{HasApplied, IsStopped}
+use Rattle.session_laws.proofs.Ties.InLine.{kept_ids, kept_in, line_of, IsInLine, awaited_rises, awaited_in}
+use Rattle.session_laws.proofs.Ties.Owes.{in_time, none_owed, in_line, later_unstarted, owed_none_started, settled_owed, notices_told, lives, is_asked, owed_asked}
+use Rattle.session_laws.proofs.Ties.Kept.{mine_noted, others_kept, tied_by}
 use Rattle.session_laws.proofs.Requests.Answer.{after_end}
 use Rattle.session_laws.proofs.Managers.Comes.{ends_there, has_begun, has_links}
-use Rattle.session_laws.proofs.Tie.Aside.{aside_ends, others_created}
+use Rattle.session_laws.proofs.Ties.Aside.{aside_ends, others_created}
 use Rattle.session_laws.proofs.Requests.Settle.{book_of_more, seen, trace_of_acts, Holds, IsAnswering, answering, IsDue, IsDueError, settled_holds, failed_holds, Leaves, leaves_on, settled_leaves, failed_leaves, Parts, sound_told, replied_each, replied_keeps, renewal_over, own_each}
 use Rattle.containers.proofs.Choices.{not_both, chosen}
 use Rattle.driver_model.specs.declared.push_info.PushInfo.{PushInfo}
 use Rattle.resp_value.specs.declared.push_kind.PushKind.TheVariants.{Disconnection}
 use Rattle.session_laws.proofs.Links.Told.{owed_told, push_tied}
 use Rattle.driver_model.specs.declared.news.LinkFault.{LinkFault}
-use Rattle.session_laws.proofs.Tie.Names.{open_within, request_not}
+use Rattle.session_laws.proofs.Ties.Names.{open_within, request_not}
 use Rattle.session_laws.proofs.Internal.Renewals.{renewal_ended}
 use Rattle.mux_conn.specs.Renewals.{renewing}
 use Rattle.driver_model.specs.Hearing.{hears_pushes}

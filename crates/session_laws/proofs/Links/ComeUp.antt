@@ -39,19 +39,19 @@ use Rattle.legal_trace.proofs.Setups.{ends_where_set, silent_is_set, silent_is_g
 use Rattle.session_laws.proofs.Internal.Served.{fresh_rises, numbers_is}
 use Rattle.session_laws.proofs.Requests.Rounded.{rounds_down, rounds_new, unbegun_waits, early_on}
 use Rattle.session_laws.proofs.Links.Server.{AreSetups, HasCredentials, IsSettingUp, IsSetupDue, IsSetUp, AreSought, HasSaid, AreSetupsAlone, IsWatching, greeting_at, owners_of, setup_owners, watch_queued}
-use Rattle.session_laws.proofs.Tie.Tied.{shown_creation, Sound, TiedCreation, AreQueued, IsEntry, IsQueued, Inner, Tied, TiedLines, TiedNotices, TiedWaits, has_ended, inner, link_in, no_link, owner_of, queue_ids, shown_wait, waiting_ids, AreUses, is_reading, TiedRounds, is_begun}
-use Rattle.session_laws.proofs.Tie.States.{Between, HasApplied, IsFit, IsFitIn}
+use Rattle.session_laws.proofs.Ties.Tied.{shown_creation, Sound, TiedCreation, AreQueued, IsEntry, IsQueued, Inner, Tied, TiedLines, TiedNotices, TiedWaits, has_ended, inner, link_in, no_link, owner_of, queue_ids, shown_wait, waiting_ids, AreUses, is_reading, TiedRounds, is_begun}
+use Rattle.session_laws.proofs.Ties.States.{Between, HasApplied, IsFit, IsFitIn}
 use Rattle.session_laws.proofs.Links.Creds.{has_credentials, IsOfRenewals, down_sourced}
 use Rattle.session_laws.proofs.Links.Said.{PushesOf, ending_setting, readied, setup_recredited, well_readied}
-use Rattle.session_laws.proofs.Tie.Entered.{all_stand-append, book_more, sound_more, book-append}
+use Rattle.session_laws.proofs.Ties.Entered.{all_stand-append, book_more, sound_more, book-append}
 use Rattle.session_laws.proofs.Requests.Settle.{Tells, seen, trace_of_acts}
-use Rattle.session_laws.proofs.Tie.InLine.{kept_ids}
-use Rattle.session_laws.proofs.Tie.Numbers.{IsIn, Rising, requests_in}
+use Rattle.session_laws.proofs.Ties.InLine.{kept_ids}
+use Rattle.session_laws.proofs.Ties.Numbers.{IsIn, Rising, requests_in}
 use Rattle.session_laws.proofs.Turn.Announce.{IsNewsKind, comes_as, heard_book, heard_is, heard_starts, heard_tied, may_turn, turn_of, turned, ComesTo, heard_tied_by, others_heard, renews_hear, uses_asked, uses_more, protocol_still, heard_hearing, asked_hear}
 use Rattle.session_laws.proofs.Turn.Heard.{book_kind, book_news, fresh_applied, heard_by, none_ends, none_hears, hushed_there, going_awake}
-use Rattle.session_laws.proofs.Tie.Ahead.{waiting_open}
+use Rattle.session_laws.proofs.Ties.Ahead.{waiting_open}
 use Rattle.session_laws.proofs.Internal.Renewals.{early_renewal, renewed_first}
-use Rattle.session_laws.proofs.Tie.Kept.{mine_noted, others_kept}
+use Rattle.session_laws.proofs.Ties.Kept.{mine_noted, others_kept}
 use Rattle.std.proofs.lemmas.List.{append-nil, nil_from_length}
 use Rattle.session_laws.proofs.Links.Failing.{unstarted_owed}
 use Rattle.mux_conn.specs.declared.life.Greeting.TheVariants as greet

@@ -29,29 +29,29 @@ use Rattle.legal_trace.specs.Ledger.{Ledger, hears, lacks_credentials, noted, no
 use Rattle.legal_trace.specs.Book.{Book, blank_book, book, entered, if_mine, use_for, hearing_in}
 use Rattle.legal_trace.specs.Legal.{AllStand, MayNeed, is_attempt, is_by_attempt}
 use Rattle.session_laws.proofs.Requests.Rounded.{rounds_down, early_on}
-use Rattle.session_laws.proofs.Tie.Aside.{unfailed, not_up_ends}
+use Rattle.session_laws.proofs.Ties.Aside.{unfailed, not_up_ends}
 use Rattle.session_laws.proofs.Links.Server.{AreSought, HasSaid, on_link, hearing_there}
-use Rattle.session_laws.proofs.Tie.Tied.{shown_creation, AreQueued, inner, no_link, link_in, carried, whole_link, owner_of, Tied, TiedLife, TiedLines, has_ended, AreUses, IsOver}
+use Rattle.session_laws.proofs.Ties.Tied.{shown_creation, AreQueued, inner, no_link, link_in, carried, whole_link, owner_of, Tied, TiedLife, TiedLines, has_ended, AreUses, IsOver}
 use Rattle.session_laws.proofs.Links.Creds.{down_sourced}
 use Rattle.session_laws.proofs.Links.Said.{ending_wanting, ready_heard, setting_heard, setup_hears, dropped_end, PushesOf, pushes_there, renoticed}
 use Rattle.session_laws.proofs.Links.Failing.{IsFailing, failing_applied, unready_shown, unstarted_owed, IsUnready}
-use Rattle.session_laws.proofs.Tie.States.{IsFit, Between, HasApplied, HasEffect, HasRetired}
-use Rattle.session_laws.proofs.Tie.Entered.{all_stand-append, book_more, sound_more, shown_more}
+use Rattle.session_laws.proofs.Ties.States.{IsFit, Between, HasApplied, HasEffect, HasRetired}
+use Rattle.session_laws.proofs.Ties.Entered.{all_stand-append, book_more, sound_more, shown_more}
 use Rattle.session_laws.proofs.Requests.Settle.{seen, trace_of_acts, book_of_more}
 use Rattle.session_laws.proofs.Turn.Announce.{IsNewsKind, comes_as, heard_book, heard_is, heard_starts, heard_tied, heard_tied_by, may_turn, others_heard, turn_of, turned, uses_asked, uses_more, timed_hear, heard_hearing, asked_hear, uses_hear}
 use Rattle.session_laws.proofs.Turn.Heard.{heard_by, book_kind, book_news, lives_as, none_ends, leads_still, quiet_applied, ended_quiet, pushes_still, none_hears, still_none, hushed_there, hushed_news, resting_quiet, tame_between}
 use Rattle.session_laws.proofs.Links.End.{up_tied, setting_tied, setting_overdue, wanting_tied, wanting_overdue, plain_begins, IsPlain, dropped_up, plain_is, notices_there}
-use Rattle.session_laws.proofs.Tie.Kept.{mine_noted, others_kept}
+use Rattle.session_laws.proofs.Ties.Kept.{mine_noted, others_kept}
 use Rattle.session_laws.proofs.Links.Close.{may_close, close_tied, ended_waits, ends_so}
 use Rattle.session_laws.proofs.Links.ComeUp.{IsEarly, IsUpNow, comes_up, fresh_waits}
 use Rattle.session_laws.proofs.Internal.Renewals.{renewal_ended, early_renewal}
-use Rattle.session_laws.proofs.Tie.Numbers.{requests_in}
+use Rattle.session_laws.proofs.Ties.Numbers.{requests_in}
 use Rattle.session_laws.proofs.Links.SetUp.{lacking_unset}
 use Rattle.driver_model.specs.Hearing.{hears_messages}
 use Rattle.redis_error.specs.declared.redis_error.RedisError.{RedisError}
 use Rattle.session_laws.proofs.Managers.Comes.{tied_live, tied_unopened, resting_down}
 use Rattle.session_laws.proofs.Links.Retire.{IsAttempted, retires, closed_retires}
-use Rattle.session_laws.proofs.Tie.Owes.{get_behind}
+use Rattle.session_laws.proofs.Ties.Owes.{get_behind}
 use Rattle.session_laws.proofs.Internal.Serving.{unready_serves}
 use Rattle.session_laws.proofs.Internal.Held.{held_hears, failed_served}
 use Rattle.session_laws.proofs.Internal.Repeats.{held_alike}

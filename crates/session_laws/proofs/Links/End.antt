@@ -30,14 +30,14 @@ use Rattle.shared_session.specs.declared.core_state.Core.{Core}
 use Rattle.shared_session.specs.Turn.{with_work, is_bad, is_shutdown}
 use Rattle.legal_trace.specs.Ledger.{Ledger, by_fault, by_opening, by_shutdown, ends, hears, noted, ending, ending_alive, ending_unready, ending_up, is_over, is_set_up, lacks_credentials, fault_error, opening_error, monitor_among, reach, Start, setup_count, is_full}
 use Rattle.legal_trace.specs.Book.{Book, book, hearing_in}
-use Rattle.session_laws.proofs.Tie.Numbers.{IsIn}
+use Rattle.session_laws.proofs.Ties.Numbers.{IsIn}
 use Rattle.session_laws.proofs.Links.Server.{AreSought, HasCredentials, HasSaid, IsGreeting, IsWatchSent, on_link, hearing_on, hearing_there}
-use Rattle.session_laws.proofs.Tie.Tied.{Inner, inner, link_in, no_link, carried, whole_link, owner_of, queue_ids, Tied, TiedLife, has_ended, greeter, TiedNotices, is_reading}
+use Rattle.session_laws.proofs.Ties.Tied.{Inner, inner, link_in, no_link, carried, whole_link, owner_of, queue_ids, Tied, TiedLife, has_ended, greeter, TiedNotices, is_reading}
 use Rattle.session_laws.proofs.Links.Creds.{asked_sourced, has_sourced, wanting_lacks}
 use Rattle.session_laws.proofs.Links.SetUp.{not_set_up, lacking_unset, alone_unwatched}
 use Rattle.session_laws.proofs.Links.Said.{ending_wanting, ready_heard, setting_heard, setting_told, renoticed, PushesOf}
 use Rattle.session_laws.proofs.Links.Failing.{Fails, IsUnready}
-use Rattle.session_laws.proofs.Tie.States.{Between, HasApplied, HasEffect, IsStopped}
+use Rattle.session_laws.proofs.Ties.States.{Between, HasApplied, HasEffect, IsStopped}
 use Rattle.session_laws.proofs.Requests.Settle.{seen, trace_of_acts, Holds}
 use Rattle.session_laws.proofs.Links.Close.{HasEnded, IsClosedOf, SettlesAll, ended_holds, ended_moved, ended_applied, faulted_holds, parted_moved, waiting_shut, waiting_leaves}
 use Rattle.session_laws.proofs.Turn.Announce.{turn_of, turned, IsNewsKind}

@@ -25,17 +25,17 @@ use Rattle.legal_trace.specs.Book.{Book, blank_book, book, entered, if_mine, hea
 use Rattle.legal_trace.specs.Owed.{owed_by, owed_to_try, owed_unstarted, owed_waiting}
 use Rattle.legal_trace.specs.Legal.{AllStand, FailuresAreShown, MayClose, MayFail, NoneEnds, ReadyIsShown, VerdictsAreShown, NoneIsOwed}
 use Rattle.session_laws.proofs.Requests.Rounded.{rounds_down}
-use Rattle.session_laws.proofs.Tie.Numbers.{IsIn}
+use Rattle.session_laws.proofs.Ties.Numbers.{IsIn}
 use Rattle.session_laws.proofs.Links.Server.{AreSetups}
-use Rattle.session_laws.proofs.Tie.Tied.{shown_creation, inner, link_in, no_link, TiedLines, Tied, has_ended}
-use Rattle.session_laws.proofs.Tie.States.{Between, HasApplied}
-use Rattle.session_laws.proofs.Tie.Entered.{all_stand-append, shown_more}
+use Rattle.session_laws.proofs.Ties.Tied.{shown_creation, inner, link_in, no_link, TiedLines, Tied, has_ended}
+use Rattle.session_laws.proofs.Ties.States.{Between, HasApplied}
+use Rattle.session_laws.proofs.Ties.Entered.{all_stand-append, shown_more}
 use Rattle.session_laws.proofs.Links.Creds.{down_sourced}
-use Rattle.session_laws.proofs.Tie.Names.{get_some, name_of_some, open_within}
-use Rattle.session_laws.proofs.Tie.Owes.{in_time, not_empty, open_request, request_story, get_behind, is_asked, owed_asked}
-use Rattle.session_laws.proofs.Tie.Kept.{mine_noted, others_kept}
+use Rattle.session_laws.proofs.Ties.Names.{get_some, name_of_some, open_within}
+use Rattle.session_laws.proofs.Ties.Owes.{in_time, not_empty, open_request, request_story, get_behind, is_asked, owed_asked}
+use Rattle.session_laws.proofs.Ties.Kept.{mine_noted, others_kept}
 use Rattle.session_laws.proofs.Requests.Answer.{after_end}
-use Rattle.session_laws.proofs.Tie.Aside.{aside_ends, others_created, unfailed}
+use Rattle.session_laws.proofs.Ties.Aside.{aside_ends, others_created, unfailed}
 use Rattle.session_laws.proofs.Requests.Settle.{seen, sound_act, trace_of_acts, Holds, book_of_more}
 use Rattle.session_laws.proofs.Links.Close.{ended_applied, ended_waits, waiting_ends, waiting_leaves, ends_so}
 use Rattle.session_laws.proofs.Turn.Announce.{turn_of, turned, IsNewsKind, first_book, heard_book, heard_is, heard_starts, heard_tied_by, may_turn, others_heard, uses_hear, uses_on, timed_hear, asked_hear, heard_hearing}

@@ -24,10 +24,10 @@ use Rattle.shared_session.specs.Turn.{with_work, is_bad}
 use Rattle.legal_trace.specs.Ledger.{Ledger, authorized_by, by_opening, ending, lacks_credentials, setup_count}
 use Rattle.legal_trace.specs.Book.{book, hearing_in}
 use Rattle.session_laws.proofs.Links.Server.{AreSetups, on_link}
-use Rattle.session_laws.proofs.Tie.Tied.{has_ended, inner, link_in}
+use Rattle.session_laws.proofs.Ties.Tied.{has_ended, inner, link_in}
 use Rattle.session_laws.proofs.Links.Creds.{awaited_is, has_credentials, none_awaited, unawaited_is, wanting_awaits}
 use Rattle.session_laws.proofs.Links.Said.{PushesOf, ready_heard, setting_heard, renoticed}
-use Rattle.session_laws.proofs.Tie.States.{Between, HasApplied, HasEffect}
+use Rattle.session_laws.proofs.Ties.States.{Between, HasApplied, HasEffect}
 use Rattle.session_laws.proofs.Turn.Announce.{IsNewsKind, turn_of, turned}
 use Rattle.session_laws.proofs.Turn.Heard.{dialing_quiet, ended_quiet, heard_by, tame_between, resting_quiet}
 use Rattle.session_laws.proofs.Links.End.{Denies, denied_fails, setting_tied, up_tied, wanting_tied, notices_there}

@@ -38,8 +38,8 @@ use Rattle.legal_trace.proofs.Watching.{unanswered_is_unset}
 use Rattle.mux_conn.specs.declared.life.Greeting.{Greeting}
 use Rattle.mux_conn.specs.Effects.{has_user, judged_by}
 use Rattle.session_laws.proofs.Links.Judged.{judged_repeats, setup_no_user}
-use Rattle.session_laws.proofs.Tie.More.{after_came, after_is, full_still}
-use Rattle.session_laws.proofs.Tie.New.{read_new}
+use Rattle.session_laws.proofs.Ties.More.{after_came, after_is, full_still}
+use Rattle.session_laws.proofs.Ties.New.{read_new}
 use Rattle.session_laws.proofs.Links.SameSaid.{SameSaid}
 use Rattle.session_laws.proofs.Links.SetUp.{alone_unwatched, count_length}
 use Rattle.session_laws.proofs.Links.Server.{AreSetups, AreSetupsAlone, IsSettingUp, IsSetupSent, IsWatching, IsWatchSent, greeting_at}

@@ -16,10 +16,10 @@ use Rattle.link_laws.proofs.TiedLink.{deals, has_read}
 use Rattle.legal_trace.specs.Ledger.{Heard, Ledger, bytes_came, is_unreadable}
 use Rattle.legal_trace.proofs.Came.{Came}
 use Rattle.session_laws.proofs.Links.Greeted.{IsReadUnset}
-use Rattle.session_laws.proofs.Tie.More.{after_came}
+use Rattle.session_laws.proofs.Ties.More.{after_came}
 use Rattle.session_laws.proofs.Links.Said.{PushesOf}
 use Rattle.session_laws.proofs.Links.Telling.{IsHeard}
-use Rattle.session_laws.proofs.Tie.Tied.{TiedNotices, is_reading}
+use Rattle.session_laws.proofs.Ties.Tied.{TiedNotices, is_reading}
 
 -- what is to be told
 --

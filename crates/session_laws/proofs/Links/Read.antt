@@ -36,20 +36,20 @@ use Rattle.legal_trace.specs.Ledger.{Ledger, by_fault, bytes_came, ending, endin
 use Rattle.legal_trace.specs.Story.{Story}
 use Rattle.legal_trace.specs.Book.{Book, book, entered, hearing_in, has_generations}
 use Rattle.legal_trace.specs.Owed.{owed}
-use Rattle.session_laws.proofs.Tie.Numbers.{IsIn, Rising, requests_in, requests_in-append, requests_behind}
+use Rattle.session_laws.proofs.Ties.Numbers.{IsIn, Rising, requests_in, requests_in-append, requests_behind}
 use Rattle.session_laws.proofs.Links.Server.{TiedSetup, AreRenewed, AreSought, IsSetUp, TiedRenewal, on_link, hearing_there}
-use Rattle.session_laws.proofs.Tie.Tied.{inner, link_in, owner_of, queue_ids, IsEntry, TiedLines, AreQueued, TiedWaits, has_ended, Tied, Sound, TiedRounds, HasCourse, AreEarly}
+use Rattle.session_laws.proofs.Ties.Tied.{inner, link_in, owner_of, queue_ids, IsEntry, TiedLines, AreQueued, TiedWaits, has_ended, Tied, Sound, TiedRounds, HasCourse, AreEarly}
 use Rattle.session_laws.proofs.Links.SetUp.{set_up_hears}
 use Rattle.legal_trace.proofs.Setups.{ends_where_set}
 use Rattle.legal_trace.proofs.Came.{Came, bytes_are}
 use Rattle.session_laws.proofs.Links.Greeted.{values_all}
 use Rattle.session_laws.proofs.Links.HeardBytes.{all_heard, heard_notices, none_noticed}
-use Rattle.session_laws.proofs.Tie.More.{after_came, after_is}
+use Rattle.session_laws.proofs.Ties.More.{after_came, after_is}
 use Rattle.session_laws.proofs.Links.ReadSetup.{setup_read, fit_by}
 use Rattle.session_laws.proofs.Links.ReadWanting.{wanting_read}
-use Rattle.session_laws.proofs.Tie.States.{IsFit, Between, HasApplied, HasEffect}
-use Rattle.session_laws.proofs.Tie.InLine.{kept_ids, IsInLine}
-use Rattle.session_laws.proofs.Tie.Owes.{in_line}
+use Rattle.session_laws.proofs.Ties.States.{IsFit, Between, HasApplied, HasEffect}
+use Rattle.session_laws.proofs.Ties.InLine.{kept_ids, IsInLine}
+use Rattle.session_laws.proofs.Ties.Owes.{in_line}
 use Rattle.session_laws.proofs.Requests.Settle.{seen, trace_of_acts, IsDue, Tells, replied_each, replied_keeps, own_each, AnswersNone}
 use Rattle.session_laws.proofs.Links.Close.{AreInTime, are_in_time, HasEnded, pending_due, ended_applied, parted_moved}
 use Rattle.session_laws.proofs.Turn.Announce.{turn_of, turned, IsNewsKind, announced_sound, first_book, heard_book, heard_is as turn_is, heard_tied_new, StaysQuiet}
@@ -60,7 +60,7 @@ use Rattle.session_laws.proofs.Links.Told.{retells, well_told}
 use Rattle.session_laws.proofs.Links.Telling.{IsHeard, IsTelling, telling, told_holds, told_leaves, unheard_holds}
 use Rattle.link_core.specs.declared.message.NoticeAt.{NoticeAt}
 use Rattle.link_core.specs.declared.message.Settled.{Settled}
-use Rattle.session_laws.proofs.Tie.Names.{request_not}
+use Rattle.session_laws.proofs.Ties.Names.{request_not}
 use Rattle.session_laws.proofs.Internal.Replies.{read_renewed}
 use Rattle.mux_conn.specs.declared.renewal.Renewal.{Renewal}
 use Rattle.driver_model.specs.declared.hearing.Hearing.{Hearing}
@@ -75,7 +75,7 @@ use Rattle.session_laws.proofs.Internal.Resubscribed.{read_repeated}
 use Rattle.mux_conn.specs.declared.again.Again.{Again}
 use Rattle.mux_conn.specs.declared.again.Again.TheVariants as again
 use Rattle.session_laws.proofs.Requests.Rounded.{placed_begun}
-use Rattle.session_laws.proofs.Tie.Ahead.{placed_open}
+use Rattle.session_laws.proofs.Ties.Ahead.{placed_open}
 use Rattle.link_core.specs.declared.message.Entry.{Entry}
 
 -- values that are taken leave entries as they are, but for what they got

@@ -61,17 +61,17 @@ use Rattle.session_laws.proofs.Links.Greeted.{IsAnswered, IsReadSet, IsReadUnset
 use Rattle.session_laws.proofs.Turn.Heard.{heard_by, none_ends, none_hears, quiet_applied, setting_fit, setting_waits, tame_between, hushed_there, going_awake}
 use Rattle.session_laws.proofs.Links.HeardBytes.{all_heard, heard_notices, none_noticed, quiet_notices, unset_unreadable}
 use Rattle.session_laws.proofs.Links.Judged.{judged_memory}
-use Rattle.session_laws.proofs.Tie.More.{after_came, after_is}
-use Rattle.session_laws.proofs.Tie.Owes.{in_line}
+use Rattle.session_laws.proofs.Ties.More.{after_came, after_is}
+use Rattle.session_laws.proofs.Ties.Owes.{in_line}
 use Rattle.session_laws.proofs.Internal.Renewals.{early_renewal}
 use Rattle.session_laws.proofs.Links.Said.{PushesOf, ending_failed, ending_setting, readied, well_readied}
 use Rattle.session_laws.proofs.Links.SameSaid.{greeting_alike, greeting_link, greeting_of, set_alike}
 use Rattle.session_laws.proofs.Links.SetUp.{not_set_up}
 use Rattle.session_laws.proofs.Requests.Settle.{seen, trace_of_acts}
-use Rattle.session_laws.proofs.Tie.States.{Between, HasEffect, IsFit, IsFitIn}
+use Rattle.session_laws.proofs.Ties.States.{Between, HasEffect, IsFit, IsFitIn}
 use Rattle.session_laws.proofs.Links.Telling.{IsTelling, heard_readied, telling, told_holds, told_leaves}
 use Rattle.session_laws.proofs.Links.Server.{IsGreeting, IsSetUp, IsSettingUp, IsSetupDue, IsSetupSent, IsWatchDue, IsWatchSent, IsWatching, TiedCreds, TiedSetup, greeting_at, watch_queued, hearing_there, on_link}
-use Rattle.session_laws.proofs.Tie.Tied.{AreQueued, TiedLife, TiedLines, TiedWaits, greeter, has_ended, inner, link_in, owner_of, HasCourse}
+use Rattle.session_laws.proofs.Ties.Tied.{AreQueued, TiedLife, TiedLines, TiedWaits, greeter, has_ended, inner, link_in, owner_of, HasCourse}
 use Rattle.session_laws.proofs.Links.Told.{retells, well_told}
 use Rattle.driver_model.specs.declared.news.LinkFault.{LinkFault}
 use Rattle.session_laws.proofs.Internal.Serving.{unready_serves}

@@ -26,9 +26,9 @@ use Rattle.legal_trace.specs.Book.{Book, book, hearing_in}
 use Rattle.legal_trace.proofs.Came.{Came, bytes_are}
 use Rattle.session_laws.proofs.Requests.Rounded.{rounds_down, early_on}
 use Rattle.session_laws.proofs.Links.Server.{TiedCreds, TiedSetup, on_link}
-use Rattle.session_laws.proofs.Tie.Tied.{AreQueued, TiedLife, TiedLines, TiedWaits, has_ended, inner, link_in, HasCourse, Inner, Tied}
+use Rattle.session_laws.proofs.Ties.Tied.{AreQueued, TiedLife, TiedLines, TiedWaits, has_ended, inner, link_in, HasCourse, Inner, Tied}
 use Rattle.session_laws.proofs.Links.Creds.{asked_sourced}
-use Rattle.session_laws.proofs.Tie.States.{Between, HasEffect}
+use Rattle.session_laws.proofs.Ties.States.{Between, HasEffect}
 use Rattle.session_laws.proofs.Links.Said.{PushesOf, ending_wanting}
 use Rattle.session_laws.proofs.Links.Failing.{Fails}
 use Rattle.session_laws.proofs.Links.Retire.{setup_failed}
@@ -37,7 +37,7 @@ use Rattle.session_laws.proofs.Turn.Heard.{heard_by, quiet_applied, tame_between
 use Rattle.session_laws.proofs.Links.End.{IsWanting, bare_error_is, wanting_tied, wanting_unready, notices_there}
 use Rattle.session_laws.proofs.Links.Greeted.{IsReadUnset, unset_of}
 use Rattle.session_laws.proofs.Links.HeardBytes.{quiet_notices, unset_unreadable}
-use Rattle.session_laws.proofs.Tie.More.{after_came, after_is}
+use Rattle.session_laws.proofs.Ties.More.{after_came, after_is}
 use Rattle.session_laws.proofs.Internal.Renewals.{early_renewal}
 use Rattle.session_laws.proofs.Links.SetUp.{lacking_unset}
 use Rattle.session_laws.proofs.Internal.Serving.{unready_serves}

@@ -21,7 +21,7 @@ use Rattle.legal_trace.proofs.Endings.{lasting_is_fault}
 use Rattle.session_laws.proofs.Links.Creds.{down_unawaited, unawaited_is, wanting_lacks, down_may_renew, down_sourced, asked_sourced, has_sourced, ready_sourced}
 use Rattle.session_laws.proofs.Links.SetUp.{not_set_up, lacking_unset, IsUnset}
 use Rattle.session_laws.proofs.Links.Server.{AreSought, HasSaid, TiedSetup, IsGreeting, hearing_at}
-use Rattle.session_laws.proofs.Tie.Tied.{Inner, Tied, TiedLife, carried, owner_of, whole_link, TiedNotices, greeter, is_reading, brings_bytes}
+use Rattle.session_laws.proofs.Ties.Tied.{Inner, Tied, TiedLife, carried, owner_of, whole_link, TiedNotices, greeter, is_reading, brings_bytes}
 use Rattle.credentials.specs.Credentials.{Credentials}
 use Rattle.session_laws.proofs.Links.SameSaid.{SameSaid, after_alike, greeting_link, said_alike, set_alike, setup_alike}
 use Rattle.driver_model.specs.declared.hearing.Hearing.{Hearing}

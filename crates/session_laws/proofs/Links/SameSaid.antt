@@ -14,7 +14,7 @@ use Rattle.mux_conn.specs.declared.life.Life.TheVariants.{Resting, Dialing, Want
 use Rattle.mux_conn.specs.Effects.{setup_id, setup_queued}
 use Rattle.legal_trace.specs.Ledger.{Ledger, Start, is_answered, is_full, is_greeted, is_set_up, is_well, lacks_credentials, last_result, monitor_among, monitor_of, repeats, result_of, setup_after, setup_count, setup_result, setup_steps}
 use Rattle.session_laws.proofs.Links.Server.{HasSaid, IsGreeting, IsSettingUp, IsWatching, greeting_at, owners_of, setup_owners}
-use Rattle.session_laws.proofs.Tie.Tied.{greeter}
+use Rattle.session_laws.proofs.Ties.Tied.{greeter}
 use Rattle.driver_model.specs.declared.action.Owner.TheVariants as owner
 
 -- of the second ledger the same is known of what is said to its server as of the first

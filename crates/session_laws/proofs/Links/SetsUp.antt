@@ -30,18 +30,18 @@ use Rattle.legal_trace.specs.Ledger.{Ledger, Start, begins, is_full, noted, reac
 use Rattle.legal_trace.specs.Legal.{MaySetUp, NoneEnds}
 use Rattle.legal_trace.specs.Story.{Story}
 use Rattle.legal_trace.proofs.Setups.{setup_packed, setup_stays}
-use Rattle.session_laws.proofs.Tie.Ahead.{held_by}
-use Rattle.session_laws.proofs.Tie.Entered.{shown_more}
+use Rattle.session_laws.proofs.Ties.Ahead.{held_by}
+use Rattle.session_laws.proofs.Ties.Entered.{shown_more}
 use Rattle.session_laws.proofs.Requests.Going.{IsGoing, applied_up, going_more, none_ends_mine}
 use Rattle.session_laws.proofs.Turn.Heard.{setting_waits}
-use Rattle.session_laws.proofs.Tie.Kept.{mine_noted, others_kept, tied_by}
-use Rattle.session_laws.proofs.Tie.Names.{get_more}
+use Rattle.session_laws.proofs.Ties.Kept.{mine_noted, others_kept, tied_by}
+use Rattle.session_laws.proofs.Ties.Names.{get_more}
 use Rattle.session_laws.proofs.Links.SetUp.{begun_open, count_length, count_next, down_undue}
 use Rattle.session_laws.proofs.Requests.Settle.{quiet_asks, seen, trace_of_acts}
 use Rattle.session_laws.proofs.Requests.Start.{owners-append, with_queue}
-use Rattle.session_laws.proofs.Tie.States.{IsFit}
+use Rattle.session_laws.proofs.Ties.States.{IsFit}
 use Rattle.session_laws.proofs.Links.Server.{AreSetups, IsSettingUp, owners_of, setup_owners, AreSetupsAlone, greeting_at}
-use Rattle.session_laws.proofs.Tie.Tied.{Inner, Tied, TiedTries, numbers_kept, HasGreetedAlone, greeter, is_of_greeting}
+use Rattle.session_laws.proofs.Ties.Tied.{Inner, Tied, TiedTries, numbers_kept, HasGreetedAlone, greeter, is_of_greeting}
 use Rattle.session_laws.proofs.Internal.Renewals.{none_begins, full_begins}
 use Rattle.session_laws.proofs.Links.SameSaid.{greeter_at, greeting_of, setting_of}
 use Rattle.mux_conn.specs.declared.life.Greeting.TheVariants as greet

@@ -31,16 +31,16 @@ use Rattle.legal_trace.specs.Story.{Story, Try, bytes_of, last_of, shape}
 use Rattle.legal_trace.specs.Book.{Book, book, entered, if_mine, push_line, blank_book}
 use Rattle.legal_trace.specs.Owed.{owed, owed_to_message, owed_to_try, owed_waiting}
 use Rattle.legal_trace.specs.Legal.{AllStand, IsBefore, IsOpen, MayNotify, MayPushBy, MayStand}
-use Rattle.session_laws.proofs.Tie.Numbers.{IsIn, Rising, in_either, in_left, in_right, requests_in, request_of, is_own, requests_behind, requests_first}
-use Rattle.session_laws.proofs.Tie.Tied.{Inner, Tied, has_ended, link_in, owner_of, queue_ids, Sound, own_owner}
+use Rattle.session_laws.proofs.Ties.Numbers.{IsIn, Rising, in_either, in_left, in_right, requests_in, request_of, is_own, requests_behind, requests_first}
+use Rattle.session_laws.proofs.Ties.Tied.{Inner, Tied, has_ended, link_in, owner_of, queue_ids, Sound, own_owner}
 use Rattle.session_laws.proofs.Links.Said.{ready_shown, sources_asked, readied}
-use Rattle.session_laws.proofs.Tie.Names.{length_with, name_with, open_within, with_then}
-use Rattle.session_laws.proofs.Tie.InLine.{IsInLine, awaited_in, kept_ids, kept_in, line_of, wanted_in}
-use Rattle.session_laws.proofs.Tie.Owes.{lives, open_request, row_link, stands_started, wanted_entry, open_on}
-use Rattle.session_laws.proofs.Tie.Ahead.{later_untried}
+use Rattle.session_laws.proofs.Ties.Names.{length_with, name_with, open_within, with_then}
+use Rattle.session_laws.proofs.Ties.InLine.{IsInLine, awaited_in, kept_ids, kept_in, line_of, wanted_in}
+use Rattle.session_laws.proofs.Ties.Owes.{lives, open_request, row_link, stands_started, wanted_entry, open_on}
+use Rattle.session_laws.proofs.Ties.Ahead.{later_untried}
 use Rattle.session_laws.proofs.Requests.Answer.{answer_tied, owed_still, skip_tied}
 use Rattle.session_laws.proofs.Links.Told.{current_is, lined, notice_action, notice_tied, retells}
-use Rattle.session_laws.proofs.Tie.Kept.{mine_noted}
+use Rattle.session_laws.proofs.Ties.Kept.{mine_noted}
 use Rattle.session_laws.proofs.Requests.Settle.{IsDue, Tells, book_of_more, first_may, leaves_all, leaves_on, Leaves, rest_in_line, seen, settled_holds, settled_leaves, sound_told, trace_of_acts, one_leaves, shown_now, answered_owns, own_each, own_one, own_settled, request_settled, AnswersNone, some_pending}
 use Rattle.driver_model.specs.declared.hearing.Notice.{Notice}
 use Rattle.driver_model.specs.declared.hearing.Notice.TheVariants as notice

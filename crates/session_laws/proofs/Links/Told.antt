@@ -12,9 +12,9 @@ use Rattle.mux_conn.specs.declared.life.Life.{Life}
 use Rattle.mux_conn.specs.declared.life.Life.TheVariants.{Resting, Dialing, Wanting, SettingUp, Ready, Ended}
 use Rattle.legal_trace.specs.Ledger.{Ledger, Heard, noted, is_set_up, Line, tells, parts, noted_each}
 use Rattle.legal_trace.specs.Book.{Book, entered, push_line, hearing_in, if_mine}
-use Rattle.session_laws.proofs.Tie.Kept.{mine_noted, others_kept, tied_by}
+use Rattle.session_laws.proofs.Ties.Kept.{mine_noted, others_kept, tied_by}
 use Rattle.session_laws.proofs.Links.Server.{hearing_at}
-use Rattle.session_laws.proofs.Tie.Tied.{Inner, Tied, TiedLife, TiedNotices, carried, whole_link, is_reading}
+use Rattle.session_laws.proofs.Ties.Tied.{Inner, Tied, TiedLife, TiedNotices, carried, whole_link, is_reading}
 use Rattle.session_laws.proofs.Internal.Renewals.{renewal_alike}
 use Rattle.session_laws.proofs.Links.SameSaid.{SameSaid, said_alike, set_alike}
 use Rattle.driver_model.specs.declared.hearing.Notice.{Notice}

@@ -22,10 +22,10 @@ use Rattle.legal_trace.specs.Book.{book, has_generations, hearing_in}
 use Rattle.mux_conn.specs.declared.renewal.Renewal.{Renewal}
 use Rattle.session_laws.proofs.Requests.Rounded.{rounds_down, early_on}
 use Rattle.session_laws.proofs.Internal.Renewals.{renewal_alike}
-use Rattle.session_laws.proofs.Tie.Numbers.{IsIn}
+use Rattle.session_laws.proofs.Ties.Numbers.{IsIn}
 use Rattle.session_laws.proofs.Links.Server.{TiedSetup, TiedCreds, TiedRenewal}
-use Rattle.session_laws.proofs.Tie.Tied.{carried, link_in, owner_of, whole_link, TiedLife, TiedLines, AreQueued, TiedWaits, has_ended, greeter, TiedRounds, AreEarly, HasCourse}
-use Rattle.session_laws.proofs.Tie.States.{IsFit, Between, HasApplied}
+use Rattle.session_laws.proofs.Ties.Tied.{carried, link_in, owner_of, whole_link, TiedLife, TiedLines, AreQueued, TiedWaits, has_ended, greeter, TiedRounds, AreEarly, HasCourse}
+use Rattle.session_laws.proofs.Ties.States.{IsFit, Between, HasApplied}
 use Rattle.session_laws.proofs.Turn.Announce.{turn_of, turned, IsNewsKind, asked_hear}
 use Rattle.session_laws.proofs.Turn.Heard.{quiet_applied, ended_quiet, dialing_quiet, setting_waits, still_none, pushes_still, wanting_waits, resting_quiet, hushed_there, heard_by, repeat_still}
 use Rattle.session_laws.proofs.Links.Said.{mild_end, setup_hears, setup_link, setup_ready, wanting_link, pushes_there}

@@ -29,19 +29,19 @@ use Rattle.legal_trace.specs.Story.{Story}
 use Rattle.legal_trace.proofs.Monitors.{monitor_begun}
 use Rattle.legal_trace.proofs.Setups.{count_more, greeted_begins, greeted_is_undue}
 use Rattle.legal_trace.proofs.Watching.{monitor_has_bytes, watch_is_up, watch_stays}
-use Rattle.session_laws.proofs.Tie.Ahead.{held_by}
-use Rattle.session_laws.proofs.Tie.Entered.{shown_more}
+use Rattle.session_laws.proofs.Ties.Ahead.{held_by}
+use Rattle.session_laws.proofs.Ties.Entered.{shown_more}
 use Rattle.session_laws.proofs.Requests.Going.{IsGoing, applied_up, going_more, none_ends_mine, none_given, setups_started}
 use Rattle.session_laws.proofs.Turn.Heard.{setting_waits}
-use Rattle.session_laws.proofs.Tie.Kept.{mine_noted, others_kept, tied_by}
+use Rattle.session_laws.proofs.Ties.Kept.{mine_noted, others_kept, tied_by}
 use Rattle.session_laws.proofs.Internal.Renewals.{full_begins, none_begins}
 use Rattle.session_laws.proofs.Links.SetUp.{alone_unwatched, begun_open, count_length, setups_begins}
 use Rattle.session_laws.proofs.Links.SetsUp.{HasBegun, greeted_more, none_set_up, setting_on, setup_begun}
 use Rattle.session_laws.proofs.Requests.Settle.{quiet_asks, seen, trace_of_acts}
 use Rattle.session_laws.proofs.Requests.Start.{with_queue}
-use Rattle.session_laws.proofs.Tie.States.{IsFit}
+use Rattle.session_laws.proofs.Ties.States.{IsFit}
 use Rattle.session_laws.proofs.Links.Server.{IsWatchDue, IsWatching, watch_queued}
-use Rattle.session_laws.proofs.Tie.Tied.{Inner, Tied, TiedTries, numbers_kept}
+use Rattle.session_laws.proofs.Ties.Tied.{Inner, Tied, TiedTries, numbers_kept}
 use Rattle.session_laws.proofs.Internal.Repeats.{begins_held}
 
 -- MONITOR is due

@@ -21,19 +21,19 @@ use Rattle.legal_trace.specs.Book.{Book, book, entered}
 use Rattle.legal_trace.specs.Ledger.{IsOffered, Ledger, joined, noted, offers}
 use Rattle.legal_trace.specs.Legal.{IsMoved, IsWritten, MayWrite, NoneEnds}
 use Rattle.session_laws.proofs.Requests.Going.{is_moved, none_ends_kept, StaysPut}
-use Rattle.session_laws.proofs.Tie.Kept.{mine_noted, others_kept, tied_by}
+use Rattle.session_laws.proofs.Ties.Kept.{mine_noted, others_kept, tied_by}
 use Rattle.session_laws.proofs.Requests.Moved.{HasMoved}
 use Rattle.session_laws.proofs.Turn.Heard.{setting_waits}
 use Rattle.session_laws.proofs.Links.Said.{setup_link, setup_on}
 use Rattle.session_laws.proofs.Links.SetsUp.{setting_on}
-use Rattle.session_laws.proofs.Tie.Ahead.{HasSeats}
+use Rattle.session_laws.proofs.Ties.Ahead.{HasSeats}
 use Rattle.session_laws.proofs.Internal.Renewals.{renewal_alike}
 use Rattle.session_laws.proofs.Requests.Settle.{book_of_more, holds_more, seen, trace_of_acts, shown_now}
 use Rattle.session_laws.proofs.Requests.Start.{on_link}
 use Rattle.session_laws.proofs.Links.Took.{queue_waits}
-use Rattle.session_laws.proofs.Tie.States.{IsFit, IsStopped}
+use Rattle.session_laws.proofs.Ties.States.{IsFit, IsStopped}
 use Rattle.session_laws.proofs.Links.Server.{HasSaid}
-use Rattle.session_laws.proofs.Tie.Tied.{Inner, Tied, TiedLife, carried, has_ended, numbers_kept, owner_of, whole_link, link_in, greeter, IsHeeded}
+use Rattle.session_laws.proofs.Ties.Tied.{Inner, Tied, TiedLife, carried, has_ended, numbers_kept, owner_of, whole_link, link_in, greeter, IsHeeded}
 use Rattle.session_laws.proofs.Managers.Comes.{plain_put}
 use Rattle.mux_conn.specs.declared.request.Waiting.{Waiting}
 use Rattle.shared_session.specs.declared.generations.Generations.{Generations}

@@ -30,8 +30,8 @@ use Rattle.session_laws.proofs.Turn.Opening.{IsSized, opening_between, opening_l
 use Rattle.session_laws.proofs.Managers.Regenerate.{IsResting, IsHarmless}
 use Rattle.session_laws.proofs.Managers.Return.{dials_returned}
 use Rattle.session_laws.proofs.Requests.Settled.{IsBetween, is_settled}
-use Rattle.session_laws.proofs.Tie.States.{IsFitIn, IsStill}
-use Rattle.session_laws.proofs.Tie.Tied.{Tied, TiedCreation, TiedNumbers, inner, owner_of, shown_creation, HasHeeded}
+use Rattle.session_laws.proofs.Ties.States.{IsFitIn, IsStill}
+use Rattle.session_laws.proofs.Ties.Tied.{Tied, TiedCreation, TiedNumbers, inner, owner_of, shown_creation, HasHeeded}
 use Rattle.session_laws.proofs.Requests.Waits.{IsQuiet}
 use Rattle.session_laws.proofs.Managers.Whole.{flushed_between}
 use Rattle.session_laws.proofs.Links.Write.{is_written}

@@ -20,9 +20,9 @@ use Rattle.legal_trace.specs.Legal.{begins_first, current_link, generation_due, 
 use Rattle.legal_trace.specs.Managers.{is_lazy}
 use Rattle.legal_trace.specs.Owed.{owed_by, owed_unstarted}
 use Rattle.legal_trace.specs.Story.{Story, is_open, waits}
-use Rattle.session_laws.proofs.Tie.Aside.{not_up_ends}
-use Rattle.session_laws.proofs.Tie.Owes.{is_asked, lives}
-use Rattle.session_laws.proofs.Tie.Tied.{AreCalm, HasCourse, Inner, IsOver, Tied, TiedLife, TiedManager, has_ended, is_begun}
+use Rattle.session_laws.proofs.Ties.Aside.{not_up_ends}
+use Rattle.session_laws.proofs.Ties.Owes.{is_asked, lives}
+use Rattle.session_laws.proofs.Ties.Tied.{AreCalm, HasCourse, Inner, IsOver, Tied, TiedLife, TiedManager, has_ended, is_begun}
 use Rattle.link_core.specs.Link.{LinkState}
 
 -- no generation begins, and no link is asked for

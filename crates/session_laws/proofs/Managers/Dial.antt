@@ -17,12 +17,12 @@ use Rattle.legal_trace.specs.Book.{Book, entered, hearing_in, info_in, wanted_in
 use Rattle.legal_trace.specs.Ledger.{Line, Start, asks, noted, noted_each, setup_count, again_among}
 use Rattle.legal_trace.specs.Legal.{IsTimed}
 use Rattle.legal_trace.specs.Managers.{is_last, settings_in}
-use Rattle.session_laws.proofs.Tie.Ahead.{waiting_open}
-use Rattle.session_laws.proofs.Tie.Kept.{mine_noted, tied_by}
-use Rattle.session_laws.proofs.Tie.Numbers.{IsIn, Rising, requests_in, rising_right}
+use Rattle.session_laws.proofs.Ties.Ahead.{waiting_open}
+use Rattle.session_laws.proofs.Ties.Kept.{mine_noted, tied_by}
+use Rattle.session_laws.proofs.Ties.Numbers.{IsIn, Rising, requests_in, rising_right}
 use Rattle.session_laws.proofs.Requests.Rounded.{rounds_down}
 use Rattle.session_laws.proofs.Links.Server.{AreSought, HasSaid, NoneRenewed, TiedRenewal, owners_of, setup_owners}
-use Rattle.session_laws.proofs.Tie.Tied.{AreAimed, AreQueued, HasCourse, IsAside, IsUse, Inner, Tied, TiedLife, TiedLines, carried, has_ended, is_begun, link_in, no_link, owner_of, owners_each, waiting_ids, whole_link}
+use Rattle.session_laws.proofs.Ties.Tied.{AreAimed, AreQueued, HasCourse, IsAside, IsUse, Inner, Tied, TiedLife, TiedLines, carried, has_ended, is_begun, link_in, no_link, owner_of, owners_each, waiting_ids, whole_link}
 use Rattle.session_laws.proofs.Internal.Serving.{unready_serves}
 use Rattle.session_laws.proofs.Internal.Subscribes.{RepeatsNext, asked_repeat}
 use Rattle.mux_conn.specs.declared.again.Again.{Again}

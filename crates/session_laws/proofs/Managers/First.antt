@@ -35,7 +35,7 @@ use Rattle.legal_trace.specs.Story.{is_open as is_story_open}
 use Rattle.legal_trace.proofs.Plain.{last_item}
 use Rattle.mux_conn.specs.declared.again.Again.TheVariants as again
 use Rattle.session_laws.proofs.Managers.Judge.{news_not_shut}
-use Rattle.session_laws.proofs.Tie.Tied.{Tied, TiedStory, inner, waiting_ids}
+use Rattle.session_laws.proofs.Ties.Tied.{Tied, TiedStory, inner, waiting_ids}
 use Rattle.mux_conn.specs.Repeats.{repeating}
 
 -- nothing was asked of the connection, and it has no link

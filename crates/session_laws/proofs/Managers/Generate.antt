@@ -22,15 +22,15 @@ use Rattle.shared_session.specs.Generations.{begun_with}
 use Rattle.legal_trace.specs.Ledger.{End, renewals_asked, renewal_count}
 use Rattle.legal_trace.specs.Book.{Book, entered, has_generations}
 use Rattle.legal_trace.specs.Owed.{owed_unstarted}
-use Rattle.session_laws.proofs.Tie.Ahead.{admitted_open, placed_open, waiting_open}
+use Rattle.session_laws.proofs.Ties.Ahead.{admitted_open, placed_open, waiting_open}
 use Rattle.session_laws.proofs.Requests.Going.{undue_asked}
-use Rattle.session_laws.proofs.Tie.Numbers.{Rising}
-use Rattle.session_laws.proofs.Tie.Owes.{ends_told, notices_told}
+use Rattle.session_laws.proofs.Ties.Numbers.{Rising}
+use Rattle.session_laws.proofs.Ties.Owes.{ends_told, notices_told}
 use Rattle.session_laws.proofs.Internal.Renewals.{down_renewed_due}
 use Rattle.session_laws.proofs.Managers.Reopen.{ArePast, HasNoLink, aim_later, at_rest, none_held, use_later}
 use Rattle.session_laws.proofs.Requests.Rounded.{unbegun_waits, early_on}
 use Rattle.session_laws.proofs.Links.Server.{AreSought, HasSaid, NoneRenewed, TiedRenewal}
-use Rattle.session_laws.proofs.Tie.Tied.{AreLate, AreQueued, HasCourse, IsAside, IsPacked, Inner, TiedTries, carried, has_ended, whole_link, Tied, TiedLife, TiedLines, TiedManager, TiedPermits, TiedRounds, TiedStory, TiedWaits, no_link, link_in, waiting_ids}
+use Rattle.session_laws.proofs.Ties.Tied.{AreLate, AreQueued, HasCourse, IsAside, IsPacked, Inner, TiedTries, carried, has_ended, whole_link, Tied, TiedLife, TiedLines, TiedManager, TiedPermits, TiedRounds, TiedStory, TiedWaits, no_link, link_in, waiting_ids}
 use Rattle.session_laws.proofs.Internal.Repeats.{serves}
 use Rattle.session_laws.proofs.Internal.Serving.{unready_serves}
 use Rattle.legal_trace.specs.Story.{Story}

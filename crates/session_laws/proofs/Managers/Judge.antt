@@ -26,12 +26,12 @@ use Rattle.legal_trace.proofs.Ledgers.{dials_from}
 use Rattle.legal_trace.proofs.Plain.{same_some}
 use Rattle.session_laws.proofs.Turn.Announce.{turn_of}
 use Rattle.session_laws.proofs.Managers.Causes.{AreAdded, acts_add, acts_end, acts_stay, caused_is}
-use Rattle.session_laws.proofs.Tie.Entered.{all_stand_behind, book-append, book_more}
+use Rattle.session_laws.proofs.Ties.Entered.{all_stand_behind, book-append, book_more}
 use Rattle.session_laws.proofs.Links.Lost.{IsEndOf, IsNewEnd, IsOldEnd, is_shut_down, new_heard}
-use Rattle.session_laws.proofs.Tie.Owes.{lives}
-use Rattle.session_laws.proofs.Tie.Past.{ends_before}
-use Rattle.session_laws.proofs.Tie.States.{Between}
-use Rattle.session_laws.proofs.Tie.Tied.{HasCourse, Inner, IsOver, Tied, TiedLife, has_ended}
+use Rattle.session_laws.proofs.Ties.Owes.{lives}
+use Rattle.session_laws.proofs.Ties.Past.{ends_before}
+use Rattle.session_laws.proofs.Ties.States.{Between}
+use Rattle.session_laws.proofs.Ties.Tied.{HasCourse, Inner, IsOver, Tied, TiedLife, has_ended}
 use Rattle.session_laws.proofs.Internal.Repeats.{HasServed, TiedRepeat}
 use Rattle.mux_conn.specs.declared.again.Again.{Again}
 use Rattle.mux_conn.specs.Connection.{is_outstanding}

@@ -30,13 +30,13 @@ use Rattle.legal_trace.specs.Managers.{settings_in, is_last as last_in}
 use Rattle.legal_trace.proofs.Moves.{lt_test}
 use Rattle.session_laws.proofs.Managers.Comes.{NoneComes, none_caused, none_rests}
 use Rattle.session_laws.proofs.Managers.Dial.{CanDial, asks_line, dialled_book, dialled_in, dials_tied}
-use Rattle.session_laws.proofs.Tie.Entered.{all_stand-append, book_more, sound_more}
+use Rattle.session_laws.proofs.Ties.Entered.{all_stand-append, book_more, sound_more}
 use Rattle.session_laws.proofs.Managers.Generate.{begun_in}
 use Rattle.session_laws.proofs.Requests.Going.{applied_up, shown_resting}
-use Rattle.session_laws.proofs.Tie.Names.{get_more}
-use Rattle.session_laws.proofs.Tie.Past.{is_past, unended_over}
+use Rattle.session_laws.proofs.Ties.Names.{get_more}
+use Rattle.session_laws.proofs.Ties.Past.{is_past, unended_over}
 use Rattle.session_laws.proofs.Managers.Reopen.{at_rest, rest_tied, rested_in, rests_tied}
-use Rattle.session_laws.proofs.Tie.Tied.{AreAimed, ComesBack, HasCourse, Inner, IsAim, IsRetiring, IsToldIn, Sound, Tied, TiedLife, TiedManager, has_ended, is_begun}
+use Rattle.session_laws.proofs.Ties.Tied.{AreAimed, ComesBack, HasCourse, Inner, IsAim, IsRetiring, IsToldIn, Sound, Tied, TiedLife, TiedManager, has_ended, is_begun}
 use Rattle.session_laws.proofs.Internal.Informed.{HasInformed}
 use Rattle.session_laws.proofs.Internal.Subscribes.{RepeatsNext, repeats_next}
 

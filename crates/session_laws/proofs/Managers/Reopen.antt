@@ -23,14 +23,14 @@ use Rattle.legal_trace.specs.Ledger.{Ledger, blank_ledger}
 use Rattle.legal_trace.specs.Story.{Story, carried, is_awaited, is_no_error, is_open, is_told, packed_in}
 use Rattle.legal_trace.specs.Book.{Book, entered, has_generations, hearing_in, if_own}
 use Rattle.legal_trace.specs.Steps.{permits_held, permits_on}
-use Rattle.session_laws.proofs.Tie.Ahead.{admitted_open, placed_open, waiting_open}
-use Rattle.session_laws.proofs.Tie.Kept.{packed_same}
-use Rattle.session_laws.proofs.Tie.Names.{get_more, name_placed, open_within}
-use Rattle.session_laws.proofs.Tie.Numbers.{IsIn, Rising}
-use Rattle.session_laws.proofs.Tie.Owes.{answered_closed}
+use Rattle.session_laws.proofs.Ties.Ahead.{admitted_open, placed_open, waiting_open}
+use Rattle.session_laws.proofs.Ties.Kept.{packed_same}
+use Rattle.session_laws.proofs.Ties.Names.{get_more, name_placed, open_within}
+use Rattle.session_laws.proofs.Ties.Numbers.{IsIn, Rising}
+use Rattle.session_laws.proofs.Ties.Owes.{answered_closed}
 use Rattle.session_laws.proofs.Requests.Rounded.{admitted_begun, placed_begun, unbegun_waits}
 use Rattle.session_laws.proofs.Links.Server.{NoneRenewed, TiedCreds, TiedSetup}
-use Rattle.session_laws.proofs.Tie.Tied.{AreAside, AreCalm, AreLate, AreUses, Inner, IsAim, IsAside, IsRefused, IsRequest, IsRetiring, IsUnknown, IsUse, Tied, TiedCreation, TiedLines, TiedLife, TiedManager, TiedNames, TiedNotices, TiedNumbers, TiedTries, TiedPermits, TiedRounds, TiedStory, TiedWaits, no_link, owner_of, is_reading, waiting_ids}
+use Rattle.session_laws.proofs.Ties.Tied.{AreAside, AreCalm, AreLate, AreUses, Inner, IsAim, IsAside, IsRefused, IsRequest, IsRetiring, IsUnknown, IsUse, Tied, TiedCreation, TiedLines, TiedLife, TiedManager, TiedNames, TiedNotices, TiedNumbers, TiedTries, TiedPermits, TiedRounds, TiedStory, TiedWaits, no_link, owner_of, is_reading, waiting_ids}
 
 -- a session without a link
 --

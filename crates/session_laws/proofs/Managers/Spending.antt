@@ -20,18 +20,18 @@ use Rattle.shared_session.specs.declared.generations.Generations.{Generations}
 use Rattle.shared_session.specs.Generations.{came_back, comeback_shown, heeded, heeding}
 use Rattle.shared_session.specs.Turn.{Turning, actions_of, counted, effect, flushed_apart, is_bad, next_turn, numbered, passed_by, shown_behind, shown_each}
 use Rattle.legal_trace.specs.Book.{Book, book}
-use Rattle.session_laws.proofs.Tie.Ahead.{admitted_open, waiting_open}
+use Rattle.session_laws.proofs.Ties.Ahead.{admitted_open, waiting_open}
 use Rattle.session_laws.proofs.Turn.Announce.{turn_of}
 use Rattle.session_laws.proofs.Managers.Comes.{live_comes}
 use Rattle.session_laws.proofs.Turn.Effects.{effect_holds}
 use Rattle.session_laws.proofs.Managers.Manage.{HasHeard, none_open_over, stays_returned}
-use Rattle.session_laws.proofs.Tie.Numbers.{IsIn}
+use Rattle.session_laws.proofs.Ties.Numbers.{IsIn}
 use Rattle.session_laws.proofs.Managers.Return as return
 use Rattle.session_laws.proofs.Requests.Rounded.{rounds_down}
 use Rattle.session_laws.proofs.Requests.Settled.{IsBetween, applied_moved, unmoved}
-use Rattle.session_laws.proofs.Tie.States.{HasApplied, HasRetired}
+use Rattle.session_laws.proofs.Ties.States.{HasApplied, HasRetired}
 use Rattle.session_laws.proofs.Links.Server.{NoneRenewed, TiedRenewal}
-use Rattle.session_laws.proofs.Tie.Tied.{Tied, has_ended, inner, link_in, relined}
+use Rattle.session_laws.proofs.Ties.Tied.{Tied, has_ended, inner, link_in, relined}
 use Rattle.session_laws.proofs.Managers.Turns.{heard_so, made, retired_same}
 use Rattle.session_laws.proofs.Managers.Whole.{managed_between, managed_core, managed_trace, what_of}
 use Rattle.session_laws.proofs.Internal.Serving.{unready_serves}

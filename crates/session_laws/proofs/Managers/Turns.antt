@@ -32,12 +32,12 @@ use Rattle.session_laws.proofs.Managers.First.{HasFirst, IsIdle, StaysIdle, effe
 use Rattle.session_laws.proofs.Managers.Judge.{HasActed, acted_adds, has_acted, runs_on, acted_informed}
 use Rattle.session_laws.proofs.Managers.Manage.{HasCome, HasHeard, NoneCame, rests_links, returned, woken_by}
 use Rattle.session_laws.proofs.Requests.Moved.{HasMoved, resting_passed}
-use Rattle.session_laws.proofs.Tie.Past.{is_founded}
+use Rattle.session_laws.proofs.Ties.Past.{is_founded}
 use Rattle.session_laws.proofs.Managers.Return as return
 use Rattle.session_laws.proofs.Requests.Settle.{trace_of_acts}
 use Rattle.session_laws.proofs.Requests.Settled.{IsBetween, applied_moved}
-use Rattle.session_laws.proofs.Tie.States.{HasApplied, HasRetired}
-use Rattle.session_laws.proofs.Tie.Tied.{ComesBack, HasHeeded, IsHeeded, IsRetiring, Sound, Tied, TiedManager, inner, waiting_ids}
+use Rattle.session_laws.proofs.Ties.States.{HasApplied, HasRetired}
+use Rattle.session_laws.proofs.Ties.Tied.{ComesBack, HasHeeded, IsHeeded, IsRetiring, Sound, Tied, TiedManager, inner, waiting_ids}
 use Rattle.session_laws.proofs.Managers.Whole.{heeds_retiring, heeds_tied, managed_between, own_is, what_of}
 
 -- before its first generation nothing was asked of a session's connection, unless everything was shut down, and no creation failed

@@ -27,7 +27,7 @@ use Rattle.session_laws.proofs.Turn.Announce.{turn_of}
 use Rattle.session_laws.proofs.Managers.Return as return
 use Rattle.session_laws.proofs.Requests.Settle.{seen}
 use Rattle.session_laws.proofs.Requests.Settled.{IsBetween, returned_between}
-use Rattle.session_laws.proofs.Tie.Tied.{HasCourse, Inner, IsHeeded, IsRetiring, Sound, Tied, TiedManager, TiedNumbers, inner, is_begun}
+use Rattle.session_laws.proofs.Ties.Tied.{HasCourse, Inner, IsHeeded, IsRetiring, Sound, Tied, TiedManager, TiedNumbers, inner, is_begun}
 use Rattle.session_laws.proofs.Links.Write.{HasReturned}
 use Rattle.session_laws.proofs.Internal.Informed.{IsInformed}
 

@@ -25,16 +25,16 @@ use Rattle.legal_trace.specs.Owed.{owed, owed_by, owed_to_try, owed_to_message, 
 use Rattle.legal_trace.specs.Legal.{NoneEnds, VerdictsAreShown, MayAnswer, FailuresAreShown, EndsAreTold, IsBefore, is_heard}
 use Rattle.session_laws.proofs.Managers.Calm.{calm_more, owed_calm}
 use Rattle.session_laws.proofs.Requests.Rounded.{rounds_closed, early_closed}
-use Rattle.session_laws.proofs.Tie.Numbers.{IsIn, in_either, in_right, in_left, Rising, rising_in, requests_in, request_in}
-use Rattle.session_laws.proofs.Tie.Tied.{AreCalm, Inner, link_in, queue_ids, TiedLife, TiedNames, IsEntry, AreQueued, TiedLines, Tied, relined, has_ended, numbers_kept}
+use Rattle.session_laws.proofs.Ties.Numbers.{IsIn, in_either, in_right, in_left, Rising, rising_in, requests_in, request_in}
+use Rattle.session_laws.proofs.Ties.Tied.{AreCalm, Inner, link_in, queue_ids, TiedLife, TiedNames, IsEntry, AreQueued, TiedLines, Tied, relined, has_ended, numbers_kept}
 use Rattle.session_laws.proofs.Links.Said.{carried_tied, sources_asked}
-use Rattle.session_laws.proofs.Tie.Names.{name_within, open_within, earlier_name, owners_with, length_with, names_with, with_other, with_then, request_not}
-use Rattle.session_laws.proofs.Tie.Aside.{aside_ends, not_up_ends, over_not_asked}
-use Rattle.session_laws.proofs.Tie.InLine.{kept_ids, line_of, IsInLine, awaited_in, first_is_apart}
-use Rattle.session_laws.proofs.Tie.Behind.{open_unanswered, told_answered}
+use Rattle.session_laws.proofs.Ties.Names.{name_within, open_within, earlier_name, owners_with, length_with, names_with, with_other, with_then, request_not}
+use Rattle.session_laws.proofs.Ties.Aside.{aside_ends, not_up_ends, over_not_asked}
+use Rattle.session_laws.proofs.Ties.InLine.{kept_ids, line_of, IsInLine, awaited_in, first_is_apart}
+use Rattle.session_laws.proofs.Ties.Behind.{open_unanswered, told_answered}
 use Rattle.session_laws.proofs.Requests.Closing.{Closes, closed_other, late_closed, with_closed, story_closed, tries_closed, packs_closed, queue_closed, waits_closed, kept_other, IsUntried, told_closed}
-use Rattle.session_laws.proofs.Tie.Permits.{permits_closed}
-use Rattle.session_laws.proofs.Tie.Owes.{request_story, open_request, answered_closed, ends_told, failures_shown, notices_told}
+use Rattle.session_laws.proofs.Ties.Permits.{permits_closed}
+use Rattle.session_laws.proofs.Ties.Owes.{request_story, open_request, answered_closed, ends_told, failures_shown, notices_told}
 use Rattle.mux_conn.specs.Connection.{is_outstanding}
 use Rattle.mux_conn.specs.declared.again.Again.{Again}
 use Rattle.sub_tracker.specs.Subscribed.{Request as Call}

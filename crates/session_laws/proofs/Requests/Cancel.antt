@@ -36,23 +36,23 @@ use Rattle.legal_trace.specs.Story.{Story, is_open, is_told, left}
 use Rattle.legal_trace.specs.Book.{Book, after_event, book, entered, if_own, shuts, submitted_by, timeout_after, kind_in, has_generations}
 use Rattle.mux_conn.specs.declared.renewal.Renewal.{Renewal}
 use Rattle.session_laws.proofs.Requests.Rounded.{rounds_closed, early_closed}
-use Rattle.session_laws.proofs.Tie.Aside.{aside_silent}
+use Rattle.session_laws.proofs.Ties.Aside.{aside_silent}
 use Rattle.session_laws.proofs.Internal.Renewals.{renewal_alike}
-use Rattle.session_laws.proofs.Tie.Numbers.{IsIn, in_left, in_right, in_either, Rising, rising_from, rising_in, rising_right, rising_tail, requests_in, request_in, request_of, request_other, requests_first, is_own}
+use Rattle.session_laws.proofs.Ties.Numbers.{IsIn, in_left, in_right, in_either, Rising, rising_from, rising_in, rising_right, rising_tail, requests_in, request_in, request_of, request_other, requests_first, is_own}
 use Rattle.session_laws.proofs.Links.Server.{TiedCreds, TiedSetup, TiedRenewal, hearing_at}
-use Rattle.session_laws.proofs.Tie.Tied.{carried, inner, no_link, link_in, owner_of, queue_ids, whole_link, IsQueued, IsEntry, AreQueued, TiedLife, TiedStory, TiedNames, TiedNumbers, TiedPermits, TiedLines, IsAside, Tied, has_ended, greeter, TiedRounds, HasCourse, TiedNotices, AreEarly}
-use Rattle.session_laws.proofs.Tie.States.{IsFit, IsFitIn, Between, HasApplied, IsStopped}
-use Rattle.session_laws.proofs.Tie.Names.{name_within, open_within, name_of_some, owners_with, length_with, names_with, with_other, with_then, request_not}
-use Rattle.session_laws.proofs.Tie.InLine.{row_ids, kept_ids, chosen_in, awaited_in, wanted_in}
-use Rattle.session_laws.proofs.Tie.Behind.{open_untold}
-use Rattle.session_laws.proofs.Tie.Owes.{answered_closed, request_story, row_in_line}
+use Rattle.session_laws.proofs.Ties.Tied.{carried, inner, no_link, link_in, owner_of, queue_ids, whole_link, IsQueued, IsEntry, AreQueued, TiedLife, TiedStory, TiedNames, TiedNumbers, TiedPermits, TiedLines, IsAside, Tied, has_ended, greeter, TiedRounds, HasCourse, TiedNotices, AreEarly}
+use Rattle.session_laws.proofs.Ties.States.{IsFit, IsFitIn, Between, HasApplied, IsStopped}
+use Rattle.session_laws.proofs.Ties.Names.{name_within, open_within, name_of_some, owners_with, length_with, names_with, with_other, with_then, request_not}
+use Rattle.session_laws.proofs.Ties.InLine.{row_ids, kept_ids, chosen_in, awaited_in, wanted_in}
+use Rattle.session_laws.proofs.Ties.Behind.{open_untold}
+use Rattle.session_laws.proofs.Ties.Owes.{answered_closed, request_story, row_in_line}
 use Rattle.legal_trace.specs.Legal.{NoneEnds}
 use Rattle.session_laws.proofs.Requests.Closing.{Closes, WasReady, WasSettingUp, WasWanting, closed_other, late_closed, with_closed, story_closed, tries_closed, packs_closed, queued_other, queue_closed, AreOthers, waits_closed, kept_other, IsUntried, told_closed}
 use Rattle.session_laws.proofs.Requests.Answer.{entries_answered}
 use Rattle.session_laws.proofs.Requests.Settle.{seen}
 use Rattle.session_laws.proofs.Turn.Announce.{aims_on, turn_of, turned, uses_on, time_still}
-use Rattle.session_laws.proofs.Tie.Kept.{tied_by}
-use Rattle.session_laws.proofs.Tie.Permits.{permits_closed}
+use Rattle.session_laws.proofs.Ties.Kept.{tied_by}
+use Rattle.session_laws.proofs.Ties.Permits.{permits_closed}
 use Rattle.session_laws.proofs.Turn.Heard.{silent_applied, still_none, told_life, silent_no_end, tame_between, hushed_still}
 use Rattle.session_laws.proofs.Links.Said.{carried_tied, setup_on, IsTame, renoticed}
 use Rattle.mux_conn.specs.Connection.{is_outstanding, is_ready, is_resting}

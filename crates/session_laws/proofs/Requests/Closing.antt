@@ -22,10 +22,10 @@ use Rattle.mux_conn.specs.Requests.{is_open as is_open_progress, is_waiting, is_
 use Rattle.legal_trace.specs.Ledger.{Ledger, setup_count}
 use Rattle.legal_trace.specs.Story.{Story, is_open, is_told, shape, packed_in, shape_in, awaited_in}
 use Rattle.legal_trace.specs.Book.{if_own}
-use Rattle.session_laws.proofs.Tie.Numbers.{IsIn, Rising}
+use Rattle.session_laws.proofs.Ties.Numbers.{IsIn, Rising}
 use Rattle.session_laws.proofs.Links.Server.{setup_owners}
-use Rattle.session_laws.proofs.Tie.Tied.{link_in, owners_each, queue_ids, IsRefused, IsRequest, TiedStory, TiedTries, TiedNames, IsOf, IsQueued, IsPacked, IsKept, AreQueued, shown_wait, TiedWaits, AreLate}
-use Rattle.session_laws.proofs.Tie.Names.{name_placed, permits_other, permits_with, same_name, name_of_some, name_with, owners_with, length_with, was_with, there_within, with_same, with_other, with_then}
+use Rattle.session_laws.proofs.Ties.Tied.{link_in, owners_each, queue_ids, IsRefused, IsRequest, TiedStory, TiedTries, TiedNames, IsOf, IsQueued, IsPacked, IsKept, AreQueued, shown_wait, TiedWaits, AreLate}
+use Rattle.session_laws.proofs.Ties.Names.{name_placed, permits_other, permits_with, same_name, name_of_some, name_with, owners_with, length_with, was_with, there_within, with_same, with_other, with_then}
 
 -- a story that closes: what was handed in and tried stays
 pub record Closes (s c : Story) : Type 0 where

@@ -21,15 +21,15 @@ use Rattle.link_core.specs.Link.{LinkState}
 use Rattle.link_laws.specs.Settles.{awaited_ids}
 use Rattle.legal_trace.specs.Ledger.{Ledger, setup_count}
 use Rattle.legal_trace.specs.Story.{Story, is_told, shape}
-use Rattle.session_laws.proofs.Tie.Numbers.{IsIn, Rising, is_own, below_own}
+use Rattle.session_laws.proofs.Ties.Numbers.{IsIn, Rising, is_own, below_own}
 use Rattle.session_laws.proofs.Links.Server.{setup_owners}
-use Rattle.session_laws.proofs.Tie.Tied.{carried, link_in, no_link, owner_of, owners_each, queue_ids, waiting_ids, whole_link, IsRequest, TiedStory, TiedTries, TiedNames, IsOf, IsQueued, IsEntry, IsPacked, AreQueued, AreLate, shown_wait, TiedWaits, TiedPermits, own_owner}
-use Rattle.session_laws.proofs.Tie.Permits.{held_same}
+use Rattle.session_laws.proofs.Ties.Tied.{carried, link_in, no_link, owner_of, owners_each, queue_ids, waiting_ids, whole_link, IsRequest, TiedStory, TiedTries, TiedNames, IsOf, IsQueued, IsEntry, IsPacked, AreQueued, AreLate, shown_wait, TiedWaits, TiedPermits, own_owner}
+use Rattle.session_laws.proofs.Ties.Permits.{held_same}
 use Rattle.legal_trace.specs.Steps.{is_let_in, permits_held, permits_on}
 use Rattle.driver_model.specs.declared.action.WaitKind.{WaitKind}
 use Rattle.driver_model.specs.declared.action.WaitKind.TheVariants as wait
 use Rattle.session_laws.proofs.Requests.Closing.{IsUntried, one_of}
-use Rattle.session_laws.proofs.Tie.Names.{name_within, owner_below}
+use Rattle.session_laws.proofs.Ties.Names.{name_within, owner_below}
 
 -- nothing stands beyond the end
 pub get_beyond : {X : Type 0} (xs : List X) (n : ℕ) → length xs ≤ n → slice_get xs n ≡ None

@@ -18,22 +18,22 @@ use Rattle.legal_trace.specs.Book.{Book, blank_book, book, entered, if_mine}
 use Rattle.legal_trace.specs.Ledger.{Ledger, Line, dials, ending, is_set_up, lacks_credentials, noted, noted_each, renewal_count, renewal_due, renewals_asked, setup_count, setup_due, setup_steps, monitor_due, is_greeted, setup_result}
 use Rattle.legal_trace.specs.Legal.{AllStand, CanMove, IsApplied, IsBegun, IsFirstToMove, IsMoved, MayStand, NoneEnds, RenewalsAreStarted, RenewalsAreTimed, SetupsAreStarted, MonitorsAreStarted, IsShown, RepeatsAreTimed, RepeatsAreStarted}
 use Rattle.legal_trace.specs.Steps.{Step, is_due, is_held_back, next_step, starts_or_waits, step_down, step_ready, unready_wait, waits}
-use Rattle.session_laws.proofs.Tie.Ahead.{HasSeats, IsRunning, creds_step, full_step, held_by, permit_step, queue_step, ready_alive, running_of, setup_step, repeat_step}
-use Rattle.session_laws.proofs.Tie.Behind.{alive_behind}
+use Rattle.session_laws.proofs.Ties.Ahead.{HasSeats, IsRunning, creds_step, full_step, held_by, permit_step, queue_step, ready_alive, running_of, setup_step, repeat_step}
+use Rattle.session_laws.proofs.Ties.Behind.{alive_behind}
 use Rattle.session_laws.proofs.Managers.Comes.{NoneComes, live_comes, none_rests}
 use Rattle.session_laws.proofs.Links.Creds.{lacking_undue, wanting_lacks, lacking_undecided}
-use Rattle.session_laws.proofs.Tie.Entered.{book_more, sound_more}
-use Rattle.session_laws.proofs.Tie.InLine.{first_is_least, kept_ids, kept_in, line_of}
-use Rattle.session_laws.proofs.Tie.Moves.{IsLater, later_of, unstarted_alive}
-use Rattle.session_laws.proofs.Tie.Names.{earlier_name}
-use Rattle.session_laws.proofs.Tie.Numbers.{IsIn, Rising, in_left, in_right, rising_in, rising_right, requests_in}
-use Rattle.session_laws.proofs.Tie.Owes.{created_is, ends_told, none_open, none_owed, notices_told}
+use Rattle.session_laws.proofs.Ties.Entered.{book_more, sound_more}
+use Rattle.session_laws.proofs.Ties.InLine.{first_is_least, kept_ids, kept_in, line_of}
+use Rattle.session_laws.proofs.Ties.Moves.{IsLater, later_of, unstarted_alive}
+use Rattle.session_laws.proofs.Ties.Names.{earlier_name}
+use Rattle.session_laws.proofs.Ties.Numbers.{IsIn, Rising, in_left, in_right, rising_in, rising_right, requests_in}
+use Rattle.session_laws.proofs.Ties.Owes.{created_is, ends_told, none_open, none_owed, notices_told}
 use Rattle.session_laws.proofs.Internal.Renewals.{all_timed, down_renewed_due, due_is, none_renewed_due}
 use Rattle.session_laws.proofs.Links.Said.{sources_asked}
 use Rattle.session_laws.proofs.Links.SetUp.{down_undue, none_due, sent_undue, set_up_undue, setting_undecided}
-use Rattle.session_laws.proofs.Tie.States.{AreBegun, IsFit}
+use Rattle.session_laws.proofs.Ties.States.{AreBegun, IsFit}
 use Rattle.session_laws.proofs.Links.Server.{AreSought, HasSaid, IsSetUp, TiedRenewal, AreRenewed, IsGreeting, watch_queued}
-use Rattle.session_laws.proofs.Tie.Tied.{Inner, Sound, Tied, TiedLife, carried, has_ended, link_in, owner_of, queue_ids, waiting_ids, whole_link, IsToldIn, greeter}
+use Rattle.session_laws.proofs.Ties.Tied.{Inner, Sound, Tied, TiedLife, carried, has_ended, link_in, owner_of, queue_ids, waiting_ids, whole_link, IsToldIn, greeter}
 use Rattle.mux_conn.specs.declared.life.Greeting.TheVariants as greet
 use Rattle.legal_trace.proofs.Setups.{IsUndecided, greeted_is_undue}
 use Rattle.legal_trace.proofs.Watching.{watch_is_up, watch_is_greeted, watch_is_new, watch_is_unset}

@@ -39,15 +39,15 @@ use Rattle.legal_trace.specs.Book.{Book, after_event, book, entered, if_own, is_
 use Rattle.legal_trace.specs.Legal.{NoneEnds}
 use Rattle.session_laws.proofs.Requests.Rounded.{rounds_same}
 use Rattle.session_laws.proofs.Internal.Renewals.{renewal_alike}
-use Rattle.session_laws.proofs.Tie.Numbers.{IsIn, in_left, in_right, in_either, Rising, rising_in, rising_right, rising_tail, requests_in, request_in, request_of, request_other, is_own}
-use Rattle.session_laws.proofs.Tie.Tied.{Inner, inner, no_link, link_in, queue_ids, IsEntry, IsQueued, IsRequest, AreQueued, TiedLines, TiedPermits, TiedStory, TiedWaits, Tied, has_ended, shown_wait, TiedRounds}
-use Rattle.session_laws.proofs.Tie.States.{Between, HasApplied, IsStopped}
-use Rattle.session_laws.proofs.Tie.Behind.{open_untold}
-use Rattle.session_laws.proofs.Tie.Names.{name_of_some, open_within, same_name, request_not}
-use Rattle.session_laws.proofs.Tie.InLine.{row_ids, chosen_in, kept_ids, line_of, open_in_line}
-use Rattle.session_laws.proofs.Tie.Owes.{answered_closed, in_time, line_unowed, lives, none_open, not_empty, request_story, row_in_line, IsAwake}
-use Rattle.session_laws.proofs.Tie.Permits.{IsHolding, permits_same}
-use Rattle.session_laws.proofs.Tie.Kept.{one_changed, packed_same, queued_same, tied_by, tries_same}
+use Rattle.session_laws.proofs.Ties.Numbers.{IsIn, in_left, in_right, in_either, Rising, rising_in, rising_right, rising_tail, requests_in, request_in, request_of, request_other, is_own}
+use Rattle.session_laws.proofs.Ties.Tied.{Inner, inner, no_link, link_in, queue_ids, IsEntry, IsQueued, IsRequest, AreQueued, TiedLines, TiedPermits, TiedStory, TiedWaits, Tied, has_ended, shown_wait, TiedRounds}
+use Rattle.session_laws.proofs.Ties.States.{Between, HasApplied, IsStopped}
+use Rattle.session_laws.proofs.Ties.Behind.{open_untold}
+use Rattle.session_laws.proofs.Ties.Names.{name_of_some, open_within, same_name, request_not}
+use Rattle.session_laws.proofs.Ties.InLine.{row_ids, chosen_in, kept_ids, line_of, open_in_line}
+use Rattle.session_laws.proofs.Ties.Owes.{answered_closed, in_time, line_unowed, lives, none_open, not_empty, request_story, row_in_line, IsAwake}
+use Rattle.session_laws.proofs.Ties.Permits.{IsHolding, permits_same}
+use Rattle.session_laws.proofs.Ties.Kept.{one_changed, packed_same, queued_same, tied_by, tries_same}
 use Rattle.session_laws.proofs.Requests.Closing.{one_of, told_closed}
 use Rattle.session_laws.proofs.Requests.Answer.{answer_apart, may_answer, owed_untold, none_before}
 use Rattle.session_laws.proofs.Requests.Settle.{book_of_more, holds_more, seen, trace_of_acts}

@@ -23,7 +23,7 @@ use Rattle.mux_conn.specs.declared.act.LinkAct.TheVariants as act
 use Rattle.mux_conn.specs.declared.connection.MultiplexedConnection.{MultiplexedConnection}
 use Rattle.shared_session.specs.declared.core_state.Core.{Core}
 use Rattle.shared_session.specs.Turn.{sources_of, timers_of}
-use Rattle.session_laws.proofs.Tie.Entered.{quiet_sources, quiet_timers, shown_more, timers_more}
+use Rattle.session_laws.proofs.Ties.Entered.{quiet_sources, quiet_timers, shown_more, timers_more}
 use Rattle.session_laws.proofs.Requests.Settle.{book_of_more, seen, trace_of_acts}
 use Rattle.mux_conn.specs.Requests.{if_there, is_admitted, is_admitted_at, is_open as is_open_progress, is_placed, is_unbegun, is_waiting, is_waiting_at, name_at, permits_at, with_permits}
 use Rattle.mux_conn.specs.declared.life.Life.{Life}
@@ -38,21 +38,21 @@ use Rattle.legal_trace.specs.Ledger.{Ledger, setup_count}
 use Rattle.legal_trace.specs.Legal.{IsFirstToMove, MayTake, MayTime, NoneEnds}
 use Rattle.legal_trace.specs.Steps.{is_due, is_let_in, next_step, permits_held, permits_on, takes}
 use Rattle.legal_trace.specs.Story.{Story, awaited_in, clocked, holds, is_no_error, is_open, is_told, is_unstarted, packed_in, shape}
-use Rattle.session_laws.proofs.Tie.Ahead.{HasBegun, HasSeats, IsRunning, ask_step, full_step, kept_unstarted, running_of, take_step, waiting_open}
+use Rattle.session_laws.proofs.Ties.Ahead.{HasBegun, HasSeats, IsRunning, ask_step, full_step, kept_unstarted, running_of, take_step, waiting_open}
 use Rattle.session_laws.proofs.Requests.Going.{HasRenewed, IsGoing, begun_up, going_more, moves_later, queue_stays}
-use Rattle.session_laws.proofs.Tie.InLine.{first_is_least, kept_ids}
-use Rattle.session_laws.proofs.Tie.Kept.{of_same, tries_same}
-use Rattle.session_laws.proofs.Tie.Names.{earlier_name, get_more, length_with, name_placed, name_of_some, name_with, name_within, names_with, owners_with, permits_other, permits_with, same_name, there_within, was_with, with_other, with_same}
-use Rattle.session_laws.proofs.Tie.Numbers.{IsIn, Rising, in_right, rising_in, rising_right, requests_in}
-use Rattle.session_laws.proofs.Tie.Owes.{request_story, open_on}
-use Rattle.session_laws.proofs.Tie.Permits.{held_changed, held_same, on_this}
+use Rattle.session_laws.proofs.Ties.InLine.{first_is_least, kept_ids}
+use Rattle.session_laws.proofs.Ties.Kept.{of_same, tries_same}
+use Rattle.session_laws.proofs.Ties.Names.{earlier_name, get_more, length_with, name_placed, name_of_some, name_with, name_within, names_with, owners_with, permits_other, permits_with, same_name, there_within, was_with, with_other, with_same}
+use Rattle.session_laws.proofs.Ties.Numbers.{IsIn, Rising, in_right, rising_in, rising_right, requests_in}
+use Rattle.session_laws.proofs.Ties.Owes.{request_story, open_on}
+use Rattle.session_laws.proofs.Ties.Permits.{held_changed, held_same, on_this}
 use Rattle.session_laws.proofs.Requests.Closing.{one_of}
 use Rattle.session_laws.proofs.Requests.Rounded.{SameRounds, rounds_with, early_never}
 use Rattle.session_laws.proofs.Links.Said.{carried_tied}
-use Rattle.session_laws.proofs.Tie.States.{IsFit}
+use Rattle.session_laws.proofs.Ties.States.{IsFit}
 use Rattle.session_laws.proofs.Links.Server.{setup_owners}
-use Rattle.session_laws.proofs.Tie.Tied.{IsAim, AreAimed, AreQueued, Inner, IsEntry, IsKept, IsOf, IsPacked, IsQueued, IsRequest, Tied, TiedLines, TiedNames, TiedNumbers, TiedPermits, TiedRounds, TiedStory, TiedTries, TiedWaits, link_in, owners_each, queue_ids, shown_wait, waiting_ids, numbers_kept, IsToldIn}
-use Rattle.session_laws.proofs.Tie.Moves.{or_true}
+use Rattle.session_laws.proofs.Ties.Tied.{IsAim, AreAimed, AreQueued, Inner, IsEntry, IsKept, IsOf, IsPacked, IsQueued, IsRequest, Tied, TiedLines, TiedNames, TiedNumbers, TiedPermits, TiedRounds, TiedStory, TiedTries, TiedWaits, link_in, owners_each, queue_ids, shown_wait, waiting_ids, numbers_kept, IsToldIn}
+use Rattle.session_laws.proofs.Ties.Moves.{or_true}
 use Rattle.session_laws.proofs.Internal.Repeats.{serves}
 use Rattle.session_laws.proofs.Internal.Serving.{answered_serves}
 use Rattle.mux_conn.specs.declared.again.Again.{Again}

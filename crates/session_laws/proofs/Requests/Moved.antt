@@ -31,17 +31,17 @@ use Rattle.session_laws.proofs.Requests.Answer.{after_end}
 use Rattle.session_laws.proofs.Links.Close.{waiting_ends}
 use Rattle.mux_conn.specs.Renewals as renewals
 use Rattle.mux_conn.specs.Renewals.{renewal_asked, renewal_moved}
-use Rattle.session_laws.proofs.Tie.Ahead.{HasSeats}
+use Rattle.session_laws.proofs.Ties.Ahead.{HasSeats}
 use Rattle.session_laws.proofs.Internal.Renews.{HasTold, renewed_told}
 use Rattle.session_laws.proofs.Requests.Going.{IsGoing, HasRenewed}
-use Rattle.session_laws.proofs.Tie.InLine.{kept_ids}
-use Rattle.session_laws.proofs.Tie.Names.{open_within, with_other, with_then}
-use Rattle.session_laws.proofs.Tie.Numbers.{IsIn, Rising, rising_right, requests_in}
+use Rattle.session_laws.proofs.Ties.InLine.{kept_ids}
+use Rattle.session_laws.proofs.Ties.Names.{open_within, with_other, with_then}
+use Rattle.session_laws.proofs.Ties.Numbers.{IsIn, Rising, rising_right, requests_in}
 use Rattle.session_laws.proofs.Requests.Passes.{IsDone, IsSeated, IsUp, admitted_done, moved_up_seated, moved_up_waits, moving, started_keeps, started_up, found_full, rounds_done}
 use Rattle.session_laws.proofs.Links.Watches.{setting_begun}
 use Rattle.session_laws.proofs.Requests.Settle.{Holds, answered_leaves, failed_leaves, seen, trace_of_acts}
-use Rattle.session_laws.proofs.Tie.States.{IsFit, IsFitIn, IsStill, AreBegun, IsStopped}
-use Rattle.session_laws.proofs.Tie.Tied.{Inner, Sound, Tied, has_ended, link_in, queue_ids, waiting_ids}
+use Rattle.session_laws.proofs.Ties.States.{IsFit, IsFitIn, IsStill, AreBegun, IsStopped}
+use Rattle.session_laws.proofs.Ties.Tied.{Inner, Sound, Tied, has_ended, link_in, queue_ids, waiting_ids}
 use Rattle.session_laws.proofs.Internal.Repeats.{serves}
 use Rattle.session_laws.proofs.Internal.Serving.{unready_serves, outstanding_serves, answered_serves, serves_ready}
 use Rattle.session_laws.proofs.Internal.RepeatsDue.{served_repeated, down_repeated}

@@ -29,21 +29,21 @@ use Rattle.legal_trace.specs.Book.{Book, book}
 use Rattle.legal_trace.specs.Legal.{MayTell, NoneEnds, IsFirstToMove}
 use Rattle.legal_trace.specs.Steps.{is_let_in}
 use Rattle.session_laws.proofs.Requests.Rounds.{round_going, with_round}
-use Rattle.session_laws.proofs.Tie.Ahead.{IsRunning, first_step, kept_unstarted, waiting_open, HasSeats, running_of}
-use Rattle.session_laws.proofs.Tie.Entered.{shown_more}
+use Rattle.session_laws.proofs.Ties.Ahead.{IsRunning, first_step, kept_unstarted, waiting_open, HasSeats, running_of}
+use Rattle.session_laws.proofs.Ties.Entered.{shown_more}
 use Rattle.session_laws.proofs.Requests.Going.{IsGoing, begun_up, first_behind, going_more, HasRenewed, first_round}
-use Rattle.session_laws.proofs.Tie.InLine.{kept_ids}
+use Rattle.session_laws.proofs.Ties.InLine.{kept_ids}
 use Rattle.session_laws.proofs.Requests.LetIn.{IsOpening, let_in_conn, let_in_going, lets, permits_twice, first_early}
-use Rattle.session_laws.proofs.Tie.Names.{length_still, length_with, name_still, name_with, open_within, permits_still, permits_with, there_same, with_same, there_then, there_within}
-use Rattle.session_laws.proofs.Tie.Numbers.{IsIn, Rising, rising_left, rising_right, rising_tail, rising_without, in_either, in_right, requests_in, rising_apart, rising_in}
-use Rattle.session_laws.proofs.Tie.Owes.{request_story}
+use Rattle.session_laws.proofs.Ties.Names.{length_still, length_with, name_still, name_with, open_within, permits_still, permits_with, there_same, with_same, there_then, there_within}
+use Rattle.session_laws.proofs.Ties.Numbers.{IsIn, Rising, rising_left, rising_right, rising_tail, rising_without, in_either, in_right, requests_in, rising_apart, rising_in}
+use Rattle.session_laws.proofs.Ties.Owes.{request_story}
 use Rattle.session_laws.proofs.Requests.Place.{IsNext, admit_tied, next_admitted, next_waiting, passed_admitted, passed_waiting, place_tied, tell_tied, with_place, with_told}
 use Rattle.session_laws.proofs.Links.SetsUp.{greeted_conn}
 use Rattle.session_laws.proofs.Requests.Settle.{answered_leaves, quiet_asks, seen, trace_of_acts}
 use Rattle.session_laws.proofs.Requests.Start.{on_link}
 use Rattle.session_laws.proofs.Requests.Starts.{each_fit, each_going, each_held, shown_is, shows, shows_sources, shows_timers, each_seats}
-use Rattle.session_laws.proofs.Tie.States.{IsFit}
-use Rattle.session_laws.proofs.Tie.Tied.{Inner, Tied, queue_ids, waiting_ids, link_in}
+use Rattle.session_laws.proofs.Ties.States.{IsFit}
+use Rattle.session_laws.proofs.Ties.Tied.{Inner, Tied, queue_ids, waiting_ids, link_in}
 
 -- the session with this connection, of which these wait for a place, and these for the connection, when these acts are shown
 abbrev pub moving : Core → List LinkAct → MultiplexedConnection → List Waiting → List Waiting → List ℕ → Inner

@@ -29,21 +29,21 @@ use Rattle.legal_trace.specs.Ledger.{Ledger, setup_count}
 use Rattle.legal_trace.specs.Steps.{is_let_in}
 use Rattle.legal_trace.specs.Story.{Story, answered, is_told, shape}
 use Rattle.session_laws.proofs.Requests.Answer.{answer_closes, lines_answered}
-use Rattle.session_laws.proofs.Tie.Behind.{open_unanswered}
+use Rattle.session_laws.proofs.Ties.Behind.{open_unanswered}
 use Rattle.session_laws.proofs.Requests.Closing.{Closes, IsOneOf, closed_other, kept_other, late_closed, one_of, story_closed, tries_closed, waits_closed, with_closed}
-use Rattle.session_laws.proofs.Tie.InLine.{awaited_in, kept_ids}
-use Rattle.session_laws.proofs.Tie.Kept.{of_same}
-use Rattle.session_laws.proofs.Tie.Names.{length_still, length_with, name_still, name_was, name_with, name_within, names_progressed, names_with, open_within, owners_still, owners_with, permits_still, request_not, there_other, there_same, there_then, with_same}
-use Rattle.session_laws.proofs.Tie.Numbers.{IsIn, Rising, in_either, in_left, in_right, rising_apart, rising_in, rising_right, rising_tail, rising_without, request_in, requests_in}
-use Rattle.session_laws.proofs.Tie.Owes.{in_line, request_story, open_on}
-use Rattle.session_laws.proofs.Tie.Permits.{permits_closed, permits_further, permits_let}
+use Rattle.session_laws.proofs.Ties.InLine.{awaited_in, kept_ids}
+use Rattle.session_laws.proofs.Ties.Kept.{of_same}
+use Rattle.session_laws.proofs.Ties.Names.{length_still, length_with, name_still, name_was, name_with, name_within, names_progressed, names_with, open_within, owners_still, owners_with, permits_still, request_not, there_other, there_same, there_then, with_same}
+use Rattle.session_laws.proofs.Ties.Numbers.{IsIn, Rising, in_either, in_left, in_right, rising_apart, rising_in, rising_right, rising_tail, rising_without, request_in, requests_in}
+use Rattle.session_laws.proofs.Ties.Owes.{in_line, request_story, open_on}
+use Rattle.session_laws.proofs.Ties.Permits.{permits_closed, permits_further, permits_let}
 use Rattle.session_laws.proofs.Internal.Repeats.{calls_kept}
 use Rattle.session_laws.proofs.Internal.Serving.{answered_serves}
 use Rattle.session_laws.proofs.Requests.Rounded.{admitted_begun, early_never, rounds_closed, rounds_with}
 use Rattle.session_laws.proofs.Requests.Start.{not_dialing, not_setting, not_wanting, on_link, not_resting}
 use Rattle.session_laws.proofs.Links.Server.{setup_owners}
-use Rattle.session_laws.proofs.Tie.Tied.{AreLate, AreQueued, Inner, IsEntry, IsKept, IsOf, IsPacked, IsQueued, Tied, TiedLines, TiedStory, TiedTries, TiedWaits, owner_of, owners_each, queue_ids, relined, shown_wait, waiting_ids, numbers_kept}
-use Rattle.session_laws.proofs.Tie.Ahead.{admitted_open, early_open, waiting_open}
+use Rattle.session_laws.proofs.Ties.Tied.{AreLate, AreQueued, Inner, IsEntry, IsKept, IsOf, IsPacked, IsQueued, Tied, TiedLines, TiedStory, TiedTries, TiedWaits, owner_of, owners_each, queue_ids, relined, shown_wait, waiting_ids, numbers_kept}
+use Rattle.session_laws.proofs.Ties.Ahead.{admitted_open, early_open, waiting_open}
 use Rattle.session_laws.proofs.Managers.Calm.{calm_more}
 
 -- those that wait no longer are passed over

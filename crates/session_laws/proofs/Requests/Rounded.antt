@@ -13,10 +13,10 @@ use Rattle.mux_conn.specs.declared.again.Again.{Again}
 use Rattle.mux_conn.specs.declared.life.Life.{Life}
 use Rattle.session_laws.proofs.Requests.Closing.{Closes, with_closed}
 use Rattle.session_laws.proofs.Requests.Further.{IsLonger, IsNext, SameBefore, before_or_new, story_at, there_longer}
-use Rattle.session_laws.proofs.Tie.Names.{name_with, with_other, with_same, with_then}
-use Rattle.session_laws.proofs.Tie.Numbers.{IsIn}
+use Rattle.session_laws.proofs.Ties.Names.{name_with, with_other, with_same, with_then}
+use Rattle.session_laws.proofs.Ties.Numbers.{IsIn}
 use Rattle.session_laws.proofs.Internal.Repeats.{serves}
-use Rattle.session_laws.proofs.Tie.Tied.{Inner, Tied, TiedNames, TiedRounds, AreEarly, has_ended, link_in}
+use Rattle.session_laws.proofs.Ties.Tied.{Inner, Tied, TiedNames, TiedRounds, AreEarly, has_ended, link_in}
 
 -- of stories whose rounds are the same
 abbrev pub SameRounds : (ℕ → Story) → (ℕ → Story) → Type 0

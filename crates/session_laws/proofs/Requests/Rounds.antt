@@ -16,17 +16,17 @@ use Rattle.legal_trace.specs.Book.{Book, book, entered, has_generations, if_own}
 use Rattle.legal_trace.specs.Legal.{IsFirstToMove, MayRound, NoneEnds}
 use Rattle.legal_trace.specs.Steps.{is_let_in}
 use Rattle.legal_trace.specs.Story.{Story, rounds}
-use Rattle.session_laws.proofs.Tie.Ahead.{IsRunning, kept_unstarted, round_step, waiting_open}
+use Rattle.session_laws.proofs.Ties.Ahead.{IsRunning, kept_unstarted, round_step, waiting_open}
 use Rattle.session_laws.proofs.Requests.Closing.{one_of}
 use Rattle.session_laws.proofs.Requests.Further.{no_wait}
 use Rattle.session_laws.proofs.Requests.Going.{HasRenewed, IsGoing, begun_up, going_more}
 use Rattle.session_laws.proofs.Requests.LetIn.{AreEased, eased_at, test_kept, waits_on_tied}
-use Rattle.session_laws.proofs.Tie.Names.{length_still, name_still, permits_still, same_name, there_other, there_then, there_within}
-use Rattle.session_laws.proofs.Tie.Numbers.{IsIn, Rising, in_right}
-use Rattle.session_laws.proofs.Tie.Owes.{open_on, request_story}
-use Rattle.session_laws.proofs.Tie.Permits.{IsHolding, holding_same, permits_same}
+use Rattle.session_laws.proofs.Ties.Names.{length_still, name_still, permits_still, same_name, there_other, there_then, there_within}
+use Rattle.session_laws.proofs.Ties.Numbers.{IsIn, Rising, in_right}
+use Rattle.session_laws.proofs.Ties.Owes.{open_on, request_story}
+use Rattle.session_laws.proofs.Ties.Permits.{IsHolding, holding_same, permits_same}
 use Rattle.session_laws.proofs.Requests.Rounded.{unbegun_waits}
-use Rattle.session_laws.proofs.Tie.Tied.{IsToldIn, Inner, Tied, TiedPermits, TiedRounds, TiedWaits, link_in, numbers_kept, shown_wait, waiting_ids}
+use Rattle.session_laws.proofs.Ties.Tied.{IsToldIn, Inner, Tied, TiedPermits, TiedRounds, TiedWaits, link_in, numbers_kept, shown_wait, waiting_ids}
 use Rattle.session_laws.proofs.Requests.Waits.{awaited_placed, waiting_apart, waiting_there}
 use Rattle.session_laws.proofs.Internal.Repeats.{serves}
 use Rattle.session_laws.proofs.Internal.Serving.{answered_serves, serves_ready, serves_answered}

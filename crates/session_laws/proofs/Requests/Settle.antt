@@ -32,12 +32,12 @@ use Rattle.legal_trace.specs.Ledger.{Ledger, is_over, Heard, next_notice, renewa
 use Rattle.legal_trace.specs.Book.{Book, blank_book, book, entered}
 use Rattle.legal_trace.specs.Owed.{owed}
 use Rattle.legal_trace.specs.Legal.{AllStand, MayStand, MayAnswer, IsBefore, is_heard}
-use Rattle.session_laws.proofs.Tie.Numbers.{Rising, is_own, requests_behind, requests_first, requests_in, rising_from}
+use Rattle.session_laws.proofs.Ties.Numbers.{Rising, is_own, requests_behind, requests_first, requests_in, rising_from}
 use Rattle.session_laws.proofs.Links.Server.{OnLink, TiedRenewal}
-use Rattle.session_laws.proofs.Tie.Tied.{Inner, link_in, TiedLife, Tied, Sound, waiting_ids, has_ended, AreAside}
-use Rattle.session_laws.proofs.Tie.Entered.{book_more, quiet_sources, quiet_timers, sound_more, shown_more, sources_more, timers_more}
-use Rattle.session_laws.proofs.Tie.Names.{open_within, name_with, length_with, with_then}
-use Rattle.session_laws.proofs.Tie.InLine.{line_of, IsInLine, open_in_line, first_is_least}
+use Rattle.session_laws.proofs.Ties.Tied.{Inner, link_in, TiedLife, Tied, Sound, waiting_ids, has_ended, AreAside}
+use Rattle.session_laws.proofs.Ties.Entered.{book_more, quiet_sources, quiet_timers, sound_more, shown_more, sources_more, timers_more}
+use Rattle.session_laws.proofs.Ties.Names.{open_within, name_with, length_with, with_then}
+use Rattle.session_laws.proofs.Ties.InLine.{line_of, IsInLine, open_in_line, first_is_least}
 use Rattle.session_laws.proofs.Requests.Answer.{may_answer, after_closes, none_before, owed_still, answer_tied, skip_tied}
 use Rattle.session_laws.proofs.Internal.Repeats.{TiedRepeat}
 

@@ -25,16 +25,16 @@ use Rattle.legal_trace.specs.Ledger.{setup_count}
 use Rattle.legal_trace.specs.Legal.{IsMoved, IsSettled, IsStarted, IsWaiting, IsWritten, NoneEnds, WaitHolds}
 use Rattle.legal_trace.specs.Story.{last_of}
 use Rattle.session_laws.proofs.Requests.Rounded.{rounds_new}
-use Rattle.session_laws.proofs.Tie.Ahead.{dialing_step, placed_open, setup_step, waiting_open, admitted_open, creds_step, HasSeats, resting_step, repeat_step}
+use Rattle.session_laws.proofs.Ties.Ahead.{dialing_step, placed_open, setup_step, waiting_open, admitted_open, creds_step, HasSeats, resting_step, repeat_step}
 use Rattle.session_laws.proofs.Requests.Going.{is_moved, StaysPut}
-use Rattle.session_laws.proofs.Tie.InLine.{awaited_in, first_is_least, kept_ids, wanted_in}
+use Rattle.session_laws.proofs.Ties.InLine.{awaited_in, first_is_least, kept_ids, wanted_in}
 use Rattle.session_laws.proofs.Requests.Moved.{passed_moved, HasMoved}
-use Rattle.session_laws.proofs.Tie.Names.{open_within}
-use Rattle.session_laws.proofs.Tie.Numbers.{IsIn, Rising, in_left, in_right, rising_in, rising_left, rising_right, requests_in}
-use Rattle.session_laws.proofs.Tie.Owes.{IsOpenRequest, lives, none_open, open_request, request_story, row_link, stands_started, wanted_entry, open_on}
+use Rattle.session_laws.proofs.Ties.Names.{open_within}
+use Rattle.session_laws.proofs.Ties.Numbers.{IsIn, Rising, in_left, in_right, rising_in, rising_left, rising_right, requests_in}
+use Rattle.session_laws.proofs.Ties.Owes.{IsOpenRequest, lives, none_open, open_request, request_story, row_link, stands_started, wanted_entry, open_on}
 use Rattle.session_laws.proofs.Requests.Settle.{book_of_more, seen, sound_act, trace_of_acts, shown_now}
-use Rattle.session_laws.proofs.Tie.States.{Between, HasApplied, IsFitIn, IsStill, trace_with, AreBegun, IsStopped, HasEffect}
-use Rattle.session_laws.proofs.Tie.Tied.{Inner, Sound, Tied, TiedLife, TiedWaits, has_ended, link_in, owner_of, queue_ids, relined, shown_wait, waiting_ids, IsHeeded}
+use Rattle.session_laws.proofs.Ties.States.{Between, HasApplied, IsFitIn, IsStill, trace_with, AreBegun, IsStopped, HasEffect}
+use Rattle.session_laws.proofs.Ties.Tied.{Inner, Sound, Tied, TiedLife, TiedWaits, has_ended, link_in, owner_of, queue_ids, relined, shown_wait, waiting_ids, IsHeeded}
 use Rattle.session_laws.proofs.Requests.Waits.{IsEarly, IsPlacedOrKept, IsQuiet, WaitsSo, admitted_there, admitted_unplaced, awaited_placed, behind_places, down_admits, fresh_waits, located, moved_waits, passed_waits, permit_holds, place_holds, placed_there, room_holds, stale_waits, wait_may, wait_tied, waiting_apart, waiting_is, waiting_there, waits_at, with_unshown}
 use Rattle.session_laws.proofs.Links.Write.{HasWritten, IsOfferedIn, is_written, written_holds, HasReturned, hushed_in, plain_returned}
 use Rattle.session_laws.proofs.Managers.Comes.{NoneComes, wait_comes}

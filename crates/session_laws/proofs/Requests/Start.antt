@@ -26,19 +26,19 @@ use Rattle.legal_trace.specs.Book.{Book, entered, if_own, message_of}
 use Rattle.legal_trace.specs.Ledger.{Ledger, Start, begins, is_of_setup, noted, setup_count, is_of_renewal, is_of_again}
 use Rattle.legal_trace.specs.Story.{Story, is_told, shape, shape_in, tried}
 use Rattle.session_laws.proofs.Requests.Rounded.{SameRounds, rounds_same}
-use Rattle.session_laws.proofs.Tie.Ahead.{queue_within, admitted_open, early_open}
-use Rattle.session_laws.proofs.Tie.Behind.{nil_told, open_untold, some_more}
-use Rattle.session_laws.proofs.Tie.InLine.{awaited_in, first_is_apart, kept_ids}
-use Rattle.session_laws.proofs.Tie.Kept.{SameOutcomes, SameSubmissions, SameTimes, mine_noted, one_changed, others_kept, packed_same, queued_same, tied_by}
-use Rattle.session_laws.proofs.Tie.Names.{get_more, get_some, name_of_some, open_within, same_name, owner_below, request_not, asked_unwatched}
-use Rattle.session_laws.proofs.Tie.Numbers.{IsIn, Rising, in_left, in_right, rising_apart, rising_in, rising_right, requests_in, request_in, requests_in-append, requests_first, is_own}
-use Rattle.session_laws.proofs.Tie.Owes.{get_in, request_story}
-use Rattle.session_laws.proofs.Tie.Permits.{IsHolding, holding_same, permits_same}
+use Rattle.session_laws.proofs.Ties.Ahead.{queue_within, admitted_open, early_open}
+use Rattle.session_laws.proofs.Ties.Behind.{nil_told, open_untold, some_more}
+use Rattle.session_laws.proofs.Ties.InLine.{awaited_in, first_is_apart, kept_ids}
+use Rattle.session_laws.proofs.Ties.Kept.{SameOutcomes, SameSubmissions, SameTimes, mine_noted, one_changed, others_kept, packed_same, queued_same, tied_by}
+use Rattle.session_laws.proofs.Ties.Names.{get_more, get_some, name_of_some, open_within, same_name, owner_below, request_not, asked_unwatched}
+use Rattle.session_laws.proofs.Ties.Numbers.{IsIn, Rising, in_left, in_right, rising_apart, rising_in, rising_right, requests_in, request_in, requests_in-append, requests_first, is_own}
+use Rattle.session_laws.proofs.Ties.Owes.{get_in, request_story}
+use Rattle.session_laws.proofs.Ties.Permits.{IsHolding, holding_same, permits_same}
 use Rattle.legal_trace.proofs.Setups.{count_more}
 use Rattle.session_laws.proofs.Links.SetUp.{set_up_begins, setups_begins}
 use Rattle.session_laws.proofs.Internal.Renewals.{begins_renewed}
 use Rattle.session_laws.proofs.Links.Server.{owners_of, setup_owners}
-use Rattle.session_laws.proofs.Tie.Tied.{AreQueued, Inner, IsEntry, IsQueued, IsRequest, Tied, TiedLines, TiedTries, TiedWaits, owner_of, owners_each, queue_ids, shown_wait, numbers_kept}
+use Rattle.session_laws.proofs.Ties.Tied.{AreQueued, Inner, IsEntry, IsQueued, IsRequest, Tied, TiedLines, TiedTries, TiedWaits, owner_of, owners_each, queue_ids, shown_wait, numbers_kept}
 use Rattle.driver_model.specs.Hearing.{is_watching}
 use Rattle.session_laws.proofs.Internal.Repeats.{begins_repeated}
 use Rattle.mux_conn.specs.declared.again.Again.{Again}

@@ -22,15 +22,15 @@ use Rattle.legal_trace.specs.Book.{Book, book, message_of}
 use Rattle.legal_trace.specs.Ledger.{Ledger, Start, begins, ending, is_of_setup, noted}
 use Rattle.legal_trace.specs.Legal.{MayStart, NoneEnds}
 use Rattle.legal_trace.specs.Steps.{starts_or_waits}
-use Rattle.session_laws.proofs.Tie.Ahead.{HasSeats, IsRunning, queue_step, queue_unstarted}
-use Rattle.session_laws.proofs.Tie.Entered.{shown_more, sources_of-append, timers_of-append}
+use Rattle.session_laws.proofs.Ties.Ahead.{HasSeats, IsRunning, queue_step, queue_unstarted}
+use Rattle.session_laws.proofs.Ties.Entered.{shown_more, sources_of-append, timers_of-append}
 use Rattle.session_laws.proofs.Requests.Going.{HasRenewed, IsGoing, begun_up, first_in_queue, going_more, none_ends_mine}
 use Rattle.legal_trace.proofs.Setups.{ends_where_set}
 use Rattle.session_laws.proofs.Links.SetUp.{ending_up_same, set_up_begins}
 use Rattle.session_laws.proofs.Requests.Start.{after_start, on_link, start_action, start_tied, with_queue}
-use Rattle.session_laws.proofs.Tie.States.{IsFit}
+use Rattle.session_laws.proofs.Ties.States.{IsFit}
 use Rattle.session_laws.proofs.Links.Server.{IsSetUp}
-use Rattle.session_laws.proofs.Tie.Tied.{Inner, Tied, queue_ids}
+use Rattle.session_laws.proofs.Ties.Tied.{Inner, Tied, queue_ids}
 
 -- a session on a link that is up, with this queue
 pub running_on : (t : Inner) (link : LinkState) (qs : List Queued) → IsFit t.size t.bound (with_queue link qs) → HasSeats t.moved (in_front t.renewal) (with_queue link qs) t.size → is_outstanding t.again ≡ false → IsRunning (on_link t (with_queue link qs))

@@ -26,17 +26,17 @@ use Rattle.legal_trace.specs.Legal.{IsWaiting, IsWritten, MayWait, WaitHolds}
 use Rattle.legal_trace.specs.Steps.{starts_or_waits}
 use Rattle.legal_trace.specs.Story.{Story, awaited_in, is_no_error, is_told, waits as waits_now}
 use Rattle.session_laws.proofs.Requests.Rounded.{SameRounds, rounds_new, rounds_same}
-use Rattle.session_laws.proofs.Tie.Ahead.{IsRunning, dialing_step, full_step, permit_step, queue_step, queue_within, running_of, setup_step, waiting_open, admitted_open, creds_step, HasSeats, resting_step, repeat_step}
+use Rattle.session_laws.proofs.Ties.Ahead.{IsRunning, dialing_step, full_step, permit_step, queue_step, queue_within, running_of, setup_step, waiting_open, admitted_open, creds_step, HasSeats, resting_step, repeat_step}
 use Rattle.session_laws.proofs.Requests.Closing.{one_of}
-use Rattle.session_laws.proofs.Tie.InLine.{awaited_in as in_queue, chosen_in, kept_ids, kept_in, row_ids, wanted_in}
-use Rattle.session_laws.proofs.Tie.Kept.{SameOutcomes, SameSubmissions, SameTimes, one_changed, packed_same, queued_same, tries_same}
-use Rattle.session_laws.proofs.Tie.Moves.{later_of, open_unstarted}
-use Rattle.session_laws.proofs.Tie.Names.{earlier_name, get_some, name_of_some, open_within, same_name, there_within, request_not}
-use Rattle.session_laws.proofs.Tie.Numbers.{IsIn, Rising, in_either, in_left, in_right, rising_apart, rising_from, rising_in, rising_right, requests_in, request_in, request_of, is_own}
-use Rattle.session_laws.proofs.Tie.Owes.{later_unstarted, none_open, open_request, request_story, row_in_line, open_on}
-use Rattle.session_laws.proofs.Tie.Permits.{IsHolding, permits_same}
-use Rattle.session_laws.proofs.Tie.States.{IsFit, AreBegun}
-use Rattle.session_laws.proofs.Tie.Tied.{AreQueued, Inner, IsEntry, IsKept, IsQueued, IsRequest, Tied, TiedWaits, has_ended, link_in, queue_ids, shown_wait, waiting_ids, numbers_kept}
+use Rattle.session_laws.proofs.Ties.InLine.{awaited_in as in_queue, chosen_in, kept_ids, kept_in, row_ids, wanted_in}
+use Rattle.session_laws.proofs.Ties.Kept.{SameOutcomes, SameSubmissions, SameTimes, one_changed, packed_same, queued_same, tries_same}
+use Rattle.session_laws.proofs.Ties.Moves.{later_of, open_unstarted}
+use Rattle.session_laws.proofs.Ties.Names.{earlier_name, get_some, name_of_some, open_within, same_name, there_within, request_not}
+use Rattle.session_laws.proofs.Ties.Numbers.{IsIn, Rising, in_either, in_left, in_right, rising_apart, rising_from, rising_in, rising_right, requests_in, request_in, request_of, is_own}
+use Rattle.session_laws.proofs.Ties.Owes.{later_unstarted, none_open, open_request, request_story, row_in_line, open_on}
+use Rattle.session_laws.proofs.Ties.Permits.{IsHolding, permits_same}
+use Rattle.session_laws.proofs.Ties.States.{IsFit, AreBegun}
+use Rattle.session_laws.proofs.Ties.Tied.{AreQueued, Inner, IsEntry, IsKept, IsQueued, IsRequest, Tied, TiedWaits, has_ended, link_in, queue_ids, shown_wait, waiting_ids, numbers_kept}
 use Rattle.session_laws.proofs.Internal.Repeats.{serves}
 use Rattle.session_laws.proofs.Internal.Serving.{unready_serves, outstanding_serves, answered_serves}
 

@@ -35,15 +35,15 @@ use Rattle.legal_trace.specs.Legal.{MayTurn}
 use Rattle.mux_conn.specs.Connection.{is_resting, is_outstanding}
 use Rattle.session_laws.proofs.Managers.Comes.{course_later}
 use Rattle.session_laws.proofs.Links.Server.{owners_of, setup_owners, TiedCreds, TiedSetup, TiedRenewal, hearing_at, on_link}
-use Rattle.session_laws.proofs.Tie.Tied.{TiedCreation, AreAimed, AreUses, IsAim, owners_each, Inner, inner, link_in, carried, whole_link, AreAside, TiedLife, TiedTries, TiedLines, AreQueued, TiedWaits, Tied, Sound, has_ended, TiedNotices, HasGreetedAlone, is_reading, IsUse, TiedRounds, HasCourse, AreEarly}
+use Rattle.session_laws.proofs.Ties.Tied.{TiedCreation, AreAimed, AreUses, IsAim, owners_each, Inner, inner, link_in, carried, whole_link, AreAside, TiedLife, TiedTries, TiedLines, AreQueued, TiedWaits, Tied, Sound, has_ended, TiedNotices, HasGreetedAlone, is_reading, IsUse, TiedRounds, HasCourse, AreEarly}
 use Rattle.session_laws.proofs.Internal.Repeats.{TiedRepeat, serves}
-use Rattle.session_laws.proofs.Tie.States.{Between}
-use Rattle.session_laws.proofs.Tie.Entered.{book_more, sound_more}
+use Rattle.session_laws.proofs.Ties.States.{Between}
+use Rattle.session_laws.proofs.Ties.Entered.{book_more, sound_more}
 use Rattle.session_laws.proofs.Requests.Answer.{some_end}
-use Rattle.session_laws.proofs.Tie.Aside.{aside_heard}
-use Rattle.session_laws.proofs.Tie.Kept.{tied_by}
+use Rattle.session_laws.proofs.Ties.Aside.{aside_heard}
+use Rattle.session_laws.proofs.Ties.Kept.{tied_by}
 use Rattle.session_laws.proofs.Requests.Settle.{seen, trace_of_acts, Holds}
-use Rattle.session_laws.proofs.Tie.Names.{get_more}
+use Rattle.session_laws.proofs.Ties.Names.{get_more}
 use Rattle.mux_conn.specs.declared.renewal.Renewal.{Renewal}
 use Rattle.driver_model.specs.Hearing.{is_watching}
 use Rattle.legal_trace.proofs.Came.{holds_bytes}

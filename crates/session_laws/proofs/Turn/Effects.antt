@@ -15,7 +15,7 @@ use Rattle.mux_conn.specs.declared.life.Life.TheVariants.{Resting, Dialing, Read
 use Rattle.mux_conn.specs.Effects.{CanTake, applied}
 use Rattle.shared_session.specs.declared.core_state.Core.{Core}
 use Rattle.shared_session.specs.Turn.{with_work, heard, fired_by, late_by, effect, counted, is_no_link, exceeds_offer, is_bad}
-use Rattle.session_laws.proofs.Tie.States.{Between, HasEffect}
+use Rattle.session_laws.proofs.Ties.States.{Between, HasEffect}
 use Rattle.session_laws.proofs.Turn.Announce.{turn_of, turned, IsNewsKind}
 use Rattle.session_laws.proofs.Links.Connect.{connected_applied, dropped_applied, refused_applied, overdue_applied, passed_over}
 use Rattle.session_laws.proofs.Links.Given.{authorized_applied, denied_applied, end_denies, text_denies}
@@ -24,7 +24,7 @@ use Rattle.session_laws.proofs.Links.Read.{read_applied}
 use Rattle.session_laws.proofs.Links.End.{failed_applied, shut_applied}
 use Rattle.session_laws.proofs.Requests.Cancel.{cancel_applied}
 use Rattle.session_laws.proofs.Requests.Late.{late_applied, time_applied}
-use Rattle.session_laws.proofs.Tie.Names.{get_some}
+use Rattle.session_laws.proofs.Ties.Names.{get_some}
 use Rattle.legal_trace.specs.Book.{is_clock_of, book}
 use Rattle.driver_model.specs.declared.action.Owner.TheVariants as owner
 use Rattle.driver_model.specs.declared.action.Purpose.{Purpose}

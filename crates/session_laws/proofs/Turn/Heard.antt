@@ -25,11 +25,11 @@ use Rattle.legal_trace.specs.Legal.{NoneEnds}
 use Rattle.session_laws.proofs.Links.Said.{mild_end, setup_on, setup_unheard, BringsNothing, pushes_hear, IsTame, is_tame, renoticed, PushesAt, brings_in_time}
 use Rattle.session_laws.proofs.Links.Creds.{creds_hear, down_unawaited, unawaited_is, down_may_renew, IsOfRenewals}
 use Rattle.session_laws.proofs.Links.Server.{TiedCreds, TiedSetup, TiedRenewal, NoneRenewed}
-use Rattle.session_laws.proofs.Tie.Tied.{Inner, inner, link_in, carried, whole_link, TiedLife, TiedLines, AreQueued, TiedWaits, Tied, has_ended, HasCourse, TiedRounds, AreEarly}
+use Rattle.session_laws.proofs.Ties.Tied.{Inner, inner, link_in, carried, whole_link, TiedLife, TiedLines, AreQueued, TiedWaits, Tied, has_ended, HasCourse, TiedRounds, AreEarly}
 use Rattle.session_laws.proofs.Managers.Comes.{course_alike}
-use Rattle.session_laws.proofs.Tie.States.{IsFit, IsFitIn, IsHushed, Between, HasApplied, IsStopped}
+use Rattle.session_laws.proofs.Ties.States.{IsFit, IsFitIn, IsHushed, Between, HasApplied, IsStopped}
 use Rattle.session_laws.proofs.Requests.Answer.{some_end, ended_over}
-use Rattle.session_laws.proofs.Tie.Aside.{aside_ends, not_up_ends, over_not_asked}
+use Rattle.session_laws.proofs.Ties.Aside.{aside_ends, not_up_ends, over_not_asked}
 use Rattle.session_laws.proofs.Requests.Settle.{seen, trace_of_acts, Holds}
 use Rattle.session_laws.proofs.Turn.Announce.{ComesTo, comes_as, turn_of, turned, IsNewsKind, heard_book, heard_is, heard_starts, heard_hearing, heard_tied, asked_hear, announced_sound, holds_first, first_book, far_news}
 use Rattle.session_laws.proofs.Internal.Renewals.{renewal_alike}

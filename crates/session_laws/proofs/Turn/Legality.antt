@@ -45,9 +45,9 @@ use Rattle.session_laws.proofs.Managers.Begins.{opened_between}
 use Rattle.session_laws.proofs.Turn.Opening.{opening_unasked}
 use Rattle.session_laws.proofs.Managers.Spending.{IsTied, between_tied, spent_turn}
 use Rattle.session_laws.proofs.Managers.Turns.{IsUnused, manager_turn, unused_next}
-use Rattle.session_laws.proofs.Tie.Outcomes.{last_told}
+use Rattle.session_laws.proofs.Ties.Outcomes.{last_told}
 use Rattle.session_laws.proofs.Requests.Settled.{IsBetween, moved_on_between}
-use Rattle.session_laws.proofs.Tie.States.{trace_with}
+use Rattle.session_laws.proofs.Ties.States.{trace_with}
 use Rattle.session_laws.specs.Outcomes.{last_outcome}
 
 -- a turn

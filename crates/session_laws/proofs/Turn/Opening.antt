@@ -30,15 +30,15 @@ use Rattle.legal_trace.specs.Legal.{AllStand, IsSettled, NoneEnds, IsShown, begi
 use Rattle.legal_trace.specs.Story.{blank_story}
 use Rattle.session_laws.proofs.Requests.Going.{is_moved}
 use Rattle.session_laws.proofs.Requests.Settled.{IsBetween, is_settled}
-use Rattle.session_laws.proofs.Tie.States.{IsFitIn, IsStill}
+use Rattle.session_laws.proofs.Ties.States.{IsFitIn, IsStill}
 use Rattle.session_laws.proofs.Links.Server.{owners_of, setup_owners}
-use Rattle.session_laws.proofs.Tie.Tied.{AreAimed, IsAim, IsAside, Tied, TiedLines, TiedNames, TiedNumbers, TiedPermits, TiedTries, TiedWaits, inner, no_link, owner_of, link_in}
+use Rattle.session_laws.proofs.Ties.Tied.{AreAimed, IsAim, IsAside, Tied, TiedLines, TiedNames, TiedNumbers, TiedPermits, TiedTries, TiedWaits, inner, no_link, owner_of, link_in}
 use Rattle.session_laws.proofs.Requests.Waits.{IsQuiet}
 use Rattle.session_laws.proofs.Links.Write.{is_written}
 use Rattle.driver_model.specs.Hearing.{is_watching}
 use Rattle.driver_model.specs.declared.hearing.Hearing.{Hearing}
 use Rattle.driver_model.proofs.Sound.{has_address, is_roomy}
-use Rattle.session_laws.proofs.Tie.Numbers.{IsIn}
+use Rattle.session_laws.proofs.Ties.Numbers.{IsIn}
 use Rattle.mux_conn.specs.declared.again.Again.{Again}
 use Rattle.mux_conn.specs.declared.again.Again.TheVariants as again
 use Rattle.mux_conn.specs.declared.life.Life.{Life}

@@ -9,9 +9,9 @@ use Rattle.mux_conn.specs.declared.request.Progress.TheVariants as progress
 use Rattle.mux_conn.specs.declared.request.Request.{Request}
 use Rattle.legal_trace.specs.Steps.{is_let_in, permits_held, permits_on}
 use Rattle.legal_trace.specs.Story.{Story}
-use Rattle.session_laws.proofs.Tie.Names.{name_still, name_with, permits_other, permits_still, same_name, there_other, there_then, there_within, with_then}
-use Rattle.session_laws.proofs.Tie.Numbers.{IsIn}
-use Rattle.session_laws.proofs.Tie.Tied.{TiedNames, TiedPermits}
+use Rattle.session_laws.proofs.Ties.Names.{name_still, name_with, permits_other, permits_still, same_name, there_other, there_then, there_within, with_then}
+use Rattle.session_laws.proofs.Ties.Numbers.{IsIn}
+use Rattle.session_laws.proofs.Ties.Tied.{TiedNames, TiedPermits}
 
 -- sums
 --

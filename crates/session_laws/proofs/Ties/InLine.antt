@@ -9,8 +9,8 @@ use Rattle.link_laws.specs.Settles.{wanted, awaited_ids}
 use Rattle.mux_conn.specs.declared.request.Request.{Request}
 use Rattle.mux_conn.specs.declared.request.Waiting.{Waiting}
 use Rattle.mux_conn.specs.Requests.{is_open_at}
-use Rattle.session_laws.proofs.Tie.Numbers.{IsIn, in_left, in_right, in_either, requests_in, Rising, rising_from, rising_in, rising_right, is_own}
-use Rattle.session_laws.proofs.Tie.Tied.{queue_ids, waiting_ids, IsKept, TiedLines}
+use Rattle.session_laws.proofs.Ties.Numbers.{IsIn, in_left, in_right, in_either, requests_in, Rising, rising_from, rising_in, rising_right, is_own}
+use Rattle.session_laws.proofs.Ties.Tied.{queue_ids, waiting_ids, IsKept, TiedLines}
 
 -- who the entries of a row are of
 abbrev pub row_ids : List Entry → List ℕ

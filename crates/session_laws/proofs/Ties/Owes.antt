@@ -27,12 +27,12 @@ use Rattle.legal_trace.specs.Story.{Story, bytes_of, shape, last_of, is_open}
 use Rattle.legal_trace.specs.Book.{Book}
 use Rattle.legal_trace.specs.Owed.{owed, owed_to_message, owed_unstarted, owed_to_try, owed_waiting}
 use Rattle.legal_trace.specs.Legal.{IsOpen, NoneIsOwed, IsCreated, FailuresAreShown, NoticesAreTold, EndsAreTold}
-use Rattle.session_laws.proofs.Tie.Numbers.{Rising, IsIn, in_either, rising_in, rising_left, rising_right, rising_apart, requests_in, request_in, request_of, is_own}
+use Rattle.session_laws.proofs.Ties.Numbers.{Rising, IsIn, in_either, rising_in, rising_left, rising_right, rising_apart, requests_in, request_in, request_of, is_own}
 use Rattle.session_laws.proofs.Links.Said.{ready_shown}
 use Rattle.session_laws.proofs.Links.Server.{setup_owners, owners_of}
-use Rattle.session_laws.proofs.Tie.Tied.{IsEntry, Inner, carried, link_in, owner_of, whole_link, owners_each, queue_ids, IsRequest, TiedStory, TiedLife, Tied, FailureIsShown, has_ended, is_of_greeting, own_owner}
-use Rattle.session_laws.proofs.Tie.Names.{get_some, open_within, name_of_some, name_placed, same_name, owner_no_setup, auth_owner, request_owner, request_not, asked_unwatched, owner_of_auth, repeat_owner, owner_of_repeat}
-use Rattle.session_laws.proofs.Tie.InLine.{AtPlaces, IsInLine, wanted_rises, places_rise, row_ids, wanted_in, kept_ids, line_of, open_in_line}
+use Rattle.session_laws.proofs.Ties.Tied.{IsEntry, Inner, carried, link_in, owner_of, whole_link, owners_each, queue_ids, IsRequest, TiedStory, TiedLife, Tied, FailureIsShown, has_ended, is_of_greeting, own_owner}
+use Rattle.session_laws.proofs.Ties.Names.{get_some, open_within, name_of_some, name_placed, same_name, owner_no_setup, auth_owner, request_owner, request_not, asked_unwatched, owner_of_auth, repeat_owner, owner_of_repeat}
+use Rattle.session_laws.proofs.Ties.InLine.{AtPlaces, IsInLine, wanted_rises, places_rise, row_ids, wanted_in, kept_ids, line_of, open_in_line}
 use Rattle.mux_conn.specs.Renewals.{renewal_id}
 use Rattle.driver_model.specs.Hearing.{is_watching, hears_something, hears_pushes}
 use Rattle.mux_conn.specs.Repeats.{repeat_id}

@@ -50,7 +50,7 @@ use Rattle.legal_trace.specs.Managers.{is_lazy, settings_in}
 use Rattle.legal_trace.specs.Steps.{configured, queue_size, permits_in, permits_held, is_let_in}
 use Rattle.legal_trace.specs.Legal.{AllStand, IsTimed, answer_time, is_attempt, is_cause}
 use Rattle.legal_trace.specs.Owed.{owed_unstarted}
-use Rattle.session_laws.proofs.Tie.Numbers.{IsIn, Rising, is_own, requests_in}
+use Rattle.session_laws.proofs.Ties.Numbers.{IsIn, Rising, is_own, requests_in}
 use Rattle.driver_model.specs.News.{News, came}
 use Rattle.session_laws.proofs.Internal.Repeats.{TiedRepeat, serves}
 use Rattle.session_laws.proofs.Links.Server.{owners_of, setup_owners, hearing_at, TiedCreds, NoneRenewed, TiedRenewal, TiedSetup}

@@ -7,7 +7,7 @@ use Rattle.driver_model.specs.News.{News, silence, connected, refused, overdue, 
 use Rattle.driver_model.specs.declared.hearing.Hearing.{Hearing}
 use Rattle.legal_trace.specs.Ledger.{Ledger, authorized_by, awaits_credentials, bytes_came, dials, ending, ending_alive, ending_asked, failure_in, hears, is_over, is_renewal_open, lost_by, may_renew, noted, refused_in, renewed_by, unrenewed_by, with_news, is_repeating, unrepeated_by}
 use Rattle.session_laws.proofs.Links.Creds.{down_may_renew, down_unawaited}
-use Rattle.session_laws.proofs.Tie.Tied.{AreAside, IsAside}
+use Rattle.session_laws.proofs.Ties.Tied.{AreAside, IsAside}
 use Rattle.session_laws.proofs.Internal.Repeats.{down_repeats_not}
 
 -- what isn't up need not end where it isn't asked for, or is over

@@ -26,19 +26,19 @@ use Rattle.legal_trace.specs.Book.{Book, has_generations}
 use Rattle.legal_trace.specs.Ledger.{Ledger, dials, is_over, is_set_up, lacks_credentials, is_served}
 use Rattle.legal_trace.specs.Steps.{Step, asks, free_permits, is_held, is_held_back, is_in_line, is_let_in, is_outside, line_before, next_step, permits_in, queue_size, renewals_in_line, starts_or_waits, rounds, step_holding, step_open, step_placed, step_ready, step_rounding, step_served, step_taking, step_timed, takes, tells, unready_wait, waits, step_down}
 use Rattle.legal_trace.specs.Story.{Story, has_place, is_awaited, is_room, is_told, is_unstarted, shape}
-use Rattle.session_laws.proofs.Tie.Behind.{nil_told, open_untold}
+use Rattle.session_laws.proofs.Ties.Behind.{nil_told, open_untold}
 use Rattle.session_laws.proofs.Links.Creds.{has_credentials, wanting_lacks}
-use Rattle.session_laws.proofs.Tie.InLine.{first_is_least, kept_ids, kept_in}
-use Rattle.session_laws.proofs.Tie.Moves.{IsLater, later_of, open_unstarted, told_unstarted, or_true}
-use Rattle.session_laws.proofs.Tie.Names.{earlier_name, get_some, name_of_some, names_rise, open_within}
-use Rattle.session_laws.proofs.Tie.Numbers.{IsIn, Rising, in_left, in_right, rising_apart, rising_in, rising_right, rising_within, requests_in}
-use Rattle.session_laws.proofs.Tie.Owes.{later_unstarted, request_story, open_on, queue_on}
+use Rattle.session_laws.proofs.Ties.InLine.{first_is_least, kept_ids, kept_in}
+use Rattle.session_laws.proofs.Ties.Moves.{IsLater, later_of, open_unstarted, told_unstarted, or_true}
+use Rattle.session_laws.proofs.Ties.Names.{earlier_name, get_some, name_of_some, names_rise, open_within}
+use Rattle.session_laws.proofs.Ties.Numbers.{IsIn, Rising, in_left, in_right, rising_apart, rising_in, rising_right, rising_within, requests_in}
+use Rattle.session_laws.proofs.Ties.Owes.{later_unstarted, request_story, open_on, queue_on}
 use Rattle.session_laws.proofs.Internal.Renewals.{due_in}
 use Rattle.session_laws.proofs.Requests.Rounded.{admitted_begun, has_begun, placed_begun, unbegun_waits}
 use Rattle.session_laws.proofs.Links.SetUp.{not_set_up, lacking_unset}
-use Rattle.session_laws.proofs.Tie.States.{IsFit}
+use Rattle.session_laws.proofs.Ties.States.{IsFit}
 use Rattle.session_laws.proofs.Links.Server.{AreSought, HasSaid}
-use Rattle.session_laws.proofs.Tie.Tied.{Inner, IsQueued, Tied, TiedLife, TiedNames, TiedNumbers, carried, has_ended, link_in, owner_of, queue_ids, shown_wait, waiting_ids, whole_link}
+use Rattle.session_laws.proofs.Ties.Tied.{Inner, IsQueued, Tied, TiedLife, TiedNames, TiedNumbers, carried, has_ended, link_in, owner_of, queue_ids, shown_wait, waiting_ids, whole_link}
 use Rattle.session_laws.proofs.Internal.Repeats.{TiedRepeat, IsRepeated, served_is}
 use Rattle.mux_conn.specs.declared.again.Again.{Again}
 

@@ -17,7 +17,7 @@ use Rattle.mux_conn.specs.Connection.{is_resting}
 use Rattle.mux_conn.specs.declared.life.Life.{Life}
 use Rattle.mux_conn.specs.declared.life.Life.TheVariants.{Resting, Dialing, Wanting, SettingUp, Ready, Ended}
 use Rattle.session_laws.proofs.Links.Server.{hearing_on}
-use Rattle.session_laws.proofs.Tie.Tied.{owner_of, Inner, Tied, TiedLife, TiedNames, own_owner}
+use Rattle.session_laws.proofs.Ties.Tied.{owner_of, Inner, Tied, TiedLife, TiedNames, own_owner}
 use Rattle.driver_model.specs.Hearing.{is_watching}
 use Rattle.driver_model.specs.declared.kind.SessionKind.{SessionKind}
 use Rattle.driver_model.specs.declared.kind.SessionKind.TheVariants as session
@@ -25,7 +25,7 @@ use Rattle.driver_model.specs.Config as Configs
 use Rattle.driver_model.specs.declared.config.Config.{Config}
 use Rattle.driver_model.specs.declared.event.Submission.{Submission}
 use Rattle.driver_model.specs.Request.{has_no_form}
-use Rattle.session_laws.proofs.Tie.Numbers.{is_own, below_own, auth_is_own, repeat_is_own, repeat_other}
+use Rattle.session_laws.proofs.Ties.Numbers.{is_own, below_own, auth_is_own, repeat_is_own, repeat_other}
 use Rattle.mux_conn.specs.Repeats.{repeat_id}
 
 -- what stands at a place within

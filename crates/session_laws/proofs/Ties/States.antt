@@ -16,7 +16,7 @@ use Rattle.legal_trace.specs.Book.{blank_book, book}
 use Rattle.legal_trace.specs.Legal.{AllStand, IsShown, NoneEnds, IsSettled}
 use Rattle.session_laws.proofs.Internal.Repeating.{HasRepeated}
 use Rattle.session_laws.proofs.Internal.Repeats.{serves}
-use Rattle.session_laws.proofs.Tie.Tied.{IsHeeded, IsRetiring, Sound, has_ended, inner}
+use Rattle.session_laws.proofs.Ties.Tied.{IsHeeded, IsRetiring, Sound, has_ended, inner}
 use Rattle.mux_conn.specs.declared.request.Waiting.{Waiting}
 use Rattle.session_laws.proofs.Internal.Informed.{IsInformed}
 

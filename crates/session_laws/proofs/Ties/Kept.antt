@@ -13,11 +13,11 @@ use Rattle.mux_conn.specs.declared.request.Waiting.{Waiting}
 use Rattle.legal_trace.specs.Book.{Book, has_generations, if_mine, if_own, hearing_in}
 use Rattle.legal_trace.specs.Ledger.{Ledger, Line, noted, noted_each}
 use Rattle.legal_trace.specs.Story.{Story, awaited_in, packed_in, shape_in, tried}
-use Rattle.session_laws.proofs.Tie.Names.{name_placed}
-use Rattle.session_laws.proofs.Tie.Owes.{request_story}
+use Rattle.session_laws.proofs.Ties.Names.{name_placed}
+use Rattle.session_laws.proofs.Ties.Owes.{request_story}
 use Rattle.session_laws.proofs.Internal.Repeats.{TiedRepeat, serves}
 use Rattle.session_laws.proofs.Links.Server.{TiedCreds, TiedSetup, hearing_at, TiedRenewal}
-use Rattle.session_laws.proofs.Tie.Tied.{AreAside, AreLate, AreQueued, Inner, IsAside, IsOf, IsPacked, IsQueued, IsRequest, StaysCalm, Tied, TiedCourse, TiedCreation, TiedLife, TiedLines, TiedNames, TiedNumbers, TiedPermits, TiedNotices, TiedRounds, TiedStory, TiedTries, TiedWaits, carried, has_ended, link_in, whole_link, is_reading, AreUses, AreEarly}
+use Rattle.session_laws.proofs.Ties.Tied.{AreAside, AreLate, AreQueued, Inner, IsAside, IsOf, IsPacked, IsQueued, IsRequest, StaysCalm, Tied, TiedCourse, TiedCreation, TiedLife, TiedLines, TiedNames, TiedNumbers, TiedPermits, TiedNotices, TiedRounds, TiedStory, TiedTries, TiedWaits, carried, has_ended, link_in, whole_link, is_reading, AreUses, AreEarly}
 
 -- a session and the ledger of its link, which is that of the book
 pub record TiedBy (b : Book) (t : Inner) (l : Ledger) : Type 0 where

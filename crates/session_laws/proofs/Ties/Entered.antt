@@ -6,7 +6,7 @@ use Rattle.mux_conn.specs.declared.act.LinkAct.{LinkAct}
 use Rattle.shared_session.specs.Turn.{shown, shown_each, source_of, sources_of, timer_of, timers_of}
 use Rattle.legal_trace.specs.Book.{Book, blank_book, book, entered, entered_each}
 use Rattle.legal_trace.specs.Legal.{MayStand, AllStand}
-use Rattle.session_laws.proofs.Tie.Tied.{Inner, Tied, Sound}
+use Rattle.session_laws.proofs.Ties.Tied.{Inner, Tied, Sound}
 
 -- actions, and then others
 pub entered_each-append : (b : Book) (xs ys : List Action) → entered_each b (xs ++ ys) ≡ entered_each (entered_each b xs) ys

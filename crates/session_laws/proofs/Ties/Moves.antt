@@ -8,11 +8,11 @@ use Rattle.link_laws.specs.Settles.{StandsAs, awaited_ids, wanted}
 use Rattle.mux_conn.specs.Requests.{name_at}
 use Rattle.legal_trace.specs.Book.{Book}
 use Rattle.legal_trace.specs.Story.{Story, Try, is_open, is_told, is_unstarted}
-use Rattle.session_laws.proofs.Tie.InLine.{awaited_in, row_ids, wanted_in}
-use Rattle.session_laws.proofs.Tie.Names.{open_within}
-use Rattle.session_laws.proofs.Tie.Numbers.{IsIn, in_either, requests_in, request_of}
-use Rattle.session_laws.proofs.Tie.Owes.{lives, open_request, row_link, stands_started, wanted_entry}
-use Rattle.session_laws.proofs.Tie.Tied.{Inner, IsKept, Tied, link_in, owner_of, queue_ids, has_ended}
+use Rattle.session_laws.proofs.Ties.InLine.{awaited_in, row_ids, wanted_in}
+use Rattle.session_laws.proofs.Ties.Names.{open_within}
+use Rattle.session_laws.proofs.Ties.Numbers.{IsIn, in_either, requests_in, request_of}
+use Rattle.session_laws.proofs.Ties.Owes.{lives, open_request, row_link, stands_started, wanted_entry}
+use Rattle.session_laws.proofs.Ties.Tied.{Inner, IsKept, Tied, link_in, owner_of, queue_ids, has_ended}
 
 -- a submission that is still to start is in the queue, or waits
 pub record IsLater (t : Inner) (n : ℕ) : Type 0 where

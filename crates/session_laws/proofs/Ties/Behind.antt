@@ -11,8 +11,8 @@ use Rattle.mux_conn.specs.Requests.{name_at}
 use Rattle.mux_conn.specs.declared.request.Pending.{Pending}
 use Rattle.legal_trace.specs.Book.{Book}
 use Rattle.legal_trace.specs.Story.{Story, blank_story, is_awaited, is_no_error, is_open, is_told}
-use Rattle.session_laws.proofs.Tie.Names.{name_of_some}
-use Rattle.session_laws.proofs.Tie.Tied.{Inner, IsRequest, Tied, TiedStory}
+use Rattle.session_laws.proofs.Ties.Names.{name_of_some}
+use Rattle.session_laws.proofs.Ties.Tied.{Inner, IsRequest, Tied, TiedStory}
 
 -- the request of a submission
 pub record IsBehind (b : Book) (t : Inner) (n : ℕ) : Type 0 where
