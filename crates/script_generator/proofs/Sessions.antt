@@ -6,6 +6,7 @@ use Rattle.driver_model.specs.declared.kind.SessionKind.TheVariants as kind
 use Rattle.link_core.specs.declared.message.Entry.{Entry}
 use Rattle.link_core.specs.declared.outbox.Outbox.{Outbox}
 use Rattle.link_core.specs.Link.{LinkState}
+use Rattle.mux_conn.specs.declared.again.Again.TheVariants as again
 use Rattle.mux_conn.specs.declared.connection.MultiplexedConnection.{MultiplexedConnection}
 use Rattle.mux_conn.specs.declared.life.Life.{Life}
 use Rattle.mux_conn.specs.declared.life.Life.TheVariants.{Ready}
@@ -34,6 +35,7 @@ connection_with info life requests waiting fresh moved = record {
   info = info;
   address = info;
   renewal = no_renewal false None;
+  again = again.Nothing;
   life = life;
   last = true;
   told = true;
