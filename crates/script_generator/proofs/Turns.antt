@@ -32,7 +32,8 @@ use Rattle.mux_conn.specs.declared.request.Request.{Request}
 use Rattle.mux_conn.specs.Connection.{Work, work_with, acted}
 use Rattle.mux_conn.specs.Requests.{if_there, is_open, permits_or_none, name_at, closed, answered}
 use Rattle.mux_conn.specs.Renewals.{renewal_id, renewing, replied, is_done}
-use Rattle.mux_conn.specs.Effects.{new_link, all_fresh, greeted, sets_up, cancelled_in, read_to}
+use Rattle.mux_conn.specs.Repeats.{repeat_id}
+use Rattle.mux_conn.specs.Effects.{new_link, all_fresh, greeted, sets_up, cancelled_in, read_to, served}
 use Rattle.shared_session.specs.declared.core_state.Core.{Core}
 use Rattle.shared_session.specs.Replay.{opening_core}
 use Rattle.shared_session.specs.Turn.{Turning, turning_with, work_of, counted, left_by, moved_on, numbered, with_work, next_turn, pending}
@@ -113,9 +114,11 @@ answer_turn info turns k n table rs few =
     let done : List Request → Option Request → ℕ → Turning =
     λ requests o name. over (work_with (record (still info (Ready (link_with [] k no_bytes)) requests) { free = min 0 (0 + permits_or_none o) }) (act.Outcome name answer ∷ [])) in
     let own : (p == renewal_id) ≡ false = ne_test p renewal_id (λ e. omega (arith, few, e)) in
+    let apart : (p == repeat_id) ≡ false = ne_test p repeat_id (λ e. omega (arith, few, e)) in
     let taken = work_with bare [] in
     ap (λ (r : Reading). over (read_to w r)) (dealt p k true)
-    ∙ ap (λ b. over (if b then renewing taken (replied bare.renewal (is_done (verdict_of Single (simple (118 ∷ []) ∷ [])))) else answered taken p answer)) own
+    ∙ ap (λ b. over (if b then renewing taken (replied bare.renewal (is_done (verdict_of Single (simple (118 ∷ []) ∷ [])))) else if p == repeat_id then served taken else answered taken p answer)) own
+    ∙ ap (λ b. over (if b then served taken else answered taken p answer)) apart
     ∙ ap (λ o. over (if if_there is_open o then acted (work_with (closed bare p) []) (act.Outcome (name_at placed p) answer) else work_with bare [])) (get_last rs (come_to n progress.Placed))
     ∙ (λ i. done (permits_last rs n progress.Placed progress.Closed i) (get_last rs (come_to n progress.Placed) i) (name_last rs n progress.Placed i))
 
