@@ -4,7 +4,7 @@ use Rattle.driver_model.specs.declared.config.Config.{Config}
 use Rattle.driver_model.specs.declared.event.Event.{Event}
 use Rattle.driver_model.specs.declared.event.Submission.{Submission}
 use Rattle.driver_model.specs.declared.outcome.Outcome.{Outcome}
-use Rattle.driver_model.specs.Config.{hearing_of, manager_of, permits}
+use Rattle.driver_model.specs.Config.{hearing_of, is_lazy, manager_of, permits}
 use Rattle.driver_model.specs.Hearing.{hears_messages}
 use Rattle.driver_model.specs.Request.{lacks_resp3}
 use Rattle.mux_conn.specs.declared.life.Life.{Life}
@@ -29,6 +29,10 @@ HasNoLimit config = permits config ≡ None
 -- ends on RESP2, and not without it
 abbrev pub HasOneLink : Config → Type 0
 HasOneLink config = manager_of config ≡ None
+
+-- its link is asked for as it opens, and not with the first request
+abbrev pub ConnectsAtOnce : Config → Type 0
+ConnectsAtOnce config = is_lazy config ≡ false
 
 -- the cancel of n is not bad there
 abbrev pub CancelIsGood : Type 0
@@ -80,11 +84,12 @@ StartsOnFreeLink s =
     → (let c = (state_after config word before).single.connection in lacks_resp3 c.hears c.info.protocol s ≡ false)
     → HasStarted (length (state_after config word before).table) (state_after config word (before ++ handed_in_at draw s ∷ []))
 
--- a submission has started where it is the first that is handed in, after the link's connect, the session doesn't come back, nothing
--- of the configuration is refused, no credentials are to come of a source, and nothing is to be said to the server before it
+-- a submission has started where it is the first that is handed in, after the connect of the first link, which is asked for as the
+-- session opens, nothing of the configuration is refused, no credentials are to come of a source, and nothing is to be said to the
+-- server before it
 abbrev pub StartsWhereHandedIn : Submission → Type 0
 StartsWhereHandedIn s =
-    (config : Config) (word draw later : ℕ) → HasOneLink config → IsSound config → SaysNothing config
+    (config : Config) (word draw later : ℕ) → ConnectsAtOnce config → IsSound config → SaysNothing config
     → HasStarted 0 (handed_in_after_connect config word draw later s)
 
 -- so has one that is handed in on a link of publish/subscribe, also where a server of any other link has to speak RESP3 for it

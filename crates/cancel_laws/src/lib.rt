@@ -34,10 +34,10 @@ pub fn a_cancel_changes_one_outcome()
 /// awaited, has started where it is handed in on a link that is ready, which nothing holds back,
 /// whose queue has room, and which has a free permit, while there is a number for it, unless it
 /// needs RESP3 and the link speaks another protocol. So has any that is no subscription call after
-/// the link's connect, in a session that doesn't come back, where nothing of the configuration is
-/// refused, no credentials are to come of a source, nothing is to be said to the server first, and
-/// it isn't put into monitor mode: so a command, a pipeline whose first command has a name, and a
-/// transaction; and on a link of publish/subscribe a subscription call and a ping.
+/// the connect of the first link, where that is asked for as the session opens, nothing of the
+/// configuration is refused, no credentials are to come of a source, nothing is to be said to the
+/// server first, and it isn't put into monitor mode: so a command, a pipeline whose first command
+/// has a name, and a transaction; and on a link of publish/subscribe a subscription call and a ping.
 pub fn a_submission_on_a_link_that_is_up_has_started()
     ensures free { (s : Submission) → packed_bytes s ≢ [] → is_reply_awaited s ≡ true
         → StartsOnFreeLink s }

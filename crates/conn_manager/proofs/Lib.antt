@@ -1,7 +1,9 @@
 mod Entries
 mod Calls
 mod Resubscribing
+mod Walk
 mod Once
 mod Turns
 mod Spent
 mod Passed
+pub mod Threads

@@ -1,19 +1,15 @@
 -- What is subscribed again.
-use Rattle.std.proofs.Common.{◌≡◌, ℕ, ◌+◌, ◌==◌, Bool, true, false, ◌&&◌, List, [], ◌∷◌, ◌++◌, length, Option, None, Some, slice_get, refl, sym, ap, ◌∙◌, if◌then◌else◌}
-use Rattle.sub_tracker.specs.Held.{Held, held_after}
-use Rattle.sub_tracker.specs.Pipeline.{resubscription, Resubscribes}
-use Rattle.sub_tracker.specs.Subscribed.{Request}
+use Rattle.std.proofs.Common.{◌≡◌, ℕ, ◌==◌, Bool, true, false, ◌&&◌, List, [], ◌∷◌, ◌++◌, length, Option, None, Some, slice_get, refl, ap, ◌∙◌}
+use Rattle.sub_tracker.specs.Held.{held_after}
+use Rattle.sub_tracker.specs.Pipeline.{resubscription}
 use Rattle.sub_tracker.proofs.Held.{held_resubscribes, held_with_last}
 use Rattle.mux_conn.specs.declared.request.Request as request
-use Rattle.driver_model.specs.News.{News}
 use Rattle.conn_manager.specs.declared.manager.ConnectionManager.{ConnectionManager}
 use Rattle.conn_manager.specs.declared.request.Call.{Call}
-use Rattle.conn_manager.specs.Events.{Happening, nothing, on_link}
 use Rattle.manager_generations.specs.Generations.{rests_behind}
-use Rattle.redis_error.specs.declared.redis_error.RedisError.{RedisError}
-use Rattle.conn_manager.specs.Manager.{is_current, is_open_at, tracked_call, answered}
+use Rattle.conn_manager.specs.Manager.{is_current, is_open_at, tracked_call}
 use Rattle.manager_generations.specs.Phases.{is_resubscribing}
-use Rattle.conn_manager.specs.Turn.{applied, settled, passed, flushed, heard, late_at, resubscription_late, rest_ended, resubscription_timed, resubscribes, resubscription_begun}
+use Rattle.conn_manager.specs.Turn.{settled, passed, flushed, late_at, resubscription_late, rest_ended, resubscription_timed, resubscribes}
 use Rattle.conn_manager.specs.Links.{OldLinksAreSilent, OldTimersAreSilent, ConfirmedCallsAreTracked, FailedCallsAreNotTracked, SubscribesWhatIsSubscribed, with_message}
 use Rattle.containers.proofs.Choices.{left_if, if_true, chosen}
 

@@ -1,4 +1,4 @@
-ghost use Rattle.std.specs.Prelude.{◌≡◌, true, None, OnOk, IfOk, IfErr, option_copied};
+ghost use Rattle.std.specs.Prelude.{◌≡◌, ◌↔◌, None, OnOk, IfOk, IfErr, IsTrue, option_copied};
 ghost use Rattle.manager_config.specs.Config.{default_manager};
 ghost use Rattle.manager_config.specs.Refused.{first_fault, RefusesManager};
 ghost use Rattle.mux_client.specs.Connection.{heard_by};
@@ -150,7 +150,7 @@ impl ConnectionManager {
     /// Whether the link of this number may take so many bytes: no more than were offered. One that was asked for before the last
     /// one has ended. Takes no memory.
     pub fn can_take(&self, link: u32, count: u64) -> bool
-        ensures { result ≡ true → IsFitting self.now (on_link link (took count)) }
+        ensures { IsTrue result ↔ IsFitting self.now (on_link link (took count)) }
     {
         if !self.is_current(link) {
             return true;

@@ -8,7 +8,7 @@ use Rattle.outside.specs.declared.world.Call.{Call}
 use Rattle.outside.specs.declared.world.Call.TheVariants as call
 use Rattle.legal_trace.specs.Book.{Book, blank_book, entered}
 use Rattle.legal_trace.specs.Legal.{AllStand}
-use Rattle.session_laws.proofs.Legality.{replay_legal}
+use Rattle.session_laws.proofs.Turn.Legality.{replay_legal}
 use Rattle.shared_session.specs.History.{History}
 use Rattle.shared_session.specs.Replay.{IsSound}
 use Rattle.live_run.specs.declared.ending.Ending.{Ending}

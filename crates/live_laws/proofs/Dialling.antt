@@ -21,7 +21,7 @@ use Rattle.live_run.proofs.Shown.{turns_gained}
 use Rattle.live_laws.specs.Dials.{IsPicked, connects_by, connects_in, dials_by, dials_in}
 use Rattle.live_laws.proofs.Agendas.{Agenda, Target}
 use Rattle.live_laws.proofs.Picked.{picked_behind, picked_front, picked_last, picked_more, picked_trans, picked_under}
-use Rattle.live_laws.proofs.Written.{early_each}
+use Rattle.live_run.proofs.Early.{early_each}
 
 pub dials_append : (xs ys : List Call) → dials_in (xs ++ ys) ≡ dials_in xs ++ dials_in ys
 dials_append [] ys = refl

@@ -2,11 +2,11 @@
 use Rattle.std.proofs.Common.{ℕ, List, ◌++◌, Option, sym, subst}
 use Rattle.driver_model.specs.declared.action.Action.{Action}
 use Rattle.outside.specs.declared.world.Call.{Call}
-use Rattle.legal_laws.proofs.Lines.{ledgers_are_told}
-use Rattle.legal_laws.proofs.Links.{links_take_in_order}
+use Rattle.legal_laws.proofs.Links.Lines.{ledgers_are_told}
+use Rattle.legal_laws.proofs.Links.Links.{links_take_in_order}
 use Rattle.legal_laws.specs.Links.{IsPrefix}
 use Rattle.legal_trace.specs.Ledger.{Ledger, joined, stream}
-use Rattle.session_laws.proofs.Legality.{replay_legal}
+use Rattle.session_laws.proofs.Turn.Legality.{replay_legal}
 use Rattle.shared_session.specs.History.{History}
 use Rattle.shared_session.specs.Replay.{IsSound}
 use Rattle.live_run.specs.declared.ending.Ending.{Ending}

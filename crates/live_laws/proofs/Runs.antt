@@ -10,7 +10,7 @@ use Rattle.legal_trace.specs.Book.{Book, blank_book, book, entered_each}
 use Rattle.legal_trace.specs.Legal.{AllStand}
 use Rattle.legal_trace.proofs.Books.{book_append, stand_behind, stand_front}
 use Rattle.legal_trace.proofs.Plain.{same_some}
-use Rattle.session_laws.proofs.Legality.{replay_legal}
+use Rattle.session_laws.proofs.Turn.Legality.{replay_legal}
 use Rattle.shared_session.specs.History.{History}
 use Rattle.shared_session.specs.Replay.{IsSound, state_after, trace_of}
 use Rattle.shared_session.specs.Turn.{actions_of}

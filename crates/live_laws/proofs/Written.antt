@@ -1,9 +1,8 @@
 -- What a link takes, deed by deed.
 use Rattle.std.proofs.Common.{◌≡◌, ◌⊎◌, inl, inr, ℕ, false, List, [], ◌∷◌, ◌++◌, None, refl, sym, ap, ◌∙◌, subst}
 use Rattle.std.proofs.lemmas.List.{append-nil}
-use Rattle.containers.proofs.Choices.{chosen, not_both}
+use Rattle.containers.proofs.Choices.{not_both}
 use Rattle.driver_model.specs.declared.action.Action.{Action}
-use Rattle.driver_model.specs.declared.action.Action.TheVariants as action
 use Rattle.driver_model.specs.declared.event.Event.{Event}
 use Rattle.driver_model.specs.declared.event.EventKind.{EventKind}
 use Rattle.driver_model.specs.declared.event.EventKind.TheVariants as event
@@ -19,62 +18,17 @@ use Rattle.shared_session.specs.Replay.{turns_on}
 use Rattle.legal_trace.specs.Book.{Book, entered, entered_each}
 use Rattle.legal_trace.specs.Legal.{AllStand}
 use Rattle.legal_trace.proofs.Plain.{not_none}
-use Rattle.live_run.specs.Agenda.{agenda_of, answered, begun, behind, dialled, noted, noted_each, offered, removed, stands, tried, undialled, without}
+use Rattle.live_run.specs.Agenda.{agenda_of, answered, begun, behind, dialled, noted, noted_each, stands, tried, without}
 use Rattle.live_run.specs.Deeds.{Deed, did, fired, answer_of, asked, made, calls_of, events_of, actions_of, after, May, MayCall}
 use Rattle.live_laws.specs.Taken.{IsNoWrote, taken, taken_by}
 use Rattle.live_laws.proofs.Agendas.{Agenda}
+use Rattle.live_run.proofs.Early.{early_each, early_noted, links_none}
 use Rattle.live_run.proofs.Heard.{none_begins}
 use Rattle.live_run.proofs.Hearing.{turn_of, IsNoTurn}
 use Rattle.live_laws.proofs.Taking.{action_taken, taken_of, turn_stays}
 use Rattle.live_laws.proofs.Offers.{Ties, dialled_ties, gone_ties, noted_ties, turn_ties, wrote_taken, wrote_ties}
 
--- what was asked before the first pass is noted once
-pub early_noted : (a : Agenda) (x : Action) → (noted a x).early ≡ a.early
-early_noted a (action.Turn number c) = refl
-early_noted a (action.Connect l host port) = refl
-early_noted a (action.Timer t ms what) = refl
-early_noted a (action.Close l) =
-    let d : Agenda = record a { links = without l a.links; dials = undialled l a.dials } in
-    chosen (λ (e : Agenda). e.early ≡ a.early) (stands l a.unclosed) (record d { unclosed = removed l a.unclosed; closes = a.closes ++ l ∷ [] }) d (λ t. refl) (λ f. refl)
-early_noted a (action.Write l bytes) = refl
-early_noted a (action.Took who l count) = refl
-early_noted a (action.Push l info) = refl
-early_noted a (action.Message m) = refl
-early_noted a (action.Monitor v) = refl
-early_noted a (action.NeedCreds c l) = refl
-early_noted a (action.Generation g) = refl
-early_noted a (action.Round who l) = refl
-early_noted a (action.Start l message who count len) = refl
-early_noted a (action.Wait who kind) = refl
-early_noted a (action.Created e) = refl
-early_noted a (action.Outcome n o) = refl
-
-pub early_each : (a : Agenda) (xs : List Action) → (noted_each a xs).early ≡ a.early
-early_each a [] = refl
-early_each a (x ∷ xs) = early_each (noted a x) xs ∙ early_noted a x
-
 -- while no link is up
-links_none : (a : Agenda) (x : Action) → a.links ≡ [] → (noted a x).links ≡ []
-links_none a (action.Turn number c) none = none
-links_none a (action.Connect l host port) none = none
-links_none a (action.Timer t ms what) none = none
-links_none a (action.Close l) none =
-    let d : Agenda = record a { links = without l a.links; dials = undialled l a.dials } in
-    let gone : without l a.links ≡ [] = ap (without l) none in
-    chosen (λ (e : Agenda). e.links ≡ []) (stands l a.unclosed) (record d { unclosed = removed l a.unclosed; closes = a.closes ++ l ∷ [] }) d (λ t. gone) (λ f. gone)
-links_none a (action.Write l bytes) none = ap (offered l bytes) none
-links_none a (action.Took who l count) none = none
-links_none a (action.Push l info) none = none
-links_none a (action.Message m) none = none
-links_none a (action.Monitor v) none = none
-links_none a (action.NeedCreds c l) none = none
-links_none a (action.Generation g) none = none
-links_none a (action.Round who l) none = none
-links_none a (action.Start l message who count len) none = none
-links_none a (action.Wait who kind) none = none
-links_none a (action.Created e) none = none
-links_none a (action.Outcome n o) none = none
-
 links_each : (a : Agenda) (xs : List Action) → a.links ≡ [] → (noted_each a xs).links ≡ []
 links_each a [] none = none
 links_each a (x ∷ xs) none = links_each (noted a x) xs (links_none a x none)

@@ -4,7 +4,7 @@ use Rattle.caller_threads.specs.Submits.{Line}
 use Rattle.driver_model.specs.declared.action.Action.{Action}
 use Rattle.driver_model.specs.declared.config.Config.{Config}
 use Rattle.outside.specs.declared.world.Call.{Call}
-use Rattle.session_laws.proofs.Legality.{bad_of_the_book, replay_legal}
+use Rattle.session_laws.proofs.Turn.Legality.{bad_of_the_book, replay_legal}
 use Rattle.shared_session.specs.History.{History}
 use Rattle.shared_session.specs.Replay.{AreGood, AreUnspent, IsSound, trace_of}
 use Rattle.shared_session.specs.declared.errors.StepError.{StepError}

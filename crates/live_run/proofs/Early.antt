@@ -28,7 +28,7 @@ use Rattle.live_run.proofs.Standing.{IsKnownLink, Knows, noted_known}
 use Rattle.live_run.proofs.Heard.{deed_known}
 
 -- what was asked before the first pass is noted once
-early_noted : (a : Agenda) (x : Action) → (noted a x).early ≡ a.early
+pub early_noted : (a : Agenda) (x : Action) → (noted a x).early ≡ a.early
 early_noted a (action.Turn number c) = refl
 early_noted a (action.Connect l host port) = refl
 early_noted a (action.Timer t ms what) = refl
@@ -48,7 +48,7 @@ early_noted a (action.Wait who kind) = refl
 early_noted a (action.Created e) = refl
 early_noted a (action.Outcome n o) = refl
 
-early_each : (a : Agenda) (xs : List Action) → (noted_each a xs).early ≡ a.early
+pub early_each : (a : Agenda) (xs : List Action) → (noted_each a xs).early ≡ a.early
 early_each a [] = refl
 early_each a (x ∷ xs) = early_each (noted a x) xs ∙ early_noted a x
 
@@ -75,7 +75,7 @@ early_after a (did c word actions) none = early_each (answered a c) actions ∙ 
 early_after a (fired timer word actions) none = early_each (record a { timers = behind a.timers }) actions ∙ none
 
 -- while no link is up
-links_none : (a : Agenda) (x : Action) → a.links ≡ [] → (noted a x).links ≡ []
+pub links_none : (a : Agenda) (x : Action) → a.links ≡ [] → (noted a x).links ≡ []
 links_none a (action.Turn number c) none = none
 links_none a (action.Connect l host port) none = none
 links_none a (action.Timer t ms what) none = none

@@ -15,5 +15,5 @@ pub mod Claiming
 pub mod Hearing
 mod Standing
 pub mod Heard
-mod Early
+pub mod Early
 pub mod Good

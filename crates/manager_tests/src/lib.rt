@@ -11,4 +11,6 @@ pub mod scripted;
 #[cfg(test)]
 mod settings;
 #[cfg(test)]
+mod threads;
+#[cfg(test)]
 mod turns;

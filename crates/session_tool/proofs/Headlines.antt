@@ -10,11 +10,11 @@ use Rattle.shared_session.specs.Replay.{trace_of, AreGood, AreUnspent, IsSound}
 use Rattle.legal_trace.specs.Ledger.{Ledger, stream, joined}
 use Rattle.legal_trace.specs.Legal.{Legal}
 use Rattle.legal_laws.specs.Links.{IsPrefix}
-use Rattle.legal_laws.proofs.Answers.{at_most_one, exactly_one}
-use Rattle.legal_laws.proofs.Lines.{ledgers_are_told}
-use Rattle.legal_laws.proofs.Links.{links_take_in_order}
-use Rattle.legal_laws.proofs.Segments.{in_segments}
-use Rattle.session_laws.proofs.Legality.{replay_legal}
+use Rattle.legal_laws.proofs.Submissions.Answers.{at_most_one, exactly_one}
+use Rattle.legal_laws.proofs.Links.Lines.{ledgers_are_told}
+use Rattle.legal_laws.proofs.Links.Links.{links_take_in_order}
+use Rattle.legal_laws.proofs.Traces.Segments.{in_segments}
+use Rattle.session_laws.proofs.Turn.Legality.{replay_legal}
 use Rattle.text_laws.specs.Fits.{AreBytes, FitsHistory, HaveForms}
 use Rattle.text_laws.proofs.OneTrace.{same_trace}
 use Rattle.text_laws.proofs.Scripts.{script_fits}

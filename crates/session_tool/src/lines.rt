@@ -7,7 +7,7 @@ use program_ends::push_number;
 use std::alloc::{AllocError, Global};
 
 /// What the program says of itself.
-const HELP: &[u8] =
+pub const HELP: &[u8] =
     b"session_tool replay     reads a script from standard input, and writes the trace of its session
 session_tool gen N      makes a script of N rounds, N from 1 to 200000, and writes what is counted in its trace
 session_tool live WORDS hands the lines of standard input to a server, and writes the outcome of each
@@ -18,7 +18,9 @@ The WORDS of live are callers=K, K from 1 to 8, or nothing, and then those behin
 
 A script, each line an example:
 config single url=redis://HOST:PORT
-config pubsub url=redis://HOST:PORT      in its place: a link of publish/subscribe
+config manager url=redis://HOST:PORT     in its place: a connection that comes back where its link is lost
+config lazy url=redis://HOST:PORT        one that connects with its first request, and comes back
+config pubsub url=redis://HOST:PORT      a link of publish/subscribe
 config monitor url=redis://HOST:PORT     or one in monitor mode
 submit cmd GET a                         a command
 submit noreply SET k 1                   a command whose reply nobody awaits
@@ -52,6 +54,8 @@ The time of a request is 500 ms, or what response=MS or response=none says there
 The queue of a link holds 50 messages, or what buffer=COUNT says there, and none starts while 8192 bytes or more, or what boundary=BYTES says, are unwritten.
 Pushes are heard where push=on stands there, on a URL with ?protocol=3: each is an action, and so is the end of a link.
 Credentials come of sources where creds=on stands there: need-creds asks for a first source when the link is up, and for a second when it is set up.
+A manager makes 6 attempts after the first, or as many as retries=COUNT says there, each behind a delay: below 100 ms, or what min=MS says, then below twice as much, or as base=NUMBER/NUMBER says, and max=MS at most.
+Where resub=on and push=on stand there, a manager's new link subscribes again what was subscribed.
 A fault is refused, reset, aborted, not-connected, broken-pipe, eof, timed-out, interrupted, denied or other.
 Status: 0 done, 1 no command, 2 no script, 3 refused configuration, 4 bad event, 5 no memory, 6 no input, 7 no output, 8 no more numbers.
 ";

@@ -1,4 +1,4 @@
-use Rattle.legal_laws.proofs.Creation.{opening_is_told}
+use Rattle.legal_laws.proofs.Generations.Creation.{opening_is_told}
 use Rattle.legal_laws.proofs.a_failed_opening_is_told.Goals as goal
 
 pub returns : goal.returns

@@ -1,4 +1,4 @@
-use Rattle.legal_laws.proofs.Late.{late_is_nothing}
+use Rattle.legal_laws.proofs.Links.Late.{late_is_nothing}
 use Rattle.legal_laws.proofs.a_link_that_has_ended_shows_nothing.Goals as goal
 
 pub returns : goal.returns

@@ -1,5 +1,5 @@
-use Rattle.legal_laws.proofs.Dealt.{tells_messages}
-use Rattle.legal_laws.proofs.Values.{confirmations_are_none}
+use Rattle.legal_laws.proofs.Notices.Dealt.{tells_messages}
+use Rattle.legal_laws.proofs.Notices.Values.{confirmations_are_none}
 use Rattle.legal_laws.proofs.a_message_is_told_where_it_came.Goals as goal
 
 pub returns-clause-told : goal.returns-clause-told

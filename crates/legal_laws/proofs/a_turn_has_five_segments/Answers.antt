@@ -1,4 +1,4 @@
-use Rattle.legal_laws.proofs.Segments.{in_segments}
+use Rattle.legal_laws.proofs.Traces.Segments.{in_segments}
 use Rattle.legal_laws.proofs.a_turn_has_five_segments.Goals as goal
 
 pub returns : goal.returns

@@ -1,5 +1,5 @@
-use Rattle.legal_laws.proofs.Links.{links_take_in_order}
-use Rattle.legal_laws.proofs.Streams.{takes_in_order}
+use Rattle.legal_laws.proofs.Links.Links.{links_take_in_order}
+use Rattle.legal_laws.proofs.Links.Streams.{takes_in_order}
 use Rattle.legal_laws.proofs.bytes_are_a_front_of_the_messages.Goals as goal
 
 pub returns-clause-alone : goal.returns-clause-alone

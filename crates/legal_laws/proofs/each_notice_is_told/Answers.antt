@@ -1,5 +1,5 @@
-use Rattle.legal_laws.proofs.Among.{tells_in_order}
-use Rattle.legal_laws.proofs.Suits.{tells_notices}
+use Rattle.legal_laws.proofs.Notices.Among.{tells_in_order}
+use Rattle.legal_laws.proofs.Notices.Suits.{tells_notices}
 use Rattle.legal_laws.proofs.each_notice_is_told.Goals as goal
 
 pub returns-clause-told : goal.returns-clause-told

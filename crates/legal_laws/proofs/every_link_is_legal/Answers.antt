@@ -1,5 +1,5 @@
-use Rattle.legal_laws.proofs.Lines.{ledgers_are_told}
-use Rattle.legal_laws.proofs.Links.{links_are_legal}
+use Rattle.legal_laws.proofs.Links.Lines.{ledgers_are_told}
+use Rattle.legal_laws.proofs.Links.Links.{links_are_legal}
 use Rattle.legal_laws.proofs.every_link_is_legal.Goals as goal
 
 pub returns-clause-legal : goal.returns-clause-legal

@@ -1,4 +1,4 @@
-use Rattle.legal_laws.proofs.Given.{starts_none_lacking, starts_authorized}
+use Rattle.legal_laws.proofs.Links.Given.{starts_none_lacking, starts_authorized}
 use Rattle.legal_laws.proofs.no_setup_starts_before_its_credentials.Goals as goal
 
 pub returns-clause-lacking : goal.returns-clause-lacking

@@ -1,4 +1,4 @@
-use Rattle.legal_laws.proofs.Permits.{keeps_permits}
+use Rattle.legal_laws.proofs.Submissions.Permits.{keeps_permits}
 use Rattle.legal_laws.proofs.permits_never_exceed_the_limit.Goals as goal
 
 pub returns : goal.returns

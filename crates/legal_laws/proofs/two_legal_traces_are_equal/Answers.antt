@@ -1,4 +1,4 @@
-use Rattle.legal_laws.proofs.Equal.{legal_is_one}
+use Rattle.legal_laws.proofs.Traces.Equal.{legal_is_one}
 use Rattle.legal_laws.proofs.two_legal_traces_are_equal.Goals as goal
 
 pub returns : goal.returns

@@ -1,5 +1,5 @@
-use Rattle.legal_laws.proofs.Fired.{fired_start_no_more}
-use Rattle.legal_laws.proofs.Leaving.{left_start_no_more, timed_out_start_no_more}
+use Rattle.legal_laws.proofs.Submissions.Fired.{fired_start_no_more}
+use Rattle.legal_laws.proofs.Submissions.Leaving.{left_start_no_more, timed_out_start_no_more}
 use Rattle.legal_laws.proofs.whoever_left_never_starts.Goals as goal
 
 pub returns-clause-left : goal.returns-clause-left

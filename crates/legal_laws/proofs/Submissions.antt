@@ -1,0 +1,15 @@
+pub mod Steps
+pub mod Rounds
+pub mod Messages
+pub mod Owes
+pub mod Tales
+pub mod Answers
+pub mod InLine
+pub mod Overdue
+pub mod Seated
+pub mod Permits
+pub mod Timers
+pub mod Rising
+pub mod Leaving
+pub mod Fired
+pub mod Rounding

@@ -1,0 +1,9 @@
+pub mod Numbers
+pub mod Sound
+pub mod Ranks
+pub mod Next
+pub mod Equal
+pub mod Undue
+pub mod Held
+pub mod Segments
+pub mod Configured

@@ -1,0 +1,443 @@
+-- New credentials are told before the queue, behind their timer.
+use Rattle.std.proofs.Common.{List, None, Option, Some, [], ap, arith, false, inl, inr, length, length-append, refl, subst, sym, true, ℕ, ◌+◌, ◌++◌, ◌≤◌, ◌∙◌, ◌∷◌, ◌≡◌, ◌≢◌}
+use Rattle.std.proofs.lemmas.List.{append-nil}
+use Rattle.std.specs.Prelude.{if◌then◌else◌, slice_get, ◌&&◌}
+use Rattle.containers.proofs.Choices.{both_right, chosen, left_if, not_both, by_test, taken_if}
+use Rattle.containers.proofs.Places.{get_within}
+use Rattle.credentials.specs.Credentials.{Credentials}
+use Rattle.credentials.specs.Message.{auth_bytes}
+use Rattle.driver_model.specs.Shape.{need_of}
+use Rattle.driver_model.specs.declared.action.Action.{Action}
+use Rattle.driver_model.specs.declared.action.Action.TheVariants as action
+use Rattle.driver_model.specs.declared.action.Owner.TheVariants as owner
+use Rattle.driver_model.specs.declared.action.Purpose.{Purpose}
+use Rattle.driver_model.specs.declared.action.Purpose.TheVariants as purpose
+use Rattle.driver_model.specs.declared.outcome.Shape.TheVariants.{Confirmation}
+use Rattle.link_core.specs.Link.{LinkState, begun, entry_of, holds_back}
+use Rattle.link_core.specs.declared.message.Entry.{Entry}
+use Rattle.link_core.specs.declared.message.Queued.{Queued}
+use Rattle.link_laws.proofs.Once.{wanted-append}
+use Rattle.link_laws.proofs.TiedLink.{all_push, begun_tied, timed_tied}
+use Rattle.link_laws.specs.Settles.{awaited_ids, wanted}
+use Rattle.link_laws.specs.Starts.{start_from}
+use Rattle.mux_conn.specs.Connection.{Work, are_some, is_due as is_renewal_due, is_ready}
+use Rattle.mux_conn.specs.Renewals.{asked_next, renewal_asked, renewal_id, renewal_moved, renewal_queued, renewal_timed, renewal_told, renewed, renewing, told_next}
+use Rattle.mux_conn.specs.declared.act.LinkAct.TheVariants as act
+use Rattle.mux_conn.specs.declared.life.Life.{Life}
+use Rattle.mux_conn.specs.declared.life.Life.TheVariants.{Ready}
+use Rattle.mux_conn.specs.declared.renewal.Renewal.{Renewal}
+use Rattle.mux_conn.specs.declared.request.Request.{Request}
+use Rattle.shared_session.specs.declared.core_state.Core.{Core}
+use Rattle.shared_session.specs.Turn.{timers_of}
+use Rattle.legal_trace.specs.Book.{Book, book, entered, message_of, renewal_in}
+use Rattle.legal_trace.specs.Ledger.{Ledger, Start, begins, is_of_setup, noted, renewal_count, renewal_due, renewals_asked, setup_count, times, is_of_again}
+use Rattle.legal_trace.specs.Legal.{MayRenew, MayTimeRenewal, NoneEnds}
+use Rattle.legal_trace.specs.Story.{Story}
+use Rattle.legal_trace.proofs.Setups.{count_more}
+use Rattle.session_laws.proofs.Ties.Ahead.{held_by}
+use Rattle.session_laws.proofs.Requests.Going.{HasRenewed, applied_up, none_ends_kept, none_ends_mine, renewals_timed, setups_started, monitors_started}
+use Rattle.session_laws.proofs.Ties.InLine.{kept_ids}
+use Rattle.session_laws.proofs.Ties.Kept.{mine_noted, others_kept, tied_by}
+use Rattle.session_laws.proofs.Ties.Names.{get_more, owner_of_auth}
+use Rattle.session_laws.proofs.Ties.Numbers.{IsIn, Rising, in_left, requests_behind, requests_in, requests_in-append, auth_is_own, is_own}
+use Rattle.session_laws.proofs.Internal.Renewals.{auth_renewed, asked_renewed, down_renewed_due, due_first, due_is, some_wait, timed_renewed}
+use Rattle.session_laws.proofs.Links.SetUp.{set_up_begins, setups_begins}
+use Rattle.session_laws.proofs.Requests.Settle.{Holds, book_of_more, renewal_tied, seen, sound_act, trace_of_acts}
+use Rattle.session_laws.proofs.Requests.Start.{not_setting, on_link, owners-append, owners_each-append, owners_length, setup_owners-append}
+use Rattle.session_laws.proofs.Requests.Starts.{begins_ends_none}
+use Rattle.session_laws.proofs.Ties.States.{IsFit}
+use Rattle.session_laws.proofs.Links.Server.{AreRenewed, TiedRenewal, setup_owners, timed_of}
+use Rattle.session_laws.proofs.Ties.Tied.{AreAimed, Inner, IsAim, IsEntry, Tied, TiedTries, numbers_kept, owner_of, owners_each, queue_ids}
+use Rattle.session_laws.proofs.Links.Took.{queue_waits}
+use Rattle.mux_conn.specs.declared.life.Greeting.TheVariants as greet
+use Rattle.driver_model.specs.Hearing.{is_watching}
+use Rattle.session_laws.proofs.Internal.Repeats.{repeated_alike, begins_repeated}
+use Rattle.session_laws.proofs.Internal.Repeating.{HasRepeated}
+use Rattle.session_laws.proofs.Internal.RepeatsDue.{repeating_timed, repeating_started}
+
+-- two links of one life
+pub one_link : (link other : LinkState) → Ready link ≡ Ready other → link ≡ other
+one_link link other e = cc
+
+-- one that is fit has the boundary of its connection
+pub bound_fit : (size bound : ℕ) (link : LinkState) → IsFit size bound link → (x : LinkState) → Ready link ≡ Ready x → x.boundary ≡ bound
+bound_fit size bound link fit x e = ap (λ (y : LinkState). y.boundary) (sym (one_link link x e)) ∙ fit.bound_is
+
+-- their timer
+--
+-- where a time is set, there is one
+pub time_is_set : (within : Option ℕ) (ms : ℕ) → within ≡ Some ms → within ≢ None
+time_is_set within ms e none = let no : ◌≡◌ {A = Option ℕ} None (Some ms) = sym none ∙ e in cc
+
+-- a timer more for the link
+aims_renewed : (timers : List Purpose) (link count number : ℕ) → AreAimed timers link count → AreAimed (timers ++ purpose.Renewal link number ∷ []) link count
+aims_renewed timers link count number h k what e = let own : link ≤ link = omega arith in elim (get_more timers (purpose.Renewal link number) k what e) [
+  | inl i ↦ h k what i
+  | inr x ↦ subst (λ w. IsAim w link count) x.1 own
+]
+
+-- where the time is set, as many timers were asked for as new credentials were to be told
+timed_is_asked : (l : Ledger) (r : Renewal) (ms : ℕ) → r.within ≡ Some ms → AreRenewed l r → l.creds.timed ≡ r.asked
+timed_is_asked l r ms e h = h.timed_is ∙ ap (λ o. timed_of o r.asked) e
+
+-- it may be asked for
+may_time_renewal : (b : Book) (t : Inner) (link : LinkState) (number ms : ℕ) → number ≡ length t.timers → t.renewal.pending ≡ false → is_renewal_due t.renewal ≡ true → t.renewal.within ≡ Some ms → IsFit t.size t.bound link → HasRepeated t.again (Ready link) → Tied b (on_link t link) → NoneEnds b
+    → MayTimeRenewal b number ms (purpose.Renewal t.link t.renewal.asked)
+may_time_renewal b t link number ms counted none due within fit repeated h ended =
+    let was = on_link t link in
+    let l = b.link t.link in
+    let r = t.renewal in
+    let timed = timed_is_asked l r ms within h.renewal in
+    let pending : ℕ = if r.pending then 1 else 0 in
+    let unasked : pending ≡ 0 = left_if r.pending 1 0 none in
+    let one : renewals_asked l ≡ renewal_count l.starts + 1 = ap (λ x. renewal_count l.starts + (if x then 1 else 0)) (due_is l r h.life.1 h.renewal ∙ due) in
+    record {
+      applied = applied_up b was h refl (refl, refl) refl refl ended;
+      setups = setups_started b was h (λ x u e. absurd (not_setting link x u e));
+      monitors = monitors_started b was h (λ x e. absurd (not_setting link x greet.Monitor e));
+      repeats_timed = repeating_timed b was h repeated;
+      repeated = repeating_started b was h (bound_fit t.size t.bound link fit) repeated;
+      l = t.link;
+      within = h.numbers.within ∙ within;
+      asked = omega (arith, timed, one, unasked, h.renewal.asked_is);
+      in_order = λ m less. (h.others m (λ e. omega (arith, e))).timed (time_is_set r.within ms within);
+      next = counted ∙ ap length (sym h.numbers.timers);
+      is_for = ap (purpose.Renewal t.link) (sym timed);
+    }
+
+-- and is
+time_tied : (b : Book) (t : Inner) (link : LinkState) (number ms : ℕ) → t.renewal.pending ≡ false → is_renewal_due t.renewal ≡ true → t.renewal.within ≡ Some ms → Tied b (on_link t link)
+    → Tied (entered b (action.Timer number ms (purpose.Renewal t.link t.renewal.asked))) (record (on_link t link) { timers = t.timers ++ purpose.Renewal t.link t.renewal.asked ∷ []; renewal = asked_next t.renewal })
+time_tied b t link number ms none due within h =
+    let l = b.link t.link in
+    let r = t.renewal in
+    let what = purpose.Renewal t.link r.asked in
+    let k = numbers_kept b b.link b.story b.tracked b.errors (on_link t link) (Ready link) t.free t.requests t.waiting t.admitted t.fresh t.moved t.letting [] t.started h.numbers in
+    tied_by (entered b (action.Timer number ms what)) (record (on_link t link) { timers = t.timers ++ what ∷ []; renewal = asked_next r }) (noted l times) (mine_noted l t.link times) (record {
+      numbers = record {
+        turns = k.turns;
+        links = k.links;
+        timers = ap (λ ts. ts ++ what ∷ []) h.numbers.timers;
+        sources = k.sources;
+        aims = aims_renewed t.timers t.link (length t.table) r.asked h.numbers.aims;
+        timed = k.timed;
+        submissions = k.submissions;
+        timeout = k.timeout;
+        shut = k.shut;
+        within = k.within;
+        few = k.few;
+        settings = record { size_is = k.settings.size_is; bound_is = k.settings.bound_is; limit_is = k.settings.limit_is; some = k.settings.some; limited = k.settings.limited };
+        kind_is = k.kind_is;
+        quiet = λ w. let q = h.numbers.quiet w in record { none = q.none; unwanted = q.unwanted; unrenewed = q.unrenewed; unrepeated = q.unrepeated };
+        comes_back = k.comes_back;
+        lazy = k.lazy;
+        current_is = k.current_is;
+        speaks = k.speaks;
+        address_is = k.address_is;
+        wants = k.wants;
+        alone = k.alone;
+      };
+      others = others_kept b t.link times h.others;
+      notices = h.notices;
+      life = h.life;
+      course = h.course;
+      calm = h.calm;
+      creds = record { wanted_is = h.creds.wanted_is; sought = h.creds.sought };
+      creation = h.creation;
+      uses = h.uses;
+      renewal = timed_renewed l r ms none due within h.renewal;
+      repeat = repeated_alike l (noted l times) b.tracked t.renewal.within t.again refl refl refl h.repeat;
+      setup = record { info_is = h.setup.info_is; sent = h.setup.sent; said = record { well = h.setup.said.well; none = h.setup.said.none } };
+      link = λ e. timed_tied (owner_of t.requests) l link (h.link refl);
+      names = h.names;
+      story = h.story;
+      tries = record { owners = h.tries.owners; greeted = h.tries.greeted; shapes = h.tries.shapes; tried = h.tries.tried; untried = h.tries.untried };
+      lines = h.lines;
+      told = h.told;
+      waits = h.waits;
+      permits = h.permits;
+      rounds = h.rounds;
+      early = h.early;
+      late = h.late;
+    })
+
+-- AUTH
+--
+-- it carries bytes
+auth_some : (c : Credentials) → auth_bytes c.username c.password ≢ []
+auth_some c e = cc
+
+-- and is AUTH's
+auth_owner : (requests : List Request) → owner_of requests renewal_id ≡ owner.Auth
+auth_owner requests = owner_of_auth requests renewal_id refl
+
+-- one more of the started, of this number, which is none of a request, nor of the setup
+pub tries_told : (l : Ledger) (story : ℕ → Story) (requests : List Request) (link : ℕ) (started : List ℕ) (s : Start) (id : ℕ) → length requests ≤ id → is_of_setup s.owner ≡ false → s.owner ≡ owner_of requests id → is_watching l.hearing ≡ false → TiedTries l story requests link started
+    → TiedTries (noted l (begins s)) story requests link (started ++ id ∷ [])
+tries_told l story requests link started s id few other own plain h =
+    let c = setup_count l.starts in
+    let same : setup_count (l.starts ++ s ∷ []) ≡ c = count_more l.starts s other in
+    record {
+      greeted = λ w. absurd (not_both (is_watching l.hearing) plain w);
+      owners = λ same_plain. owners-append l.starts (s ∷ []) ∙ (λ i. h.owners plain i ++ own i ∷ []) ∙ setup_owners-append c (owners_each requests started) (owner_of requests id ∷ [])
+          ∙ (λ i. setup_owners (sym same i) (sym (owners_each-append requests started (id ∷ [])) i));
+      shapes = λ j m x inside i e. elim (get_more started id j m i) [
+        | inl a ↦ elim (get_more l.starts s (c + j) x (ap (λ y. slice_get (l.starts ++ s ∷ []) (y + j)) (sym same) ∙ e)) [
+          | inl d ↦ h.shapes j m x inside a d
+          | inr d ↦ absurd (past j m a d.0)
+        ]
+        | inr a ↦ absurd (let k = a.1 in omega (arith, k, inside, few))
+      ];
+      tried = λ j m inside i. elim (get_more started id j m i) [
+        | inl a ↦ h.tried j m inside a ∙ ap (λ y. record { link = link; message = y + j } ∷ []) (sym same)
+        | inr a ↦ absurd (let k = a.1 in omega (arith, k, inside, few))
+      ];
+      untried = λ m r i out on. h.untried m r i (λ j. out (in_left m started (id ∷ []) j)) on;
+    }
+  where
+    past : (j m : ℕ) → slice_get started j ≡ Some m → setup_count l.starts + j ≡ length l.starts → ⊥
+    past j m a e = let w = get_within started j m a in let long = owners_length l.starts requests started (setup_count l.starts) (h.owners plain) in omega arith
+
+-- an entry of the driver's own is no request's
+pub wanted_told : (row : List Entry) (q : Queued) → is_own q.id ≡ true → q.awaited ≡ true → requests_in (wanted (row ++ entry_of q ∷ [])) ≡ requests_in (wanted row)
+wanted_told row q own awaited =
+    ap requests_in (wanted-append row (entry_of q ∷ [])) ∙ ap (λ ns. requests_in (wanted row ++ (ns ++ []))) (taken_if q.awaited (q.id ∷ []) [] awaited)
+    ∙ requests_in-append (wanted row) (q.id ∷ []) ∙ ap (λ ns. requests_in (wanted row) ++ ns) (requests_behind q.id [] own) ∙ append-nil (requests_in (wanted row))
+
+-- what shows it
+abbrev auth_action : Inner → LinkState → Credentials → Action
+auth_action t link c = action.Start t.link link.started owner.Auth (need_of Confirmation) (length (auth_bytes c.username c.password))
+
+-- the session then
+abbrev after_auth : Inner → LinkState → Credentials → List Credentials → Inner
+after_auth t link c cs = record (on_link t (begun link (renewal_queued c))) { renewal = told_next t.renewal cs; started = t.started ++ renewal_id ∷ [] }
+
+-- it may start, where nothing holds the link back
+may_renew : (b : Book) (t : Inner) (link : LinkState) (c : Credentials) (cs : List Credentials) → is_renewal_due t.renewal ≡ true → t.renewal.pending ≡ true → t.renewal.waiting ≡ c ∷ cs → IsFit t.size t.bound link → holds_back link ≡ false → HasRepeated t.again (Ready link) → Tied b (on_link t link) → NoneEnds b
+    → MayRenew b t.link link.started (need_of Confirmation) (length (auth_bytes c.username c.password))
+may_renew b t link c cs due pending waits fit free repeated h ended =
+    let was = on_link t link in
+    let l = b.link t.link in
+    record {
+      applied = applied_up b was h refl (refl, refl) refl refl ended;
+      setups = setups_started b was h (λ x u e. absurd (not_setting link x u e));
+      monitors = monitors_started b was h (λ x e. absurd (not_setting link x greet.Monitor e));
+      repeats_timed = repeating_timed b was h repeated;
+      repeated = repeating_started b was h (bound_fit t.size t.bound link fit) repeated;
+      timed = renewals_timed b was h (λ x e d. pending);
+      credentials = c;
+      due = due_first l t.renewal c cs h.life.1 h.renewal due waits;
+      free = held_by b was (owner_of t.requests) link h.numbers fit.bound_is (h.link refl) ∙ free;
+      in_order = λ m other less some. absurd (none_due m other (down_renewed_due (b.link m) (h.others m (λ e. omega (arith, e))).down) some);
+      next = (h.link refl).started;
+      needs_its_items = refl;
+      long_as_its_bytes = refl;
+    }
+  where
+    none_due : (m : ℕ) (other : Credentials) → renewal_due (b.link m) ≡ None → renewal_due (b.link m) ≡ Some other → ⊥
+    none_due m other none some = let no : ◌≡◌ {A = Option Credentials} None (Some other) = sym none ∙ some in cc
+
+-- the session is tied to the book with it
+auth_tied : (b : Book) (t : Inner) (link : LinkState) (c : Credentials) (cs : List Credentials) → is_renewal_due t.renewal ≡ true → t.renewal.pending ≡ true → t.renewal.waiting ≡ c ∷ cs → Tied b (on_link t link) → Tied (entered b (auth_action t link c)) (after_auth t link c cs)
+auth_tied b t link c cs due pending waits h =
+    let l = b.link t.link in
+    let q = renewal_queued c in
+    let name = owner_of t.requests in
+    let s = start_from name q in
+    let owned : s.owner ≡ owner.Auth = auth_owner t.requests in
+    let told : message_of b t.link owner.Auth ≡ s = ap renewal_in (due_first l t.renewal c cs h.life.1 h.renewal due waits) ∙ (λ i. record { owner = sym owned i; shape = Confirmation; bytes = auth_bytes c.username c.password }) in
+    let up = h.link refl in
+    let plain : is_watching t.hears ≡ true → ⊥ = λ w. (let no : [] ≡ c ∷ cs = sym (h.numbers.quiet w).unrenewed ∙ waits in cc) in
+    let unwatched : is_watching l.hearing ≡ false = by_test (is_watching l.hearing) _ (λ w. absurd (plain (ap is_watching (sym h.notices.hearing_is) ∙ w))) (λ f. f) in
+    let few : length t.requests ≤ renewal_id = omega (arith, h.names.few, h.numbers.few) in
+    let k = numbers_kept b b.link b.story b.tracked b.errors (on_link t link) (Ready (begun link q)) t.free t.requests t.waiting t.admitted t.fresh t.moved t.letting [] (t.started ++ renewal_id ∷ []) h.numbers in
+    tied_by (entered b (auth_action t link c)) (after_auth t link c cs) (noted l (begins s)) (mine_noted l t.link (begins (message_of b t.link owner.Auth)) ∙ ap (λ x. noted l (begins x)) told) (record {
+      numbers = record {
+        turns = k.turns;
+        links = k.links;
+        timers = k.timers;
+        sources = k.sources;
+        aims = k.aims;
+        timed = k.timed;
+        submissions = k.submissions;
+        timeout = k.timeout;
+        shut = k.shut;
+        within = k.within;
+        few = k.few;
+        settings = record { size_is = k.settings.size_is; bound_is = k.settings.bound_is; limit_is = k.settings.limit_is; some = k.settings.some; limited = k.settings.limited };
+        kind_is = k.kind_is;
+        quiet = λ w. absurd (plain w);
+        comes_back = k.comes_back;
+        lazy = k.lazy;
+        current_is = k.current_is;
+        speaks = k.speaks;
+        address_is = k.address_is;
+        wants = k.wants;
+        alone = k.alone;
+      };
+      others = others_kept b t.link (begins (message_of b t.link owner.Auth)) h.others;
+      notices = h.notices;
+      life = h.life;
+      course = h.course;
+      calm = h.calm;
+      creds = record { wanted_is = h.creds.wanted_is; sought = h.creds.sought };
+      creation = h.creation;
+      uses = h.uses;
+      renewal = auth_renewed l t.renewal s c cs owned refl up.within due pending waits h.renewal;
+      repeat = begins_repeated l s b.tracked t.renewal.within t.again (ap is_of_again owned) h.repeat;
+      setup = record { info_is = h.setup.info_is; sent = setups_begins l s (ap is_of_setup owned) h.setup.sent; said = set_up_begins l s (ap is_of_setup owned) h.setup.said };
+      link = λ e. begun_tied name l link q (auth_some c) up;
+      names = h.names;
+      story = h.story;
+      tries = tries_told l b.story t.requests t.link t.started s renewal_id few (ap is_of_setup owned) refl unwatched h.tries;
+      lines = record {
+        line = subst (λ ns. Rising 0 (ns ++ (queue_ids link.queue ++ kept_ids t.admitted t.waiting)) (length t.requests)) (sym (requests_in-append t.started (renewal_id ∷ []) ∙ ap (λ ns. requests_in t.started ++ ns) (requests_behind renewal_id [] (auth_is_own renewal_id refl)) ∙ append-nil (requests_in t.started))) h.lines.line;
+        queued = h.lines.queued;
+        entries = all_push (IsEntry t.requests) link.row (entry_of q) h.lines.entries (inr (record { is = auth_is_own renewal_id refl; awaited_is = refl; shape_is = λ e. refl }));
+        packs = h.lines.packs;
+        packed_in = h.lines.packed_in;
+        there = λ p e. elim (h.lines.there p e) [
+          | inl i ↦ inl (subst (λ ns. IsIn p (ns ++ awaited_ids link.queue)) (sym (wanted_told link.row q (auth_is_own renewal_id refl) refl)) i)
+          | inr k ↦ inr k
+        ];
+      };
+      told = λ e. h.told refl;
+      waits = queue_waits b.story t.requests t.again link (begun link q) t.fresh t.moved (λ p i. i) h.waits;
+      permits = h.permits;
+      rounds = h.rounds;
+      early = λ unserved alive. (let k = h.early unserved alive in record { unbegun = k.unbegun; empty = k.empty });
+      late = h.late;
+    })
+
+-- all of it
+--
+-- new credentials were told that may be, behind what is subscribed again
+pub record HasTold (before : List Action) (f : Core) (v : Work) : Type 0 where
+  pub started : List ℕ
+  pub link : LinkState
+  pub life : v.conn.life ≡ Ready link
+  pub holds : Holds before f v [] started
+  pub ended : NoneEnds (book (trace_of_acts before f v.acts))
+  pub fit : IsFit v.conn.size v.conn.boundary link
+  pub moved : v.conn.moved ≡ []
+  pub repeated : HasRepeated v.conn.again v.conn.life
+  pub renewed : HasRenewed v.conn.renewal v.conn.life
+
+-- their timer was asked for
+record HasAsked (before : List Action) (f : Core) (v : Work) (started : List ℕ) (link : LinkState) : Type 0 where
+  life : v.conn.life ≡ Ready link
+  holds : Holds before f v [] started
+  ended : NoneEnds (book (trace_of_acts before f v.acts))
+  fit : IsFit v.conn.size v.conn.boundary link
+  moved : v.conn.moved ≡ []
+  repeated : HasRepeated v.conn.again v.conn.life
+  due : is_renewal_due v.conn.renewal ≡ true
+  pending : v.conn.renewal.pending ≡ true
+
+-- so it is, where they are to be told
+asked_told : (before : List Action) (f : Core) (w : Work) (started : List ℕ) (link : LinkState) → w.conn.life ≡ Ready link → Holds before f w [] started → NoneEnds (book (trace_of_acts before f w.acts)) → IsFit w.conn.size w.conn.boundary link → w.conn.moved ≡ [] → HasRepeated w.conn.again w.conn.life → is_renewal_due w.conn.renewal ≡ true
+    → HasAsked before f (renewal_asked w) started link
+asked_told before f w started link life holds ended fit moved repeated due =
+    let r = w.conn.renewal in
+    chosen (λ (x : Work). HasAsked before f x started link) r.pending w (renewal_timed (renewing w (asked_next r)) r.asked r.within)
+    (λ p. record { life = life; holds = holds; ended = ended; fit = fit; moved = moved; repeated = repeated; due = due; pending = p })
+    (λ n. by_within r.within refl n)
+  where
+    b : Book
+    b = book (trace_of_acts before f w.acts)
+
+    t : Inner
+    t = seen f w.acts w.conn [] started
+
+    by_within : (within : Option ℕ) → w.conn.renewal.within ≡ within → w.conn.renewal.pending ≡ false → HasAsked before f (renewal_timed (renewing w (asked_next w.conn.renewal)) w.conn.renewal.asked within) started link
+    by_within None e n =
+        let l = b.link f.single.link in
+        let r = w.conn.renewal in
+        let now = subst (TiedRenewal l (asked_next r)) (sym life) (asked_renewed l r n due e (subst (TiedRenewal l r) life holds.tied.renewal)) in
+        record { life = life; holds = record { stands = holds.stands; tied = renewal_tied b t (asked_next r) refl refl refl now holds.tied }; ended = ended; fit = fit; moved = moved; repeated = repeated; due = due; pending = refl }
+    by_within (Some ms) e n =
+        let r = w.conn.renewal in
+        let a = act.RenewalTimer r.asked ms in
+        let was = subst (λ (x : Life). Tied b (record t { life = x })) life holds.tied in
+        let number = length f.timers + length (timers_of f.single.link w.acts) in
+        let may = may_time_renewal b t link number ms (sym (length-append f.timers (timers_of f.single.link w.acts))) n due e fit (subst (HasRepeated w.conn.again) life repeated) was ended in
+        let what = purpose.Renewal f.single.link r.asked in
+        let tied = subst (λ (x : Life). Tied (entered b (action.Timer number ms what)) (record t { life = x; timers = t.timers ++ what ∷ []; renewal = asked_next r })) (sym life) (time_tied b t link number ms n due e was) in
+        record {
+          life = life;
+          holds = sound_act before f w.acts a (record w.conn { renewal = asked_next r }) [] started holds.stands (inr (inr (inl may))) tied;
+          ended = subst NoneEnds (sym (book_of_more before f w.acts a)) (none_ends_kept b f.single.link times (λ l x. x) ended);
+          fit = fit;
+          moved = moved;
+          repeated = repeated;
+          due = due;
+          pending = refl;
+        }
+
+-- they are told, where nothing holds the link back
+asked_moved : (before : List Action) (f : Core) (v : Work) (started : List ℕ) (link : LinkState) (cs : List Credentials) → v.conn.renewal.waiting ≡ cs → HasAsked before f v started link → HasTold before f (renewal_moved v (Ready link) cs)
+asked_moved before f v started link [] none h = absurd (not_both (are_some v.conn.renewal.waiting) (ap are_some none) (some_wait v.conn.renewal h.due))
+asked_moved before f v started link (c ∷ cs) waits h =
+    chosen (HasTold before f) (holds_back link) v (renewal_told v link c cs)
+    (λ held. record {
+      started = started;
+      link = link;
+      life = h.life;
+      holds = h.holds;
+      ended = h.ended;
+      fit = h.fit;
+      moved = h.moved;
+      repeated = h.repeated;
+      renewed = λ x e due. (h.pending, subst (λ (y : LinkState). holds_back y ≡ true) (one_link link x (sym h.life ∙ e)) held);
+    })
+    (λ free.
+    let b = book (trace_of_acts before f v.acts) in
+    let t = seen f v.acts v.conn [] started in
+    let q = renewal_queued c in
+    let a = act.Renewed link.started (need_of Confirmation) (length (auth_bytes c.username c.password)) in
+    let was = subst (λ (x : Life). Tied b (record t { life = x })) h.life h.holds.tied in
+    let l = b.link f.single.link in
+    let message = message_of b f.single.link owner.Auth in
+    record {
+      started = started ++ renewal_id ∷ [];
+      link = begun link q;
+      life = refl;
+      holds = sound_act before f v.acts a (record v.conn { renewal = told_next v.conn.renewal cs; life = Ready (begun link q) }) [] (started ++ renewal_id ∷ []) h.holds.stands
+          (may_renew b t link c cs h.due h.pending waits h.fit free (subst (HasRepeated v.conn.again) h.life h.repeated) was h.ended) (auth_tied b t link c cs h.due h.pending waits was);
+      ended = subst NoneEnds (sym (book_of_more before f v.acts a)) (none_ends_mine b f.single.link (begins message) (begins_ends_none l message was.life.1 refl was.setup.said (h.ended f.single.link)) h.ended);
+      fit = record { sound = h.fit.sound; size_is = h.fit.size_is; bound_is = h.fit.bound_is; within = h.fit.within };
+      moved = h.moved;
+      repeated = λ x e start. absurd (not_both (holds_back link) free (h.repeated link h.life start).1);
+      renewed = λ x e due. cc;
+    })
+
+-- so all are told that may be
+pub renewed_told : (before : List Action) (f : Core) (w : Work) (started : List ℕ) (link : LinkState) → w.conn.life ≡ Ready link → Holds before f w [] started → NoneEnds (book (trace_of_acts before f w.acts)) → IsFit w.conn.size w.conn.boundary link → w.conn.moved ≡ [] → HasRepeated w.conn.again w.conn.life → HasTold before f (renewed w)
+renewed_told before f w started link life holds ended fit moved repeated =
+    let r = w.conn.renewal in
+    let ready : is_ready w.conn.life ≡ true = ap is_ready life in
+    chosen (HasTold before f) (is_ready w.conn.life && is_renewal_due r) (renewal_moved (renewal_asked w) w.conn.life r.waiting) w
+    (λ t.
+    let due = both_right (is_ready w.conn.life) (is_renewal_due r) t in
+    subst (λ (x : Life). HasTold before f (renewal_moved (renewal_asked w) x r.waiting)) (sym life)
+    (asked_moved before f (renewal_asked w) started link r.waiting (asked_waits w) (asked_told before f w started link life holds ended fit moved repeated due)))
+    (λ f1. record {
+      started = started;
+      link = link;
+      life = life;
+      holds = holds;
+      ended = ended;
+      fit = fit;
+      moved = moved;
+      repeated = repeated;
+      renewed = λ x e due. absurd (not_both (is_ready w.conn.life && is_renewal_due r) f1 (λ i. ready i && due i));
+    })
+  where
+    timed_waits : (v : Work) (number : ℕ) (within : Option ℕ) → (renewal_timed v number within).conn.renewal.waiting ≡ v.conn.renewal.waiting
+    timed_waits v number None = refl
+    timed_waits v number (Some ms) = refl
+
+    asked_waits : (v : Work) → (renewal_asked v).conn.renewal.waiting ≡ v.conn.renewal.waiting
+    asked_waits v =
+        let r = v.conn.renewal in
+        chosen (λ (x : Work). x.conn.renewal.waiting ≡ r.waiting) r.pending v (renewal_timed (renewing v (asked_next r)) r.asked r.within) (λ p. refl) (λ n. timed_waits (renewing v (asked_next r)) r.asked r.within)

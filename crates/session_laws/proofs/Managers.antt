@@ -1,0 +1,16 @@
+pub mod Causes
+pub mod Comes
+pub mod Calm
+pub mod Reopen
+pub mod Generate
+pub mod Dial
+pub mod Regenerate
+pub mod Judge
+pub mod Return
+pub mod Manage
+pub mod Whole
+pub mod First
+pub mod Turns
+pub mod Spending
+pub mod RunOut
+pub mod Begins

@@ -1,0 +1,148 @@
+-- What one action of a turn leaves as it is.
+use Rattle.std.proofs.Common.{Bool, List, Option, [], ap, length, refl, slice_get, subst, sym, ℕ, ◌<◌, ◌∙◌, ◌∷◌, ◌≡◌, false}
+use Rattle.std.specs.List.{AllByRecursion}
+use Rattle.std.specs.Prelude.{◌==◌}
+use Rattle.containers.proofs.Choices.{chosen, eq_from, eq_test, if_false, ne_test, taken_if}
+use Rattle.driver_model.specs.declared.hearing.Hearing.{Hearing}
+use Rattle.driver_model.specs.declared.outcome.Shape.{Shape}
+use Rattle.link_core.specs.declared.message.Queued.{Queued}
+use Rattle.link_laws.proofs.TiedLink.{TiedLink}
+use Rattle.mux_conn.specs.Requests.{name_at}
+use Rattle.mux_conn.specs.declared.request.Request.{Request}
+use Rattle.mux_conn.specs.declared.request.Waiting.{Waiting}
+use Rattle.legal_trace.specs.Book.{Book, has_generations, if_mine, if_own, hearing_in}
+use Rattle.legal_trace.specs.Ledger.{Ledger, Line, noted, noted_each}
+use Rattle.legal_trace.specs.Story.{Story, awaited_in, packed_in, shape_in, tried}
+use Rattle.session_laws.proofs.Ties.Names.{name_placed}
+use Rattle.session_laws.proofs.Ties.Owes.{request_story}
+use Rattle.session_laws.proofs.Internal.Repeats.{TiedRepeat, serves}
+use Rattle.session_laws.proofs.Links.Server.{TiedCreds, TiedSetup, hearing_at, TiedRenewal}
+use Rattle.session_laws.proofs.Ties.Tied.{AreAside, AreLate, AreQueued, Inner, IsAside, IsOf, IsPacked, IsQueued, IsRequest, StaysCalm, Tied, TiedCourse, TiedCreation, TiedLife, TiedLines, TiedNames, TiedNumbers, TiedPermits, TiedNotices, TiedRounds, TiedStory, TiedTries, TiedWaits, carried, has_ended, link_in, whole_link, is_reading, AreUses, AreEarly}
+
+-- a session and the ledger of its link, which is that of the book
+pub record TiedBy (b : Book) (t : Inner) (l : Ledger) : Type 0 where
+  pub numbers : TiedNumbers b t
+  pub others : AreAside t.link t.links b.link t.hears t.renewal.within b.created
+  pub notices : TiedNotices (hearing_in b.config) t.hears (hearing_at t.life t.hears l.hearing) l.notices l.told l.end l.parted l.strange (is_reading l) t.untold t.parting
+  pub life : TiedLife l b.created t.life
+  pub course : TiedCourse l.last l.end t
+  pub calm : StaysCalm b.errors t.shut t.life
+  pub creation : TiedCreation b.created t.told
+  pub creds : TiedCreds l.creds t.renewal.wanted t.life
+  pub uses : AreUses t.sources t.link l.creds.asked l.creds.renews
+  pub renewal : TiedRenewal l t.renewal t.life
+  pub repeat : TiedRepeat l b.tracked t.renewal.within t.again t.life
+  pub setup : TiedSetup l t.info t.started t.life
+  pub link : has_ended t.life ≡ false → TiedLink (carried t.life t.requests) l (whole_link t.life)
+  pub names : TiedNames t.table t.requests
+  pub story : (n : ℕ) → TiedStory (b.story n) t.requests t.link (slice_get t.table n)
+  pub tries : TiedTries l b.story t.requests t.link t.started
+  pub lines : TiedLines b.story t.requests (link_in t.life) t.waiting t.admitted t.pending t.started
+  pub told : has_ended t.life ≡ false → AreQueued b.story t.requests t.link (link_in t.life)
+  pub waits : TiedWaits b.story t.requests t.again t.life t.fresh t.moved
+  pub permits : TiedPermits b.story b.submissions t.requests t.link t.limit t.free t.letting
+  pub rounds : TiedRounds (has_generations b) b.story t.requests (serves t.life t.again) t.fresh t.rounds
+  pub early : AreEarly t.requests t.again t.life
+  pub late : AreLate b.story t.requests t.pending
+
+-- so the session is tied to the book
+pub tied_by : (b : Book) (t : Inner) (l : Ledger) → b.link t.link ≡ l → TiedBy b t l → Tied b t
+tied_by b t l e h = record {
+  numbers = h.numbers;
+  others = h.others;
+  notices = subst (λ (x : Ledger). TiedNotices (hearing_in b.config) t.hears (hearing_at t.life t.hears x.hearing) x.notices x.told x.end x.parted x.strange (is_reading x) t.untold t.parting) (sym e) h.notices;
+  life = subst (λ (x : Ledger). TiedLife x b.created t.life) (sym e) h.life;
+  course = subst (λ (x : Ledger). TiedCourse x.last x.end t) (sym e) h.course;
+  calm = h.calm;
+  creation = h.creation;
+  creds = subst (λ (x : Ledger). TiedCreds x.creds t.renewal.wanted t.life) (sym e) h.creds;
+  uses = subst (λ (x : Ledger). AreUses t.sources t.link x.creds.asked x.creds.renews) (sym e) h.uses;
+  renewal = subst (λ (x : Ledger). TiedRenewal x t.renewal t.life) (sym e) h.renewal;
+  repeat = subst (λ (x : Ledger). TiedRepeat x b.tracked t.renewal.within t.again t.life) (sym e) h.repeat;
+  setup = subst (λ (x : Ledger). TiedSetup x t.info t.started t.life) (sym e) h.setup;
+  link = λ up. subst (λ (x : Ledger). TiedLink (carried t.life t.requests) x (whole_link t.life)) (sym e) (h.link up);
+  names = h.names;
+  story = h.story;
+  tries = subst (λ (x : Ledger). TiedTries x b.story t.requests t.link t.started) (sym e) h.tries;
+  lines = h.lines;
+  told = h.told;
+  waits = h.waits;
+  permits = h.permits;
+  rounds = h.rounds;
+  early = h.early;
+  late = h.late;
+}
+
+-- a line of a link is noted of it alone
+pub mine_noted : (l : Ledger) (n : ℕ) (line : Line) → noted_each l (if_mine (n == n) line) ≡ noted l line
+mine_noted l n line = ap (noted_each l) (taken_if (n == n) (line ∷ []) [] (eq_test n n refl))
+
+-- all other links stay as they are
+pub others_kept : {links created : ℕ} {heard : Hearing} {within : Option ℕ} (b : Book) (n : ℕ) (line : Line) → AreAside n links b.link heard within created → AreAside n links (λ m. noted_each (b.link m) (if_mine (n == m) line)) heard within created
+others_kept {links = links} {created = created} {heard = heard} {within = within} b n line h m other =
+    if_false (λ (ls : List Line). IsAside links m (noted_each (b.link m) ls) heard within created) (n == m) (line ∷ []) [] (ne_test n m (λ e. other (sym e))) (h m other)
+
+-- one request's story changes
+pub one_changed : (b : Book) (t : Inner) (p : ℕ) (g : Story → Story) → Tied b t → p < length t.requests
+    → (let m = name_at t.requests p in IsRequest (b.story m) t.requests t.link p → IsRequest (g (b.story m)) t.requests t.link p)
+    → (n : ℕ) → TiedStory (if_own (name_at t.requests p == n) (g (b.story n)) (b.story n)) t.requests t.link (slice_get t.table n)
+one_changed b t p g h l f n =
+    let m = name_at t.requests p in
+    chosen (λ (x : Story). TiedStory x t.requests t.link (slice_get t.table n)) (m == n) (g (b.story n)) (b.story n)
+    (λ e.
+    subst (λ k. TiedStory (g (b.story k)) t.requests t.link (slice_get t.table k)) (eq_from m n e)
+    (subst (TiedStory (g (b.story m)) t.requests t.link) (sym (name_placed t.table t.requests p h.names l)) (f (request_story b t p h l))))
+    (λ e. h.story n)
+
+-- a story of the same submission
+pub of_same : (s s' : Story) (bytes : List ℕ) (of_shape : Shape) (awaited : Bool) → s.submission ≡ s'.submission → IsOf s bytes of_shape awaited → IsOf s' bytes of_shape awaited
+of_same s s' bytes of_shape awaited e h = record {
+  packs = h.packs ∙ ap packed_in e;
+  shape_is = h.shape_is ∙ ap shape_in e;
+  awaited_is = h.awaited_is ∙ ap awaited_in e;
+}
+
+-- of the same submissions
+abbrev pub SameSubmissions : (ℕ → Story) → (ℕ → Story) → Type 0
+SameSubmissions f g = (n : ℕ) → (f n).submission ≡ (g n).submission
+
+-- of the same outcomes
+abbrev pub SameOutcomes : (ℕ → Story) → (ℕ → Story) → Type 0
+SameOutcomes f g = (n : ℕ) → (f n).outcomes ≡ (g n).outcomes
+
+-- of the same times
+abbrev pub SameTimes : (ℕ → Story) → (ℕ → Story) → Type 0
+SameTimes f g = (n : ℕ) → (f n).timeout ≡ (g n).timeout
+
+-- those that wait are as their submissions say
+pub packed_same : (f g : ℕ → Story) (requests : List Request) (ws : List Waiting) → SameSubmissions f g → SameTimes f g → AllByRecursion (IsPacked f requests) ws → AllByRecursion (IsPacked g requests) ws
+packed_same f g requests [] same times all = tt
+packed_same f g requests (w ∷ ws) same times all = (
+  record {
+    is_of = of_same (f (name_at requests w.number)) (g (name_at requests w.number)) w.packed w.shape w.awaited (same (name_at requests w.number)) all.0.is_of;
+    time_is = all.0.time_is ∙ times (name_at requests w.number);
+  },
+  packed_same f g requests ws same times all.1,
+)
+
+-- and so are those in the queue
+pub queued_same : (f g : ℕ → Story) (requests : List Request) (qs : List Queued) → SameSubmissions f g → SameOutcomes f g → AllByRecursion (IsQueued f requests) qs → AllByRecursion (IsQueued g requests) qs
+queued_same f g requests [] same told all = tt
+queued_same f g requests (q ∷ qs) same told all = (
+  record {
+    is_of = of_same (f (name_at requests q.id)) (g (name_at requests q.id)) q.packed q.shape q.awaited (same (name_at requests q.id)) all.0.is_of;
+    placed_at = all.0.placed_at;
+    told = λ e. sym (told (name_at requests q.id)) ∙ all.0.told e;
+  },
+  queued_same f g requests qs same told all.1,
+)
+
+-- of the same tries, by the same places
+pub tries_same : (l : Ledger) (f g : ℕ → Story) (requests : List Request) (link : ℕ) (started : List ℕ) → SameSubmissions f g → ((n : ℕ) → (f n).tries ≡ (g n).tries) → ((n : ℕ) → (f n).link ≡ (g n).link) → TiedTries l f requests link started → TiedTries l g requests link started
+tries_same l f g requests link started same tried linked h = record {
+  owners = h.owners;
+  greeted = h.greeted;
+  shapes = λ k p s l i j. h.shapes k p s l i j ∙ ap shape_in (same (name_at requests p));
+  tried = λ k p l i. sym (tried (name_at requests p)) ∙ h.tried k p l i;
+  untried = λ p r i out on. sym (tried r.name) ∙ h.untried p r i out (linked r.name ∙ on);
+}

@@ -1,0 +1,5 @@
+pub mod Announce
+pub mod Heard
+pub mod Effects
+pub mod Legality
+pub mod Opening
