@@ -15,8 +15,10 @@ use Rattle.conn_manager.specs.declared.request.Call.{Call}
 use Rattle.conn_manager.specs.declared.request.HeldRequest.{HeldRequest}
 use Rattle.conn_manager.specs.declared.request.Stage.{Stage}
 use Rattle.conn_manager.specs.declared.request.Stage.TheVariants as stage
-use Rattle.conn_manager.specs.Calls.{if_placed, entered, answered_at_once, placed_at, request_of, sent, cancelled, left_at}
-use Rattle.conn_manager.specs.Events.{Happening}
+use Rattle.mux_client.specs.Connection.{if_placed}
+use Rattle.mux_client.specs.LikeLaws.{place_added}
+use Rattle.conn_manager.specs.Calls.{entered, answered_at_once, placed_at, request_of, sent, cancelled, left_at}
+use Rattle.mux_client.specs.Events.{Happening}
 use Rattle.manager_generations.specs.Generations.{begins_next}
 use Rattle.conn_manager.specs.Manager.{said, is_current, is_open, is_held, is_open_at, is_held_at, if_there, weighed, kept, closed_by, answered, loss_answered}
 use Rattle.conn_manager.proofs.Walk.{Walks, answers_one, applies, answers_loss, subscribes_again, passes_on, flushes}
@@ -132,12 +134,6 @@ closed_before [] p h = cc
 closed_before (s ∷ ss) zero h = h
 closed_before (s ∷ ss) (suc p) h = closed_before ss p h
 
-outcome_before : (outcomes : List (Option Outcome)) (p : ℕ) → if_placed (slice_get (outcomes ++ None ∷ []) p) ≡ if_placed (slice_get outcomes p)
-outcome_before [] zero = refl
-outcome_before [] (suc p) = refl
-outcome_before (o ∷ os) zero = refl
-outcome_before (o ∷ os) (suc p) = outcome_before os p
-
 held_last : (stages : List Stage) → is_held_at (stages ++ stage.Held ∷ []) (length stages) ≡ true
 held_last [] = refl
 held_last (s ∷ ss) = held_last ss
@@ -145,7 +141,7 @@ held_last (s ∷ ss) = held_last ss
 entered_keeps : (m : ConnectionManager) (call : Option Call) → Keeps m (entered m call)
 entered_keeps m call = record {
   closed = λ p h. closed_before m.stages p h;
-  outcome = λ p h. outcome_before m.outcomes p;
+  outcome = λ p h. place_added m.outcomes p;
 }
 
 at_once_keeps : (m : ConnectionManager) (q : HeldRequest) (e : RedisError) → Keeps m (answered_at_once m q e)

@@ -1,7 +1,7 @@
 -- Which part of a turn gives out the number 2^32 - 1.
 use Rattle.std.proofs.Common.{◌≡◌, ◌⊎◌, inl, inr, ℕ, true, Result, OnOk, subst, ap, ◌∙◌}
 use Rattle.conn_manager.specs.declared.manager.ConnectionManager.{ConnectionManager}
-use Rattle.conn_manager.specs.Events.{Happening}
+use Rattle.mux_client.specs.Events.{Happening}
 use Rattle.manager_generations.specs.Generations.{runs_out}
 use Rattle.conn_manager.specs.Manager.{nobody_held, loss_answered}
 use Rattle.conn_manager.specs.Spending.{IsSpent, SpendsPass, SpendsRounds, Spends, before, in_effect, in_next, in_pass, in_rounds, behind}

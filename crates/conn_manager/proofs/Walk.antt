@@ -28,8 +28,8 @@ use Rattle.conn_manager.specs.declared.manager.ConnectionManager.{ConnectionMana
 use Rattle.conn_manager.specs.declared.request.HeldRequest.{HeldRequest}
 use Rattle.conn_manager.specs.declared.request.Stage.{Stage}
 use Rattle.conn_manager.specs.declared.request.Stage.TheVariants as stage
-use Rattle.conn_manager.specs.Events.{Happening, nothing, on_link, late_request, late_resubscription, rest_over, closing, is_shutting}
-use Rattle.conn_manager.specs.Hearing.{has_names, opened, resubscribed, closed, came_to, waits, starts, noted, noted_each, moved_on, resubscription_name}
+use Rattle.mux_client.specs.Events.{Happening, nothing, on_link, late_request, late_resubscription, rest_over, closing}
+use Rattle.conn_manager.specs.Hearing.{has_names, opened, resubscribed, closed, came_to, waits, starts, noted, noted_each, moved_on, resubscription_name, is_shutting}
 use Rattle.conn_manager.specs.Manager.{with_generations, said, link_of, is_current, is_open_at, is_held_at, weighed, kept, closed_by, answered, failed_each, nobody_held, held_failed, failure_answered_at, loss_answered_at}
 use Rattle.conn_manager.specs.Turn.{reconnected, link_shut, all_shut, heard, late_at, rest_ended, applied, resubscription_timed, resubscribes, resubscription_begun, handed, advanced, round, round_each, rounds, connection_passed, passed, with_wait, wait_shown, wait_shown_each, held_shown_as, flushed, held_wait, to_show}
 

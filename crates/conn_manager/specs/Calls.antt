@@ -18,6 +18,7 @@ use Rattle.driver_model.specs.declared.outcome.Shape.{Shape}
 use Rattle.driver_model.specs.declared.outcome.Shape.TheVariants.{Confirmation}
 use Rattle.mux_conn.specs.declared.errors.ConnectionError.TheVariants as failure
 use Rattle.mux_conn.specs.Effects as effects
+use Rattle.mux_client.specs.Connection.{if_placed}
 use Rattle.mux_client.specs.declared.errors.SendError.{SendError}
 use Rattle.mux_client.specs.declared.errors.SendError.TheVariants as error
 use Rattle.sub_tracker.specs.Held.{holding, held_after}
@@ -135,10 +136,6 @@ abbrev pub cancelled : ConnectionManager → ℕ → ConnectionManager
 cancelled m p = if is_open_at m.stages p then left_at (record m { stages = slice_set m.stages p stage.Closed }) (slice_get m.stages p) else m
 
 -- the outcome of the request of that number, if it has one
-abbrev pub if_placed : Option (Option Outcome) → Option Outcome
-if_placed None = None
-if_placed (Some o) = o
-
 abbrev pub outcome_of : ConnectionManager → ℕ → Option Outcome
 outcome_of m p = if_placed (slice_get m.outcomes p)
 

@@ -3,7 +3,7 @@ use Rattle.std.specs.Prelude.{◌≡◌, ℕ, true}
 use Rattle.driver_model.specs.News.{News}
 use Rattle.mux_conn.specs.Effects.{IsWithin}
 use Rattle.conn_manager.specs.declared.manager.ConnectionManager.{ConnectionManager}
-use Rattle.conn_manager.specs.Events.{Happening, nothing, on_link, late_request, late_resubscription, rest_over, closing}
+use Rattle.mux_client.specs.Events.{Happening, nothing, on_link, late_request, late_resubscription, rest_over, closing}
 use Rattle.conn_manager.specs.Manager.{is_current}
 
 -- no more bytes are taken of the link that was asked for last than were offered; of the others, which have ended, anything may be told

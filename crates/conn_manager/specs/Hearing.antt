@@ -1,9 +1,9 @@
 -- What the acts of its connection are to a manager.
-use Rattle.std.specs.Prelude.{ℕ, ◌-◌, ◌^◌, ◌==◌, Bool, not, List, [], ◌∷◌, ◌++◌, length, Option, None, Some, if◌then◌else◌}
+use Rattle.std.specs.Prelude.{ℕ, ◌-◌, ◌^◌, ◌==◌, Bool, true, false, not, List, [], ◌∷◌, ◌++◌, length, Option, None, Some, if◌then◌else◌}
 use Rattle.redis_error.specs.declared.redis_error.RedisError.{RedisError}
 use Rattle.driver_model.specs.declared.outcome.Outcome.{Outcome}
 use Rattle.driver_model.specs.declared.action.WaitKind.{WaitKind}
-use Rattle.driver_model.specs.News.{News}
+use Rattle.driver_model.specs.News.{News, silence, connected, refused, overdue, took, came, failed, authorized, denied, deserted, renewed, unrenewed, late, unrepeated, dropped, shut}
 use Rattle.mux_conn.specs.declared.act.LinkAct.{LinkAct}
 use Rattle.mux_conn.specs.declared.act.LinkAct.TheVariants as link_act
 use Rattle.mux_conn.specs.Connection.{Work, work_with}
@@ -99,3 +99,22 @@ affected m draw news = moved_on m draw (effects.applied (work_with m.conn []) ne
 -- the time of a request of the connection is over
 abbrev pub timed_out : ConnectionManager → ℕ → ℕ → ConnectionManager
 timed_out m draw p = moved_on m draw (effects.timed_out (work_with m.conn []) p)
+
+-- a link is told that everything is closed
+abbrev pub is_shutting : News → Bool
+is_shutting shut = true
+is_shutting silence = false
+is_shutting connected = false
+is_shutting (refused f) = false
+is_shutting overdue = false
+is_shutting (took count) = false
+is_shutting (came piece) = false
+is_shutting (failed f) = false
+is_shutting (authorized c) = false
+is_shutting (denied text) = false
+is_shutting deserted = false
+is_shutting (renewed c) = false
+is_shutting unrenewed = false
+is_shutting (late k) = false
+is_shutting unrepeated = false
+is_shutting dropped = false

@@ -1,10 +1,10 @@
-pub mod Events
 pub mod Manager
 pub mod Hearing
 pub mod Turn
 pub mod Fitting
 pub mod Spending
 pub mod Calls
+pub mod LikeLaws
 pub mod Runs
 pub mod Rows
 pub mod Links

@@ -13,7 +13,7 @@ use Rattle.sub_tracker.specs.Subscribed.{Request}
 use Rattle.conn_manager.specs.declared.manager.ConnectionManager.{ConnectionManager}
 use Rattle.conn_manager.specs.declared.request.Call.{Call}
 use Rattle.conn_manager.specs.declared.request.Stage.TheVariants as stage
-use Rattle.conn_manager.specs.Events.{nothing, on_link, late_request, late_resubscription, rest_over}
+use Rattle.mux_client.specs.Events.{nothing, on_link, late_request, late_resubscription, rest_over}
 use Rattle.conn_manager.specs.Hearing.{resubscription_name}
 use Rattle.conn_manager.specs.Manager.{is_current, is_open_at, answered}
 use Rattle.manager_generations.specs.Generations.{rests_behind}

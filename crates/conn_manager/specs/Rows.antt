@@ -19,7 +19,7 @@ use Rattle.manager_generations.specs.declared.act.ManagerAct.TheVariants as act
 use Rattle.manager_generations.specs.declared.act.ManagerTimer.TheVariants as timer
 use Rattle.driver_model.specs.declared.action.WaitKind.TheVariants as wait
 use Rattle.manager_generations.specs.declared.settings.Settings.{Settings}
-use Rattle.conn_manager.specs.Events.{nothing, on_link, rest_over}
+use Rattle.mux_client.specs.Events.{nothing, on_link, rest_over}
 use Rattle.conn_manager.specs.Manager.{pending}
 use Rattle.conn_manager.specs.Runs.{Step, sends, calls, turns}
 

@@ -6,7 +6,7 @@ use Rattle.driver_model.specs.declared.outcome.Shape.TheVariants.{Single}
 use Rattle.manager_generations.specs.declared.act.ManagerAct.{ManagerAct}
 use Rattle.conn_manager.specs.declared.manager.ConnectionManager.{ConnectionManager}
 use Rattle.conn_manager.specs.Calls.{sent, called, cancelled}
-use Rattle.conn_manager.specs.Events.{Happening}
+use Rattle.mux_client.specs.Events.{Happening}
 use Rattle.conn_manager.specs.Turn.{turned, stepped}
 
 -- a command is sent, or a subscription call; the caller of a request leaves; a turn is made of what happened, where this word is drawn

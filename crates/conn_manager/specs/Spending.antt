@@ -5,7 +5,7 @@ use Rattle.mux_conn.specs.Connection as conn
 use Rattle.mux_conn.specs.Passes as passes
 use Rattle.conn_manager.specs.declared.manager.ConnectionManager.{ConnectionManager}
 use Rattle.conn_manager.specs.declared.request.HeldRequest.{HeldRequest}
-use Rattle.conn_manager.specs.Events.{Happening}
+use Rattle.mux_client.specs.Events.{Happening}
 use Rattle.manager_generations.specs.Generations.{runs_out}
 use Rattle.conn_manager.specs.Manager.{nobody_held, loss_answered}
 use Rattle.conn_manager.specs.Turn.{applied, succeeded, settled, handed, round, connection_passed, passed}

@@ -18,9 +18,9 @@ use Rattle.manager_generations.specs.declared.phase.Phase.TheVariants.{Idle, Ope
 use Rattle.conn_manager.specs.declared.request.HeldRequest.{HeldRequest}
 use Rattle.conn_manager.specs.declared.request.Stage.{Stage}
 use Rattle.conn_manager.specs.declared.request.Stage.TheVariants as stage
-use Rattle.conn_manager.specs.Events.{Happening, nothing, on_link, late_request, late_resubscription, rest_over, closing, is_shutting}
+use Rattle.mux_client.specs.Events.{Happening, nothing, on_link, late_request, late_resubscription, rest_over, closing}
 use Rattle.manager_generations.specs.Generations.{begun, begins_next, rested, rests_behind, shut_down}
-use Rattle.conn_manager.specs.Hearing.{affected, timed_out, moved_on, resubscription_name}
+use Rattle.conn_manager.specs.Hearing.{affected, timed_out, moved_on, resubscription_name, is_shutting}
 use Rattle.conn_manager.specs.Manager.{pending, with_generations, said, link_of, is_current, new_conn, is_held_at, nobody_held, failure_answered, loss_answered}
 use Rattle.manager_generations.specs.Phases.{is_ready, is_resubscribing}
 use Rattle.driver_model.specs.Waits.{wait_code}

@@ -2,7 +2,7 @@
 use Rattle.std.specs.Prelude.{◌≡◌, ℕ, List}
 use Rattle.manager_generations.specs.Moves.{Move, moved_each, turn}
 use Rattle.conn_manager.specs.declared.manager.ConnectionManager.{ConnectionManager}
-use Rattle.conn_manager.specs.Events.{Happening}
+use Rattle.mux_client.specs.Events.{Happening}
 use Rattle.conn_manager.specs.Manager.{loss_answered}
 use Rattle.conn_manager.specs.Turn.{applied, succeeded, resubscription_begun, passed, flushed}
 

@@ -1,13 +1,15 @@
 ghost use Rattle.std.specs.Prelude.{◌≡◌, ◌<◌, ◌^◌, ◌⊎◌, length, true, Some, slice_get, OnOk, IfOk, IsErrOf};
 ghost use Rattle.driver_model.specs.Shape.{shape_inside};
-ghost use Rattle.conn_manager.specs.Events.{happened};
+ghost use Rattle.driver_model.specs.News.{told};
+ghost use Rattle.mux_client.specs.Events.{happened};
+ghost use Rattle.conn_manager.specs.Hearing.{is_shutting};
 
-use crate::event::{ManagerNews, is_shutting};
 use crate::hearing::RESUBSCRIPTION;
 use crate::manager::ConnectionManager;
 use crate::request::Stage;
 use driver_model::{LinkNews, Shape};
 use manager_generations::{ManagerAct, ManagerTimer};
+use mux_client::ConnectionNews;
 use mux_conn::ConnectionError;
 use resp_write::Pipeline;
 use std::alloc::{AllocError, Global};
@@ -28,8 +30,14 @@ fn shape_inside(count: usize) -> Shape
     }
 }
 
+/// Whether a link is told that everything is closed.
+fn is_shutting(news: &LinkNews<'_>) -> bool
+    ensures { result ≡ is_shutting (told news.now) }
+{
+    matches!(news, LinkNews::Shut)
+}
+
 impl ConnectionManager {
-    ghost use Rattle.driver_model.specs.News.{told};
     ghost use Rattle.sub_tracker.specs.Pipeline.{resubscription};
     ghost use Rattle.conn_manager.specs.Fitting.{IsFitting, IsFittingOn};
     ghost use Rattle.manager_generations.specs.Generations.{runs_out};
@@ -143,7 +151,7 @@ impl ConnectionManager {
         &mut self,
         alloc: Global,
         draw: u64,
-        news: ManagerNews<'_>,
+        news: ConnectionNews<'_>,
     ) -> Result<(), ConnectionError>
         requires { IsFitting self.old (happened news) }
         ensures done { OnOk result (self.new ≡ applied self.old draw (happened news.entry)) }
@@ -152,21 +160,21 @@ impl ConnectionManager {
             ⊎ (runs_out (applied self.old draw (happened news.entry)).generations ≡ true) }
     {
         match news {
-            ManagerNews::Silence => Ok(()),
-            ManagerNews::Link { link, news } => self.hear(alloc, draw, link, news),
-            ManagerNews::Late { request } => {
+            ConnectionNews::Silence => Ok(()),
+            ConnectionNews::Link { link, news } => self.hear(alloc, draw, link, news),
+            ConnectionNews::Late { request } => {
                 self.be_late(alloc, draw, request.number)?;
                 Ok(())
             }
-            ManagerNews::ResubscriptionLate { link } => {
+            ConnectionNews::ResubscriptionLate { link } => {
                 self.resubscribe_late(alloc, draw, link)?;
                 Ok(())
             }
-            ManagerNews::Rested {
+            ConnectionNews::Rested {
                 generation,
                 attempt,
             } => self.end_rest(alloc, generation, attempt),
-            ManagerNews::Shut => self.shut_all(alloc, draw),
+            ConnectionNews::Shut => self.shut_all(alloc, draw),
         }
     }
 

@@ -5,10 +5,10 @@
 
 mod answering;
 mod effects;
-mod event;
 mod examples;
 mod hearing;
 mod laws;
+mod like;
 mod makers;
 mod manager;
 mod request;
@@ -17,7 +17,6 @@ mod sending;
 mod stepping;
 mod subscribing;
 
-pub use event::{ManagerEvent, ManagerNews};
 pub use examples::these_runs_show_this;
 pub use laws::{
     a_request_is_answered_once, an_event_of_an_older_link_changes_nothing,
@@ -26,6 +25,6 @@ pub use laws::{
 pub use manager::ConnectionManager;
 pub use manager_config::{ConnectionManagerConfig, backoff_ms};
 pub use manager_generations::{Generations, ManagerAct, ManagerTimer, Phase, Settings};
-pub use mux_client::{ManagerGetters, SendError};
+pub use mux_client::{ConnectionEvent, ConnectionLike, ConnectionNews, ManagerGetters, SendError};
 pub use mux_conn::{ConnectionError, Pending};
 pub use request::{Call, HeldRequest, Stage};

@@ -96,7 +96,7 @@ fn blank(
 
 impl ConnectionManager {
     ghost use Rattle.driver_model.specs.News.{took};
-    ghost use Rattle.conn_manager.specs.Events.{on_link};
+    ghost use Rattle.mux_client.specs.Events.{on_link};
     ghost use Rattle.conn_manager.specs.Fitting.{IsFitting};
     ghost use Rattle.conn_manager.specs.Calls.{cancelled, outcome_of};
 

@@ -1,10 +1,10 @@
 ghost use Rattle.std.specs.Prelude.{◌≡◌, ◌⊎◌, ◌++◌, [], None, Some, OnOk, OnErr, IsErrOf};
-ghost use Rattle.conn_manager.specs.Events.{happened};
+ghost use Rattle.mux_client.specs.Events.{happened};
 ghost use Rattle.conn_manager.specs.Fitting.{IsFitting};
 
-use crate::event::{ManagerEvent, ManagerNews};
 use crate::manager::ConnectionManager;
 use manager_generations::ManagerAct;
+use mux_client::{ConnectionEvent, ConnectionNews};
 use mux_conn::ConnectionError;
 use std::alloc::Global;
 
@@ -18,7 +18,7 @@ impl ConnectionManager {
         &mut self,
         alloc: Global,
         draw: u64,
-        news: ManagerNews<'_>,
+        news: ConnectionNews<'_>,
     ) -> Result<(), ConnectionError>
         requires { IsFitting self.old (happened news) }
         ensures done { OnOk result (self.new ≡ turned self.old draw (happened news.entry)) }
@@ -47,7 +47,7 @@ impl ConnectionManager {
     pub fn step(
         &mut self,
         alloc: Global,
-        event: ManagerEvent<'_>,
+        event: ConnectionEvent<'_>,
         out: &mut Vec<ManagerAct>,
     ) -> Result<(), ConnectionError>
         requires { IsFitting self.old (happened event.news) }

@@ -6,16 +6,16 @@ use redis_error::RedisError;
 /// What a timer of a manager is for. Whoever keeps the timers tells the next step when it has fired.
 #[derive(Clone, Copy, PartialEq, Eq)]
 pub enum ManagerTimer {
-    /// The link of this number is to be connected and set up: `ManagerNews::Link` with `LinkNews::Overdue`.
+    /// The link of this number is to be connected and set up: `ConnectionNews::Link` with `LinkNews::Overdue`.
     Connect { link: u32 },
-    /// A request is to be answered: `ManagerNews::Late`.
+    /// A request is to be answered: `ConnectionNews::Late`.
     Response { request: Pending },
-    /// What was subscribed is to be subscribed again on the link of this number: `ManagerNews::ResubscriptionLate`.
+    /// What was subscribed is to be subscribed again on the link of this number: `ConnectionNews::ResubscriptionLate`.
     Resubscription { link: u32 },
     /// New credentials are to be answered on the link of this number, the first of which have the number 0:
-    /// `ManagerNews::Link` with `LinkNews::Late`.
+    /// `ConnectionNews::Link` with `LinkNews::Late`.
     Renewal { link: u32, number: u32 },
-    /// A generation waits behind this attempt, counted from 0, before its next one: `ManagerNews::Rested`.
+    /// A generation waits behind this attempt, counted from 0, before its next one: `ConnectionNews::Rested`.
     Backoff { generation: u32, attempt: u32 },
 }
 

@@ -6,6 +6,8 @@ mod asking;
 #[cfg(test)]
 mod delays;
 #[cfg(test)]
+mod like;
+#[cfg(test)]
 mod manager;
 pub mod scripted;
 #[cfg(test)]

@@ -1,9 +1,10 @@
 ghost use Rattle.std.specs.Prelude.{◌≡◌};
-ghost use Rattle.conn_manager.specs.Events.{happened};
+ghost use Rattle.mux_client.specs.Events.{happened};
 ghost use Rattle.conn_manager.specs.Fitting.{IsFitting};
 
 use conn_manager::{
-    ConnectionManager, ManagerAct, ManagerEvent, ManagerNews, ManagerTimer, Pending, SendError,
+    ConnectionEvent, ConnectionManager, ConnectionNews, ManagerAct, ManagerTimer, Pending,
+    SendError,
 };
 use connection_info::{Client, ConnectionInfo, ProtocolVersion, RedisConnectionInfo};
 use containers::{Bytes, Names};
@@ -24,7 +25,7 @@ enum Kind {
 }
 
 /// A client of a server that is told its protocol alone.
-fn client(alloc: Global, protocol: ProtocolVersion) -> Result<Client, AllocError> {
+pub(crate) fn client(alloc: Global, protocol: ProtocolVersion) -> Result<Client, AllocError> {
     let host = Bytes::from_slice(alloc, b"h")?;
     let redis = RedisConnectionInfo {
         db: 0,
@@ -209,13 +210,13 @@ enum Step {
 fn shows(
     alloc: Global,
     manager: &mut ConnectionManager,
-    news: ManagerNews<'_>,
+    news: ConnectionNews<'_>,
     names: &[&str],
 ) -> Result<bool, AllocError>
     requires { IsFitting manager.old (happened news) }
 {
     let mut acts = Vec::new(alloc);
-    match manager.step(alloc, ManagerEvent { word: 250, news }, &mut acts) {
+    match manager.step(alloc, ConnectionEvent { word: 250, news }, &mut acts) {
         Ok(()) => Ok(are(acts.as_slice(), names)),
         Err(_) => Err(AllocError),
     }
@@ -232,20 +233,20 @@ fn link_shows(
         What::Refused(link) => {
             let fault = FaultKind::Refused;
             let news = LinkNews::Refused { fault };
-            shows(alloc, manager, ManagerNews::Link { link, news }, names)
+            shows(alloc, manager, ConnectionNews::Link { link, news }, names)
         }
         What::Connected(link) => {
             let news = LinkNews::Connected;
-            shows(alloc, manager, ManagerNews::Link { link, news }, names)
+            shows(alloc, manager, ConnectionNews::Link { link, news }, names)
         }
         What::Came(link, piece) => {
             let news = LinkNews::Came { piece };
-            shows(alloc, manager, ManagerNews::Link { link, news }, names)
+            shows(alloc, manager, ConnectionNews::Link { link, news }, names)
         }
         What::Ended(link) => {
             let fault = LinkFault::Ended;
             let news = LinkNews::Failed { fault };
-            shows(alloc, manager, ManagerNews::Link { link, news }, names)
+            shows(alloc, manager, ConnectionNews::Link { link, news }, names)
         }
         _ => Ok(false),
     }
@@ -259,27 +260,27 @@ fn turn(
     names: &[&str],
 ) -> Result<bool, AllocError> {
     match what {
-        What::Nothing => shows(alloc, manager, ManagerNews::Silence, names),
+        What::Nothing => shows(alloc, manager, ConnectionNews::Silence, names),
         What::Late(number) => {
             let request = Pending { number };
-            shows(alloc, manager, ManagerNews::Late { request }, names)
+            shows(alloc, manager, ConnectionNews::Late { request }, names)
         }
         What::LateAgain(link) => {
             shows(
                 alloc,
                 manager,
-                ManagerNews::ResubscriptionLate { link },
+                ConnectionNews::ResubscriptionLate { link },
                 names,
             )
         }
         What::Rested(generation, attempt) => {
-            let news = ManagerNews::Rested {
+            let news = ConnectionNews::Rested {
                 generation,
                 attempt,
             };
             shows(alloc, manager, news, names)
         }
-        What::Shut => shows(alloc, manager, ManagerNews::Shut, names),
+        What::Shut => shows(alloc, manager, ConnectionNews::Shut, names),
         _ => link_shows(alloc, manager, what, names),
     }
 }

@@ -1,7 +1,10 @@
 pub mod Connection
 pub mod Shown
 pub mod Errors
+pub mod Events
 pub mod Calls
+pub mod Like
+pub mod LikeLaws
 pub mod Makers
 pub mod Managers
 pub mod Asked

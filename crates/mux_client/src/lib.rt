@@ -5,6 +5,7 @@
 mod act;
 mod connection;
 mod errors;
+mod event;
 mod examples;
 mod like;
 mod makers;
@@ -17,6 +18,7 @@ mod subscribing;
 pub use act::{ConnectionAct, ConnectionTimer};
 pub use connection::MultiplexedConnection;
 pub use errors::SendError;
+pub use event::{ConnectionEvent, ConnectionNews};
 pub use examples::{managers_behave_so_by_their_words, sessions_are_asked_with_these_words};
 pub use like::{Connect, ConnectionLike};
 pub use makers::ConnectionGetters;

@@ -1,4 +1,4 @@
-use Rattle.conn_manager.specs.Events.{happened}
+use Rattle.mux_client.specs.Events.{happened}
 use Rattle.conn_manager.proofs.Spent.{spends_pass, spends_behind, turned_by}
 use Rattle.conn_manager.proofs.manager.ConnectionManager.turn.Goals as goal
 
