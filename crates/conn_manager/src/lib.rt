@@ -28,3 +28,4 @@ pub use manager_generations::{Generations, ManagerAct, ManagerTimer, Phase, Sett
 pub use mux_client::{ConnectionEvent, ConnectionLike, ConnectionNews, ManagerGetters, SendError};
 pub use mux_conn::{ConnectionError, Pending};
 pub use request::{Call, HeldRequest, Stage};
+pub use transactions::{CallError, Calls, transaction};

@@ -2,12 +2,12 @@ ghost use Rattle.std.specs.Prelude.{◌≡◌, ◌++◌, ◌∷◌, [], map, OnO
 ghost use Rattle.transactions.specs.Calls.Made.{command, together};
 ghost use Rattle.manager_tests.specs.Scripted.{value_of, values_of, made_of};
 
+use conn_manager::{CallError, Calls};
 use containers::Bytes;
 use redis_error::RedisError;
 use resp_value::{ServerError, Value, Values};
 use resp_write::{Cmd, Pipeline};
 use std::alloc::{AllocError, Global};
-use transactions::{CallError, Calls};
 
 /// What a call is answered with.
 #[derive(Clone, Copy, PartialEq, Eq)]

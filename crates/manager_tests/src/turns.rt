@@ -1,10 +1,10 @@
 use crate::scripted::{Noted, Reply, Scripted};
+use conn_manager::{CallError, Calls, transaction};
 use containers::Names;
 use redis_error::{ConfigName, RedisError};
 use resp_value::Value;
 use resp_write::Pipeline;
 use std::alloc::{AllocError, Global};
-use transactions::{CallError, Calls, transaction};
 
 /// What the closure of a case does in each of its turns: it answers nothing, or it answers with a value, it fails, or it makes
 /// the call of its pipeline first and then answers so.
