@@ -1,4 +1,5 @@
 pub mod Words
 mod Calls
+mod Told
 pub mod Threads
 pub mod Managed

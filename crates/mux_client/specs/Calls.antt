@@ -1,5 +1,5 @@
 -- What each call makes of a connection.
-use Rattle.std.specs.Prelude.{◌≡◌, ◌⊎◌, ⊤, ◌≤◌, ℕ, ◌+◌, ◌^◌, ◌==◌, Bool, true, false, ◌||◌, List, [], ◌∷◌, ◌++◌, length, Option, Some, None, if◌then◌else◌}
+use Rattle.std.specs.Prelude.{◌≡◌, ◌⊎◌, ⊤, ◌≤◌, ℕ, ◌+◌, ◌^◌, Bool, true, false, ◌||◌, List, [], ◌∷◌, ◌++◌, length, Option, Some, None}
 use Rattle.resp_write.specs.Pack.{pack}
 use Rattle.resp_write.specs.Subscription.{action_word}
 use Rattle.resp_write.specs.declared.subscription.SubscriptionAction.{SubscriptionAction}

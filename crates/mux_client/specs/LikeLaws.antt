@@ -1,5 +1,5 @@
 -- Why the laws of `ConnectionLike` hold of a connection: proofs, and nothing to believe.
-use Rattle.std.specs.Prelude.{◌≡◌, ℕ, suc, ◌+◌, Bool, List, [], ◌∷◌, ◌++◌, length, Option, Some, None, slice_get}
+use Rattle.std.specs.Prelude.{◌≡◌, ℕ, zero, suc, ◌+◌, Bool, List, [], ◌∷◌, ◌++◌, length, Option, None, slice_get}
 use Rattle.std.proofs.Common.{refl}
 use Rattle.std.proofs.lemmas.List.{length-append, length-set}
 use Rattle.containers.proofs.Choices.{chosen}
@@ -17,9 +17,9 @@ numbers_rise c packed shape awaited = length-append c.core.requests _
 
 -- a place for an outcome is none
 pub place_added : (os : List (Option Outcome)) (p : ℕ) → if_placed (slice_get (os ++ None ∷ []) p) ≡ if_placed (slice_get os p)
-place_added [] 0 = refl
+place_added [] zero = refl
 place_added [] (suc p) = refl
-place_added (o ∷ os) 0 = refl
+place_added (o ∷ os) zero = refl
 place_added (o ∷ os) (suc p) = place_added os p
 
 -- and changes no outcome

@@ -2,6 +2,7 @@ ghost use Rattle.std.specs.Prelude.{◌≡◌, ◌⊎◌, ◌++◌, ◌<◌, ◌
 ghost use Rattle.std.specs.Prelude.{OnOk, OnErr, IfOk, IfErr, IsErrOf, IsTrue, ◌↔◌, option_copied};
 ghost use Rattle.resp_write.specs.Pack.{pack, pack_pipeline};
 ghost use Rattle.redis_error.specs.declared.redis_error.RedisError.{RedisError};
+ghost use Rattle.redis_error.specs.declared.redis_error.RedisError.TheVariants as fault;
 ghost use Rattle.driver_model.specs.Shape.{shape_inside};
 ghost use Rattle.driver_model.specs.declared.outcome.Outcome.{Outcome};
 ghost use Rattle.driver_model.specs.declared.outcome.Shape as shapes;
@@ -13,6 +14,7 @@ ghost use Rattle.mux_client.specs.Calls as calls;
 ghost use Rattle.mux_client.specs.Events.{Happening, happened};
 ghost use Rattle.mux_client.specs.Like as like;
 ghost use Rattle.mux_client.specs.declared.errors.SendError as send_errors;
+ghost use Rattle.mux_client.specs.declared.errors.SendError.TheVariants as send_error;
 
 use crate::act::ConnectionAct;
 use crate::connection::MultiplexedConnection;
@@ -141,7 +143,7 @@ pub trait ConnectionLike {
 
     /// Only a request without bytes is refused as such, and it as an empty command.
     ghost empty: { (c : Self) (packed : List ℕ) (shape : shapes.Shape) (awaited : Bool) (e : RedisError)
-        → Refuses c packed shape awaited (SendError.Refused e) → (e ≡ RedisError.EmptyCommand) × (packed ≡ []) };
+        → Refuses c packed shape awaited (send_error.Refused e) → (e ≡ fault.EmptyCommand) × (packed ≡ []) };
 
     /// That a caller has gone changes the outcome of nobody.
     ghost leaves: { (c : Self) (p q : ℕ) → outcome_of (cancelled c p) q ≡ outcome_of c q };
@@ -278,11 +280,9 @@ impl ConnectionLike for MultiplexedConnection {
         event: ConnectionEvent<'_>,
         out: &mut Vec<ConnectionAct>,
     ) -> Result<(), ConnectionError> {
-        if let ConnectionNews::Late { request } = event.news {
-            match self.time_out(alloc, request) {
-                Ok(()) => {}
-                Err(error) => return Err(error),
-            }
+        match self.time(alloc, event.news) {
+            Ok(()) => {}
+            Err(error) => return Err(error),
         }
         let news = event.news.seen_on(self.link);
         MultiplexedConnection::step(

@@ -6,6 +6,7 @@ ghost use Rattle.mux_conn.specs.Effects.{IsWithin};
 
 use crate::act::ConnectionAct;
 use crate::connection::MultiplexedConnection;
+use crate::event::ConnectionNews;
 use crate::showing::show_each;
 use driver_model::LinkEvent;
 use mux_conn::{ConnectionError, LinkAct, Pending};
@@ -13,6 +14,8 @@ use std::alloc::{AllocError, Global};
 
 impl MultiplexedConnection {
     ghost use Rattle.mux_client.specs.Calls.{late, stepped, acts_of, turn_of};
+    ghost use Rattle.mux_client.specs.Events.{happened};
+    ghost use Rattle.mux_client.specs.Like.{timed};
 
     /// One turn: its link's news has its effect, requests are moved as far as they can go, and `out` gains what is to be done,
     /// that of the sends before included. After an error `out` is as it was, the connection has failed, and each later call
@@ -76,6 +79,27 @@ impl MultiplexedConnection {
         match self.run_late(alloc, request) {
             Ok(()) => Ok(()),
             Err(_) => Err(self.refuse_memory()),
+        }
+    }
+
+    /// The time of a request is over, where that is told.
+    pub(crate) fn time(
+        &mut self,
+        alloc: Global,
+        news: ConnectionNews<'_>,
+    ) -> Result<(), ConnectionError>
+        ensures conn { OnOk result (self.new ≡ timed self.old (happened news.entry)) }
+        ensures sound { OnOk result (self.old.core.failure ≡ None) }
+        ensures fails { (e : ConnectionError) → IsErrOf result e → self.new.core.failure ≡ Some e }
+        ensures failed { (e : ConnectionError) → IsErrOf result e
+            → (self.old.core.failure ≡ Some e) ⊎ (e ≡ ConnectionError.NoMemory) }
+    {
+        if let Some(error) = self.core.failure {
+            return Err(error);
+        }
+        match news {
+            ConnectionNews::Late { request } => self.time_out(alloc, request),
+            _ => Ok(()),
         }
     }
 
