@@ -1,5 +1,5 @@
 mod Entries
-mod Calls
+mod SubscriptionCalls
 mod Resubscribing
 mod Walk
 mod Once

@@ -1,5 +1,5 @@
 -- Runs of managers, and what each of their turns shows.
-use Rattle.std.specs.Prelude.{ℕ, pos, true, false, List, [], ◌∷◌, ◌++◌, None, Some, codes}
+use Rattle.std.specs.Prelude.{ℕ, pos, true, List, [], ◌∷◌, None, Some, codes}
 use Rattle.std.proofs.Common.{lit<}
 use Rattle.resp_value.specs.Data.{bulk, int}
 use Rattle.resp_value.specs.declared.push_kind.PushKind.TheVariants.{Subscribe, Disconnection}
@@ -10,7 +10,6 @@ use Rattle.redis_error.specs.declared.redis_error.RedisError.TheVariants as erro
 use Rattle.connection_info.specs.Config.{default_config}
 use Rattle.connection_info.specs.declared.address.RedisConnectionInfo.{RedisConnectionInfo}
 use Rattle.connection_info.specs.declared.protocol.ProtocolVersion.{ProtocolVersion}
-use Rattle.connection_info.specs.declared.protocol.ProtocolVersion.TheVariants.{RESP2, RESP3}
 use Rattle.driver_model.specs.declared.news.LinkFault.TheVariants as fault
 use Rattle.driver_model.specs.News.{refused, connected, took, came, failed}
 use Rattle.manager_config.specs.Config.{default_manager}

@@ -1,5 +1,5 @@
 -- Calls of a manager one after another, and what its turns show.
-use Rattle.std.specs.Prelude.{ℕ, Bool, true, List, [], ◌∷◌, ◌++◌, None, Some}
+use Rattle.std.specs.Prelude.{ℕ, true, List, [], ◌∷◌, ◌++◌, None}
 use Rattle.resp_write.specs.Pack.{pack}
 use Rattle.resp_write.specs.declared.subscription.SubscriptionAction.{SubscriptionAction}
 use Rattle.driver_model.specs.declared.outcome.Shape.TheVariants.{Single}

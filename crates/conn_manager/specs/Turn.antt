@@ -1,5 +1,5 @@
 -- A whole turn of a manager: the effect of what happened, the next generation where a cause came, rounds and starts, writes and waits.
-use Rattle.std.specs.Prelude.{ℕ, ◌^◌, ◌==◌, nat_le, Bool, true, false, ◌&&◌, ◌||◌, List, [], ◌∷◌, ◌++◌, length, Option, None, Some, slice_get, slice_set, if◌then◌else◌}
+use Rattle.std.specs.Prelude.{ℕ, ◌==◌, Bool, false, ◌&&◌, List, [], ◌∷◌, length, Option, None, Some, slice_get, slice_set, if◌then◌else◌}
 use Rattle.resp_write.specs.Pack.{pack_pipeline}
 use Rattle.driver_model.specs.News.{News, shut}
 use Rattle.mux_conn.specs.declared.life.Life.{Life}

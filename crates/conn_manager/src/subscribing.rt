@@ -15,7 +15,7 @@ impl ConnectionManager {
     ghost use Rattle.conn_manager.specs.Calls.{next_number, called, RefusesCall};
 
     /// One command with all these names, which is to be confirmed.
-    #[tactic(auto, using(crate::proofs::Calls::refuses_call))]
+    #[tactic(auto, using(crate::proofs::SubscriptionCalls::refuses_call))]
     fn call(
         &mut self,
         alloc: Global,

@@ -1,5 +1,5 @@
 use Rattle.std.proofs.Common.{rules}
-use Rattle.conn_manager.proofs.Calls.{called_by}
+use Rattle.conn_manager.proofs.SubscriptionCalls.{called_by}
 use Rattle.conn_manager.proofs.manager.ConnectionManager.call.Goals as goal
 
 pub returns-clause-sent : goal.returns-clause-sent
