@@ -2,8 +2,11 @@ mod Entries
 mod SubscriptionCalls
 mod Resubscribing
 mod Walk
+mod Runs
 mod Once
+mod Handed
 mod Turns
 mod Spent
 mod Passed
+mod Waits
 pub mod Threads

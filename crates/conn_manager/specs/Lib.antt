@@ -9,4 +9,6 @@ pub mod Runs
 pub mod Rows
 pub mod Links
 pub mod Once
+pub mod Handed
 pub mod Turns
+pub mod Waits

@@ -19,8 +19,9 @@ mod subscribing;
 
 pub use examples::these_runs_show_this;
 pub use laws::{
-    a_request_is_answered_once, an_event_of_an_older_link_changes_nothing,
-    turns_move_generations_by_their_causes, what_is_subscribed_again_is_what_is_subscribed,
+    a_request_is_answered_once, a_request_is_handed_to_one_link,
+    an_event_of_an_older_link_changes_nothing, turns_move_generations_by_their_causes,
+    what_is_subscribed_again_is_what_is_subscribed, whoever_waits_was_told_for_what,
 };
 pub use manager::ConnectionManager;
 pub use manager_config::{ConnectionManagerConfig, backoff_ms};

@@ -1,0 +1,5 @@
+use Rattle.conn_manager.proofs.Handed.{handed_once}
+use Rattle.conn_manager.proofs.laws.a_request_is_handed_to_one_link.Goals as goal
+
+pub returns : goal.returns
+returns c = handed_once
