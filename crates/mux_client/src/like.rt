@@ -1,4 +1,4 @@
-ghost use Rattle.std.specs.Prelude.{◌≡◌, ◌⊎◌, ◌++◌, ◌<◌, ◌+◌, ◌^◌, ℕ, ℤ, Bool, List, Option, [], length, not, true, None, Some};
+ghost use Rattle.std.specs.Prelude.{◌≡◌, ◌≢◌, ◌⊎◌, ◌++◌, ◌<◌, ◌+◌, ◌^◌, ℕ, ℤ, Bool, List, Option, [], length, not, true, None, Some};
 ghost use Rattle.std.specs.Prelude.{OnOk, OnErr, IfOk, IfErr, IsErrOf, IsTrue, ◌↔◌, option_copied};
 ghost use Rattle.resp_write.specs.Pack.{pack, pack_pipeline};
 ghost use Rattle.redis_error.specs.declared.redis_error.RedisError.{RedisError};
@@ -64,18 +64,20 @@ pub trait ConnectionLike {
     /// Why each call of it fails, if it does.
     ghost failure_of: { Self → Option errors.ConnectionError };
 
-    /// Sends a command. A command marked with `set_no_response` has its outcome, `Nil`, once it has its place in the queue. The
-    /// next step shows what comes of it.
+    /// Sends a command. A command marked with `set_no_response` has its outcome, `Nil`, once it has its place in the queue.
+    /// `Refused` comes exactly where it has no arguments, not even a name. The next step shows what comes of it.
     fn req_packed_command(&mut self, alloc: Global, command: &Cmd) -> Result<Pending, SendError>
         ensures sent { OnOk result (
             self.new ≡ sent self.old (pack command.now.args) Shape.Single (not command.now.no_response)
             ) }
         ensures number { IfOk result (λ p. p.number ≡ next_number self.old) }
+        ensures sound { OnOk result (failure_of self.old ≡ None) }
+        ensures bytes { OnOk result (pack command.now.args ≢ []) }
         ensures err { IfErr result
             (Refuses self.old (pack command.now.args) Shape.Single (not command.now.no_response)) };
 
     /// Sends a pipeline as one message: the replies behind the first `offset` are kept, `count` of them, and at least one is
-    /// awaited. The next step shows what comes of it.
+    /// awaited. `Refused` comes exactly where it packs to no bytes. The next step shows what comes of it.
     fn req_packed_commands(
         &mut self,
         alloc: Global,
@@ -89,6 +91,8 @@ pub trait ConnectionLike {
             (Shape.Pipeline offset count pipeline.now.atomic) true
             ) }
         ensures number { IfOk result (λ p. p.number ≡ next_number self.old) }
+        ensures sound { OnOk result (failure_of self.old ≡ None) }
+        ensures bytes { OnOk result (pack_pipeline pipeline.now ≢ []) }
         ensures err { IfErr result
             (Refuses self.old (pack_pipeline pipeline.now)
             (Shape.Pipeline offset count pipeline.now.atomic) true) };
@@ -180,6 +184,8 @@ pub trait Connect: ConnectionLike<Act = ConnectionAct> + Sized {
             (shape_inside (length pipeline.now.commands))
             ) }
         ensures number { IfOk result (λ p. p.number ≡ calls.next_number (seen self.old)) }
+        ensures sound { OnOk result ((seen self.old).core.failure ≡ None) }
+        ensures bytes { OnOk result (pack_pipeline pipeline.now ≢ []) }
         ensures err { IfErr result (calls.RefusesSend (seen self.old) (pack_pipeline pipeline.now)) };
 
     /// Its next request has the number of the connection's.
