@@ -68,7 +68,7 @@ handing = record {
     answers = answers;
     hands = hands;
   };
-  same = λ m n stages outcomes. alike m n stages;
+  same = λ m n stages outcomes links. alike m n stages;
   enters = λ m call. record { rests = λ p s there out. inl (stays m.stages p s there) };
   closes = λ m p there. closes m _ p refl;
 }

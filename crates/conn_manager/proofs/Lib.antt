@@ -1,10 +1,13 @@
 mod Entries
 mod SubscriptionCalls
 mod Resubscribing
+mod Links
 mod Walk
 mod Runs
 mod Once
 mod Handed
+mod Numbers
+mod Last
 mod Turns
 mod Spent
 mod Passed

@@ -119,7 +119,7 @@ closing_keeps m p there = record {
 
 -- and whatever is called
 each_step : Steps Keeps
-each_step = record { walk = keeping; same = alike; enters = entered_keeps; closes = closing_keeps }
+each_step = record { walk = keeping; same = λ m n stages outcomes links. alike m n stages outcomes; enters = entered_keeps; closes = closing_keeps }
 
 pub answered_once : AnsweredOnce
 answered_once = goes_through each_step

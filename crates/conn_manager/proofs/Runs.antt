@@ -1,5 +1,5 @@
 -- One walk over a run: what each single change keeps, whatever is called and whatever happens keeps.
-use Rattle.std.proofs.Common.{◌≡◌, ℕ, Bool, true, List, [], ◌∷◌, ◌++◌, length, Option, None, Some, slice_get, slice_set, refl}
+use Rattle.std.proofs.Common.{◌≡◌, ℕ, Bool, true, List, [], ◌∷◌, ◌++◌, length, Option, None, Some, slice_get, slice_set, refl, arith}
 use Rattle.containers.proofs.Choices.{chosen}
 use Rattle.redis_error.specs.declared.redis_error.RedisError.{RedisError}
 use Rattle.redis_error.specs.declared.redis_error.RedisError.TheVariants as error
@@ -19,13 +19,14 @@ use Rattle.conn_manager.specs.Manager.{is_current, is_open_at, is_held_at, answe
 use Rattle.conn_manager.specs.Once.{after_each}
 use Rattle.conn_manager.specs.Runs.{Step, sends, calls, leaves, turns, after}
 use Rattle.conn_manager.specs.Turn.{applied, succeeded, resubscription_begun, settled, passed, flushed, stepped}
+use Rattle.conn_manager.proofs.Links.{Adds, begun_adds}
 use Rattle.conn_manager.proofs.Walk.{Walks, answers_one, applies, answers_loss, subscribes_again, passes_on, flushes}
 
--- A relation of a manager and what becomes of it, which a turn keeps, and also the calls between turns. It speaks of requests and their
--- outcomes alone.
+-- A relation of a manager and what becomes of it, which a turn keeps, and also the calls between turns. It speaks of requests, their
+-- outcomes and the number of links alone.
 pub record Steps (R : ConnectionManager → ConnectionManager → Type 0) : Type 0 where
   pub walk : Walks R
-  pub same : (m n : ConnectionManager) → n.stages ≡ m.stages → n.outcomes ≡ m.outcomes → R m n
+  pub same : (m n : ConnectionManager) → n.stages ≡ m.stages → n.outcomes ≡ m.outcomes → Adds m.generations n.generations → R m n
   pub enters : (m : ConnectionManager) (call : Option Call) → R m (entered m call)
   pub closes : (m : ConnectionManager) (p : ℕ) → is_open_at m.stages p ≡ true → R m (record m { stages = slice_set m.stages p stage.Closed })
 
@@ -41,7 +42,7 @@ module _ {R : ConnectionManager → ConnectionManager → Type 0} (steps : Steps
   itself = steps.walk.itself
 
   succeeds : (m : ConnectionManager) → R m (succeeded m)
-  succeeds m = chosen (R m) (begins_next m.generations) _ _ (λ _. steps.same m _ refl refl) (λ _. itself m)
+  succeeds m = chosen (R m) (begins_next m.generations) _ _ (λ _. steps.same m _ refl refl (begun_adds m.generations)) (λ _. itself m)
 
   settles : (m : ConnectionManager) → R m (settled m)
   settles m =
@@ -59,7 +60,7 @@ module _ {R : ConnectionManager → ConnectionManager → Type 0} (steps : Steps
       onward m first (stepped m draw what) (applies steps.walk m draw what)
       (onward first second (stepped m draw what) (settles first)
       (onward second third (stepped m draw what) (passes_on steps.walk second draw)
-      (onward third fourth (stepped m draw what) (flushes steps.walk third draw) (steps.same fourth _ refl refl))))
+      (onward third fourth (stepped m draw what) (flushes steps.walk third draw) (steps.same fourth _ refl refl (omega arith)))))
 
   -- a request is answered as it comes
   answers_at_once : (m : ConnectionManager) (q : HeldRequest) (e : RedisError) → R m (answered_at_once m q e)
@@ -68,10 +69,10 @@ module _ {R : ConnectionManager → ConnectionManager → Type 0} (steps : Steps
       onward m next (succeeded next) (answers_one steps.walk m q.number (outcome.Fault e)) (succeeds next)
 
   places : (m : ConnectionManager) (q : HeldRequest) (p : Phase) → is_held_at m.stages q.number ≡ true → R m (placed_at m q p)
-  places m q Idle there = steps.same m (placed_at m q Idle) refl refl
-  places m q Opening there = steps.same m (placed_at m q Opening) refl refl
-  places m q Resting there = steps.same m (placed_at m q Resting) refl refl
-  places m q Resubscribing there = steps.same m (placed_at m q Resubscribing) refl refl
+  places m q Idle there = steps.same m (placed_at m q Idle) refl refl (begun_adds m.generations)
+  places m q Opening there = steps.same m (placed_at m q Opening) refl refl (omega arith)
+  places m q Resting there = steps.same m (placed_at m q Resting) refl refl (omega arith)
+  places m q Resubscribing there = steps.same m (placed_at m q Resubscribing) refl refl (omega arith)
   places m q Ready there = steps.walk.hands m q there
   places m q Lost there = answers_at_once m q error.Closed
   places m q (Failed e) there = answers_at_once m q e
@@ -86,7 +87,7 @@ module _ {R : ConnectionManager → ConnectionManager → Type 0} (steps : Steps
   leaves_at : (m : ConnectionManager) (s : Option Stage) → R m (left_at m s)
   leaves_at m None = itself m
   leaves_at m (Some stage.Held) = itself m
-  leaves_at m (Some (stage.Sent link number)) = chosen (R m) (is_current m.generations link) _ _ (λ _. steps.same m _ refl refl) (λ _. itself m)
+  leaves_at m (Some (stage.Sent link number)) = chosen (R m) (is_current m.generations link) _ _ (λ _. steps.same m _ refl refl (omega arith)) (λ _. itself m)
   leaves_at m (Some stage.Closed) = itself m
 
   cancels : (m : ConnectionManager) (p : ℕ) → R m (cancelled m p)

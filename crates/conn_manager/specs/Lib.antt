@@ -10,5 +10,6 @@ pub mod Rows
 pub mod Links
 pub mod Once
 pub mod Handed
+pub mod Numbers
 pub mod Turns
 pub mod Waits

@@ -1,7 +1,8 @@
 ghost use Rattle.conn_manager.specs.Links.{OldLinksAreSilent, OldTimersAreSilent, SubscribesWhatIsSubscribed};
 ghost use Rattle.conn_manager.specs.Links.{ConfirmedCallsAreTracked, FailedCallsAreNotTracked};
 ghost use Rattle.conn_manager.specs.Once.{AnsweredOnce};
-ghost use Rattle.conn_manager.specs.Handed.{HandedOnce};
+ghost use Rattle.conn_manager.specs.Handed.{HandedOnce, HandedToTheLast};
+ghost use Rattle.conn_manager.specs.Numbers.{GivesTheNext, NumbersRise};
 ghost use Rattle.conn_manager.specs.Turns.{TurnsMoveGenerations, PassesBeginNone};
 ghost use Rattle.conn_manager.specs.Waits.{WaitsAreTold};
 
@@ -26,10 +27,18 @@ pub fn a_request_is_answered_once()
     ensures { AnsweredOnce }
 {}
 
-/// Does nothing. Its contract: whatever is called and whatever happens, a request is handed to one link, and never to a later
-/// one.
+/// Does nothing. Its contract: whatever is called and whatever happens, a request is handed to one link, and to no later one; and
+/// that is the link that was asked for last, when it is handed on.
 pub fn a_request_is_handed_to_one_link()
-    ensures { HandedOnce }
+    ensures once { HandedOnce }
+    ensures last { HandedToTheLast }
+{}
+
+/// Does nothing. Its contract: each send gives its request the next number, and no number is given again, whatever is called and
+/// whatever happens.
+pub fn a_number_is_given_to_one_request()
+    ensures next { GivesTheNext }
+    ensures rise { NumbersRise }
 {}
 
 /// Does nothing. Its contract: each turn of a manager is a turn of its generations, so that what

@@ -19,7 +19,7 @@ mod subscribing;
 
 pub use examples::these_runs_show_this;
 pub use laws::{
-    a_request_is_answered_once, a_request_is_handed_to_one_link,
+    a_number_is_given_to_one_request, a_request_is_answered_once, a_request_is_handed_to_one_link,
     an_event_of_an_older_link_changes_nothing, turns_move_generations_by_their_causes,
     what_is_subscribed_again_is_what_is_subscribed, whoever_waits_was_told_for_what,
 };
