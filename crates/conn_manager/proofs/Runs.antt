@@ -97,7 +97,7 @@ module _ {R : ConnectionManager → ConnectionManager → Type 0} (steps : Steps
       (λ there. onward m next (left_at next (slice_get m.stages p)) (steps.closes m p there) (leaves_at next (slice_get m.stages p))) (λ _. itself m)
 
   goes_on : (m : ConnectionManager) (s : Step) → R m (after m s)
-  goes_on m (sends args) = sends_one m _ _ _ _
+  goes_on m (sends packed shape awaited) = sends_one m packed shape awaited None
   goes_on m (calls what names) = sends_one m _ _ _ _
   goes_on m (leaves p) = cancels m p
   goes_on m (turns draw what) = turns_once m draw what

@@ -11,6 +11,7 @@ use Rattle.connection_info.specs.Config.{default_config}
 use Rattle.connection_info.specs.declared.address.RedisConnectionInfo.{RedisConnectionInfo}
 use Rattle.connection_info.specs.declared.protocol.ProtocolVersion.{ProtocolVersion}
 use Rattle.driver_model.specs.declared.news.LinkFault.TheVariants as fault
+use Rattle.driver_model.specs.declared.outcome.Shape.TheVariants.{Single}
 use Rattle.driver_model.specs.News.{refused, connected, took, came, failed}
 use Rattle.manager_config.specs.Config.{default_manager}
 use Rattle.manager_generations.specs.declared.act.ManagerAct.{ManagerAct}
@@ -33,8 +34,16 @@ trying retries = record {
   divides = lit< tt;
 }
 
+-- GET of this key
+abbrev pub get : List ℕ → List ℕ
+get key = pack (codes "GET" ∷ key ∷ [])
+
+-- it is sent
+abbrev pub asks_for : List ℕ → Step
+asks_for key = sends (get key) Single true
+
 abbrev pub get_a : Step
-get_a = sends (codes "GET" ∷ codes "a" ∷ [])
+get_a = asks_for (codes "a")
 
 abbrev pub refusal : ℕ → Step
 refusal link = turns 0 (on_link link (refused Refused))
@@ -71,15 +80,12 @@ subscribing = record {
   divides = lit< tt;
 }
 
--- HELLO 3, SUBSCRIBE c, and GET of a name of one letter
+-- HELLO 3, and SUBSCRIBE c
 abbrev pub hello : List ℕ
 hello = pack (codes "HELLO" ∷ codes "3" ∷ [])
 
 abbrev pub subscribe_c : List ℕ
 subscribe_c = pack (codes "SUBSCRIBE" ∷ codes "c" ∷ [])
-
-abbrev pub get : List ℕ → List ℕ
-get key = pack (codes "GET" ∷ key ∷ [])
 
 -- the confirmation of SUBSCRIBE c
 abbrev pub confirmation : List ℕ
@@ -97,12 +103,12 @@ subscribing_steps =
     ∷ turns 0 nothing
     ∷ turns 0 (on_link 0 (took 26))
     ∷ turns 0 (on_link 0 (came confirmation))
-    ∷ sends (codes "GET" ∷ codes "a" ∷ [])
+    ∷ get_a
     ∷ turns 0 nothing
-    ∷ sends (codes "GET" ∷ codes "b" ∷ [])
+    ∷ asks_for (codes "b")
     ∷ turns 0 nothing
     ∷ turns 0 (on_link 0 (failed fault.Ended))
-    ∷ sends (codes "GET" ∷ codes "d" ∷ [])
+    ∷ asks_for (codes "d")
     ∷ turns 0 nothing
     ∷ turns 0 (on_link 1 connected)
     ∷ turns 0 (on_link 1 (came (codes "%0\r\n")))
