@@ -1,11 +1,27 @@
 #!/usr/bin/env bash
 # Builds the proved program where it is missing or older than the crates that it stands on, and runs it with the given
 # arguments. What it proves, and how far it is, it says on standard error.
+#
+#   session_tool.sh WORD ..                 the proved program
+#   session_tool.sh --first-look WORD ..    the same program within a minute or two, compiled without any proof
 set -eu
 top=$(cd "$(dirname "$0")" && pwd)
 name=session_tool
-out=$top/crates/$name/out
+folder=$top/crates/$name
+out=$folder/out
 program=$out/$name
+# What a build from nothing leaves on the disk, and what one check takes of memory at most, in megabytes.
+disk=6000
+memory=3000
+
+say() {
+  echo "session_tool.sh: $*" >&2
+}
+
+stop() {
+  say "$*"
+  exit 70
+}
 
 # The lines of crates.txt for a crate and all that it stands on, the lowest first.
 lines_below() {
@@ -42,39 +58,75 @@ is_old() {
   [ -n "$(find "${folders[@]}" -newer "$program" -type f -print -quit 2>/dev/null)" ]
 }
 
-say() {
-  echo "session_tool.sh: $*" >&2
+# How many crates are checked side by side: as many as there are processors and memory for.
+lanes() {
+  local free number
+  free=$(awk '/^MemAvailable:/ { print int($2 / 1024) }' /proc/meminfo)
+  number=$((free / memory))
+  [ "$number" -le "$(nproc)" ] || number=$(nproc)
+  [ "$number" -ge 1 ] || number=1
+  echo "$number"
 }
 
-# One step in a crate's folder; what it wrote is shown only where it fails.
-prove() {
-  local crate=$1 log
-  shift
-  log=$(mktemp)
-  if ! (cd "$top/crates/$crate" && "$@") </dev/null >"$log" 2>&1; then
-    cat "$log" >&2
-    rm -f "$log"
-    say "the program was not built: $crate is not proved"
-    exit 70
-  fi
-  rm -f "$log"
+# Refuses what can't end well.
+look_first() {
+  local free
+  command -v rt >/dev/null || stop "rt, the command of the Rattle kit, is not on the path"
+  free=$(df -Pm "$top" | awk 'NR == 2 { print $4 }')
+  [ "$free" -ge "$disk" ] || [ -d "$out" ] || stop "a build takes ${disk} MB of disk, and $free are free"
 }
 
-if is_old; then
-  say "proving ${#crates[@]} crates, from nothing in about 20 minutes on four processors; what is proved already takes seconds"
-  for i in "${!crates[@]}"; do
-    say "crate $((i + 1)) of ${#crates[@]}: ${crates[i]}"
-    if [ "${crates[i]}" = "$name" ]; then
-      prove "$name" rt run -- --version
-    else
-      prove "${crates[i]}" rt lib
-    fi
+# Shows each crate as its check ends.
+show_progress() {
+  local line done=0
+  while IFS= read -r line; do
+    case $line in
+      "== summary") break ;;
+      "== "*)
+        done=$((done + 1))
+        say "$done of ${#crates[@]} proved: ${line#== } (${SECONDS} s)"
+        ;;
+    esac
   done
-  if [ ! -x "$program" ]; then
-    say "the program was not built"
-    exit 70
+  cat >/dev/null
+}
+
+# Proves what the program stands on, crates that don't stand on each other side by side, and then builds it.
+build() {
+  local log=$out/build.log
+  mkdir -p "$out"
+  say "proving ${#crates[@]} crates, $(lanes) at a time; what is proved already takes seconds"
+  if ! (cd "$folder" && rt all check --jobs "$(lanes)") </dev/null 2>&1 | tee "$log" | show_progress; then
+    cat "$log" >&2
+    stop "the program was not built, since not all of it is proved: $log"
   fi
+  (cd "$folder" && rt run -- --version) </dev/null >"$log" 2>&1 || { cat "$log" >&2; stop "the program was not built"; }
+  [ -x "$program" ] || stop "the program was not built"
   printf '%s\n' "$lines" >"$out/$name.crates"
   touch "$program"
+  say "proved and built in $SECONDS s"
+}
+
+# Runs the program as it comes out of the compiler, without any proof.
+first_look() {
+  local status=0 log
+  command -v rt >/dev/null || stop "rt, the command of the Rattle kit, is not on the path"
+  log=$(mktemp)
+  say "compiling without any proof"
+  (cd "$folder" && rt try -- "$@") 2>"$log" || status=$?
+  [ "$status" -eq 0 ] || cat "$log" >&2
+  rm -f "$log"
+  say "a first look, in $SECONDS s: NOTHING OF IT WAS PROVED"
+  exit "$status"
+}
+
+set -o pipefail
+if [ "${1:-}" = --first-look ]; then
+  shift
+  first_look "$@"
+fi
+if is_old; then
+  look_first
+  build
 fi
 exec "$program" "$@"
