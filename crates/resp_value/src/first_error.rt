@@ -89,10 +89,16 @@ fn into_error(value: Value) -> Option<ServerError>
         Value::Push { kind: _, parts } => error_among(parts),
         Value::Map(pairs) => error_in_pairs(pairs),
         Value::Attribute { inner, attributes } => match into_error(inner.into_value()) {
-            Some(error) => Some(error),
+            Some(error) => {
+                drop(attributes);
+                Some(error)
+            }
             None => error_in_pairs(attributes),
         },
-        _ => None,
+        _ => {
+            drop(value);
+            None
+        }
     }
 }
 
@@ -118,6 +124,7 @@ fn error_in_pairs(pairs: Pairs) -> Option<ServerError>
     let mut rest = Queue::from_vec(pairs.into_vec());
     while let Some((key, value)) = rest.pop_front() {
         if let Some(error) = into_error(key) {
+            drop(value);
             return Some(error);
         }
         if let Some(error) = into_error(value) {

@@ -1,4 +1,5 @@
-ghost use Rattle.std.specs.Prelude.{◌≡◌, IfOk};
+ghost use Rattle.std.specs.Prelude.{◌≡◌, IfOk, Some, None, codes, bytes_eq, if◌then◌else◌};
+ghost use Rattle.resp_value.specs.declared.push_kind.PushKind.TheVariants.{Unsubscribe, PUnsubscribe, SUnsubscribe, Subscribe, PSubscribe, SSubscribe};
 ghost use Rattle.resp_value.specs.Kinds.{named_kind, kind_of, kind_text, has_reply};
 
 use containers::Bytes;
@@ -109,6 +110,20 @@ fn named(text: &[u8]) -> Option<PushKind>
     if text == b"smessage".as_slice() {
         return Some(PushKind::SMessage);
     }
+    named_confirmation(text)
+}
+
+/// The kind of a push that is also a reply, if it has this text for its own.
+fn named_confirmation(text: &[u8]) -> Option<PushKind>
+    ensures { result ≡
+        (if bytes_eq text.now (codes "unsubscribe") then Some Unsubscribe
+        else if bytes_eq text.now (codes "punsubscribe") then Some PUnsubscribe
+        else if bytes_eq text.now (codes "sunsubscribe") then Some SUnsubscribe
+        else if bytes_eq text.now (codes "subscribe") then Some Subscribe
+        else if bytes_eq text.now (codes "psubscribe") then Some PSubscribe
+        else if bytes_eq text.now (codes "ssubscribe") then Some SSubscribe
+        else None) }
+{
     if text == b"unsubscribe".as_slice() {
         return Some(PushKind::Unsubscribe);
     }

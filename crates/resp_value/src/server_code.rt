@@ -1,5 +1,6 @@
-ghost use Rattle.std.specs.Prelude.{◌≡◌};
-ghost use Rattle.resp_value.specs.ErrorTable.{kind_of, method_of};
+ghost use Rattle.std.specs.Prelude.{◌≡◌, drop};
+ghost use Rattle.resp_value.specs.ErrorTable.{kind_of, method_of, by_code, kinds};
+ghost use Rattle.resp_value.specs.declared.error_kind.ServerErrorKind.TheVariants.{Other};
 
 use crate::error_kind::ServerErrorKind;
 use crate::retry_method::RetryMethod;
@@ -30,6 +31,14 @@ pub fn kind(code: &[u8]) -> ServerErrorKind
     if code == b"TRYAGAIN".as_slice() {
         return ServerErrorKind::TryAgain;
     }
+    kind_behind(code)
+}
+
+/// The kind of a code that none of the first seven rows of the table has.
+#[tactic(auto, unfolding(crate::specs::ErrorTable::kind_of))]
+fn kind_behind(code: &[u8]) -> ServerErrorKind
+    ensures { result ≡ by_code (drop 7 kinds) Other code.now }
+{
     if code == b"CLUSTERDOWN".as_slice() {
         return ServerErrorKind::ClusterDown;
     }

@@ -1,4 +1,5 @@
 use crate::value::{Pairs, Value, Values};
+use containers::Bytes;
 use std::fmt;
 
 impl fmt::Debug for Value {
@@ -9,64 +10,85 @@ impl fmt::Debug for Value {
 
 impl fmt::Debug for Values {
     fn fmt<W: fmt::Write>(&self, f: &mut fmt::Formatter<W>) -> fmt::Result {
-        write!(f, "[")?;
+        f.write_str("[")?;
         show_items(f, self)?;
-        write!(f, "]")
+        f.write_str("]")
     }
 }
 
 impl fmt::Debug for Pairs {
     fn fmt<W: fmt::Write>(&self, f: &mut fmt::Formatter<W>) -> fmt::Result {
-        write!(f, "{{")?;
+        f.write_str("{")?;
         show_members(f, self)?;
-        write!(f, "}}")
+        f.write_str("}")
     }
 }
 
 /// Shows a value as a programmer sees it.
 #[cycle(shown)]
 fn show<W: fmt::Write>(f: &mut fmt::Formatter<W>, value: &Value) -> fmt::Result {
+    show_front(f, value)?;
     match value {
-        Value::Nil => write!(f, "nil"),
-        Value::Int(number) => write!(f, "int({number})"),
-        Value::BulkString(text) => write!(f, "bulk-string({text:?})"),
-        Value::Array(items) => show_list(f, "array", items),
-        Value::SimpleString(text) => write!(f, "simple-string({text:?})"),
-        Value::Okay => write!(f, "ok"),
-        Value::Map(pairs) => {
-            write!(f, "map(")?;
-            show_members(f, pairs)?;
-            write!(f, ")")
-        }
+        Value::Array(items) => show_items(f, items)?,
+        Value::Map(pairs) => show_members(f, pairs)?,
         Value::Attribute { inner, attributes } => {
-            write!(f, "attribute(")?;
             show(f, inner.get())?;
-            write!(f, "; ")?;
+            f.write_str("; ")?;
             show_members(f, attributes)?;
-            write!(f, ")")
         }
-        Value::Set(items) => show_list(f, "set", items),
-        Value::Double(text) => write!(f, "double({})", text.as_slice().escape_ascii()),
-        Value::Boolean(on) => write!(f, "boolean({on})"),
-        Value::VerbatimString { format, text } => {
-            write!(f, "verbatim-string({format:?}, {text:?})")
-        }
-        Value::BigNumber(text) => write!(f, "big-number({})", text.as_slice().escape_ascii()),
-        Value::Push { kind, parts } => {
-            write!(f, "push({kind:?}; ")?;
-            show_items(f, parts)?;
-            write!(f, ")")
-        }
-        Value::ServerError(error) => write!(f, "{error:?}"),
+        Value::Set(items) => show_items(f, items)?,
+        Value::Push { kind: _, parts } => show_items(f, parts)?,
+        _ => return Ok(()),
+    }
+    f.write_str(")")
+}
+
+/// Shows all of a value that holds no other, and of another what stands before those that it holds.
+fn show_front<W: fmt::Write>(f: &mut fmt::Formatter<W>, value: &Value) -> fmt::Result {
+    match value {
+        Value::Nil => f.write_str("nil"),
+        Value::Array(_) => f.write_str("array("),
+        Value::Okay => f.write_str("ok"),
+        Value::Map(_) => f.write_str("map("),
+        Value::Attribute { .. } => f.write_str("attribute("),
+        Value::Set(_) => f.write_str("set("),
+        Value::Push { kind, parts: _ } => write!(f, "push({kind:?}; "),
+        _ => show_single(f, value),
     }
 }
 
-/// Shows the values of a list behind the list's name.
-#[cycle(shown)]
-fn show_list<W: fmt::Write>(f: &mut fmt::Formatter<W>, name: &str, values: &Values) -> fmt::Result {
-    write!(f, "{name}(")?;
-    show_items(f, values)?;
-    write!(f, ")")
+/// Shows a number, a text, a truth or an error, and of another value nothing.
+fn show_single<W: fmt::Write>(f: &mut fmt::Formatter<W>, value: &Value) -> fmt::Result {
+    match value {
+        Value::Int(number) => write!(f, "int({number})"),
+        Value::BulkString(text) => show_text(f, "bulk-string", text),
+        Value::SimpleString(text) => show_text(f, "simple-string", text),
+        Value::Double(text) => show_numeral(f, "double", text),
+        Value::Boolean(on) => write!(f, "boolean({on})"),
+        Value::VerbatimString { format, text } => show_verbatim(f, format, text),
+        Value::BigNumber(text) => show_numeral(f, "big-number", text),
+        Value::ServerError(error) => fmt::Debug::fmt(error, f),
+        _ => Ok(()),
+    }
+}
+
+/// Shows a text, in quotes, behind the name of its form.
+fn show_text<W: fmt::Write>(f: &mut fmt::Formatter<W>, name: &str, text: &Bytes) -> fmt::Result {
+    write!(f, "{name}({text:?})")
+}
+
+/// Shows a number that stands as a text, without quotes, behind the name of its form.
+fn show_numeral<W: fmt::Write>(f: &mut fmt::Formatter<W>, name: &str, text: &Bytes) -> fmt::Result {
+    write!(f, "{name}({})", text.as_slice().escape_ascii())
+}
+
+/// Shows a text with its format.
+fn show_verbatim<W: fmt::Write>(
+    f: &mut fmt::Formatter<W>,
+    format: &Bytes,
+    text: &Bytes,
+) -> fmt::Result {
+    write!(f, "verbatim-string({format:?}, {text:?})")
 }
 
 /// Shows values, separated by commas.
@@ -74,7 +96,7 @@ fn show_list<W: fmt::Write>(f: &mut fmt::Formatter<W>, name: &str, values: &Valu
 fn show_items<W: fmt::Write>(f: &mut fmt::Formatter<W>, values: &Values) -> fmt::Result {
     for (index, value) in values.as_slice().iter().enumerate() {
         if index > 0 {
-            write!(f, ", ")?;
+            f.write_str(", ")?;
         }
         show(f, value)?;
     }
@@ -86,7 +108,7 @@ fn show_items<W: fmt::Write>(f: &mut fmt::Formatter<W>, values: &Values) -> fmt:
 fn show_members<W: fmt::Write>(f: &mut fmt::Formatter<W>, pairs: &Pairs) -> fmt::Result {
     for (index, pair) in pairs.as_slice().iter().enumerate() {
         if index > 0 {
-            write!(f, ", ")?;
+            f.write_str(", ")?;
         }
         show_pair(f, &pair.0, &pair.1)?;
     }
@@ -97,6 +119,6 @@ fn show_members<W: fmt::Write>(f: &mut fmt::Formatter<W>, pairs: &Pairs) -> fmt:
 #[cycle(shown)]
 fn show_pair<W: fmt::Write>(f: &mut fmt::Formatter<W>, key: &Value, value: &Value) -> fmt::Result {
     show(f, key)?;
-    write!(f, ": ")?;
+    f.write_str(": ")?;
     show(f, value)
 }

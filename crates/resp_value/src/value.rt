@@ -257,8 +257,13 @@ impl Pairs {
         let mut copies = Pairs::new(alloc);
         for item in &self.items {
             let key = item.0.clone(alloc)?;
-            let value = item.1.clone(alloc)?;
-            copies.push(key, value)?;
+            match item.1.clone(alloc) {
+                Ok(value) => copies.push(key, value)?,
+                Err(error) => {
+                    drop(key);
+                    return Err(error);
+                }
+            }
         }
         Ok(copies)
     }

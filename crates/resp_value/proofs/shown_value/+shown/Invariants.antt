@@ -3,12 +3,9 @@ use Rattle.resp_value.specs.Data.{weight, list_weight, pairs_weight}
 use Rattle.resp_value.specs.View.{data_of, list_view, pairs_view}
 use Rattle.resp_value.proofs.shown_value.+shown.Given as goal
 
--- twice the nodes, and one more behind the name of a list
+-- twice the nodes
 abbrev pub decreases-show : goal.decreases-show
 decreases-show g l = weight (data_of l.value.now) + weight (data_of l.value.now)
-
-abbrev pub decreases-show_list : goal.decreases-show_list
-decreases-show_list g l = suc (list_weight l.values.now + list_weight l.values.now)
 
 abbrev pub decreases-show_items : goal.decreases-show_items
 decreases-show_items g l = list_weight l.values.now + list_weight l.values.now
