@@ -19,57 +19,102 @@ pub type RouteNumbers = Seq<u32>;
 #[derive(Drop, Error)]
 pub enum RedisError {
     /// The configuration is refused, for what it says of `name`.
-    #[error("the configuration is refused: {}", .name.name())]
     Config { name: ConfigName },
     /// Automatic resubscription was asked for without a push sender.
-    #[error("automatic resubscription needs a push sender")]
     Client,
     /// A subscription call on a connection of RESP2.
-    #[error("subscriptions need RESP3")]
     Resp3Required,
     /// The request packs to no bytes.
-    #[error("the request has no command")]
     EmptyCommand,
     /// The link ended before the reply was whole, or had ended before.
-    #[error("the connection is closed")]
     Closed,
     /// The link failed while this request rested on it, or a timer fired first.
-    #[error("{}", Fault(*.fault))]
     Io { fault: FaultKind },
     /// No initial node could be reached; `last` is the error of the last try.
-    #[error("no initial node could be reached: {}", .last.as_slice().escape_ascii())]
     CreateFailed { last: Bytes },
     /// The link ended by bytes that begin no value while this request was the oldest one that awaited an item,
     /// or the reply with the slots that it rests on has another shape.
-    #[error("the reply can not be read")]
     Parse,
     /// This value isn't of the type that is wanted.
-    #[error("the value is of another type: {value:?}")]
     Convert { value: Value },
     /// No link serves the request.
-    #[error("no link serves the request")]
     NotFound,
     /// The server's own error.
-    #[error(transparent)]
     Server(ServerError),
     /// The server refused commands of a transaction, and so all of it.
-    #[error("the transaction is aborted{}", FirstRefusal(.errors))]
     Aborted { errors: Aborts },
     /// The server refused the credentials, or their source ended before there were any.
-    #[error("authentication failed: {}", .text.as_slice().escape_ascii())]
     AuthFailed { text: Bytes },
     /// The source of credentials gave this error before there were any.
-    #[error("there are no credentials: {}", .text.as_slice().escape_ascii())]
     Credentials { text: Bytes },
     /// Two commands of a pipeline go to these different slots.
-    #[error("the pipeline has the slots {first} and {second}")]
     CrossSlot { first: u16, second: u16 },
     /// These routes of the request have no link, while others have one.
-    #[error("{} routes have no link", .routes.len())]
     RouteWithoutLink { routes: RouteNumbers },
     /// A transaction had no answer in as many turns as were allowed.
-    #[error("the transaction had no answer in {turns} turns")]
     TurnsSpent { turns: u32 },
+}
+
+/// What the error says.
+impl fmt::Display for RedisError {
+    fn fmt<W: fmt::Write>(&self, f: &mut fmt::Formatter<W>) -> fmt::Result {
+        match self {
+            RedisError::Client => f.write_str("automatic resubscription needs a push sender"),
+            RedisError::Resp3Required => f.write_str("subscriptions need RESP3"),
+            RedisError::EmptyCommand => f.write_str("the request has no command"),
+            RedisError::Closed => f.write_str("the connection is closed"),
+            RedisError::Io { fault } => fmt::Display::fmt(&Fault(*fault), f),
+            RedisError::Parse => f.write_str("the reply can not be read"),
+            RedisError::NotFound => f.write_str("no link serves the request"),
+            RedisError::Server(error) => fmt::Display::fmt(error, f),
+            _ => show_refused(f, self),
+        }
+    }
+}
+
+/// A text from outside, behind what it is about.
+fn show_text<W: fmt::Write>(f: &mut fmt::Formatter<W>, about: &str, text: &Bytes) -> fmt::Result {
+    write!(f, "{about}: {}", text.as_slice().escape_ascii())
+}
+
+/// What an error says that names what is refused.
+fn show_refused<W: fmt::Write>(f: &mut fmt::Formatter<W>, error: &RedisError) -> fmt::Result {
+    match error {
+        RedisError::Config { name } => {
+            write!(f, "the configuration is refused: {}", name.name())
+        }
+        RedisError::Convert { value } => write!(f, "the value is of another type: {value:?}"),
+        RedisError::Aborted { errors } => {
+            write!(f, "the transaction is aborted{}", FirstRefusal(errors))
+        }
+        _ => show_told(f, error),
+    }
+}
+
+/// What an error says that gives a text from outside.
+fn show_told<W: fmt::Write>(f: &mut fmt::Formatter<W>, error: &RedisError) -> fmt::Result {
+    match error {
+        RedisError::CreateFailed { last } => show_text(f, "no initial node could be reached", last),
+        RedisError::AuthFailed { text } => show_text(f, "authentication failed", text),
+        RedisError::Credentials { text } => show_text(f, "there are no credentials", text),
+        _ => show_count(f, error),
+    }
+}
+
+/// What an error says that names numbers, and of another error nothing.
+fn show_count<W: fmt::Write>(f: &mut fmt::Formatter<W>, error: &RedisError) -> fmt::Result {
+    match error {
+        RedisError::CrossSlot { first, second } => {
+            write!(f, "the pipeline has the slots {first} and {second}")
+        }
+        RedisError::RouteWithoutLink { routes } => {
+            write!(f, "{} routes have no link", routes.len())
+        }
+        RedisError::TurnsSpent { turns } => {
+            write!(f, "the transaction had no answer in {turns} turns")
+        }
+        _ => Ok(()),
+    }
 }
 
 /// The variant's name, and what the error says.
