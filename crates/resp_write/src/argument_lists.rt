@@ -1,4 +1,5 @@
-ghost use Rattle.resp_write.specs.Arguments.{and_then, of_each, of_part};
+ghost use Rattle.std.specs.Prelude.{IfOk};
+ghost use Rattle.resp_write.specs.Arguments.{IsWritten, and_then, of_each, of_part};
 
 use crate::arguments::ToRedisArgs;
 use crate::command::Cmd;
@@ -30,6 +31,19 @@ impl<T: SliceElement> ToRedisArgs for Vec<T> {
     }
 }
 
+/// A command, with the arguments of a value behind its own.
+fn behind<T: ToRedisArgs>(alloc: Global, mut more: Cmd, value: &T) -> Result<Cmd, AllocError>
+    ensures { IfOk result (IsWritten T.args_of value.now more) }
+{
+    match value.write_redis_args(alloc, &mut more) {
+        Ok(()) => Ok(more),
+        Err(error) => {
+            drop(more);
+            Err(error)
+        }
+    }
+}
+
 /// The arguments of each, in order.
 impl<A: ToRedisArgs, B: ToRedisArgs> ToRedisArgs for (A, B) {
     ghost args_of = { and_then (of_part (λ t. t.0) A.args_of) (of_part (λ t. t.1) B.args_of) };
@@ -49,11 +63,11 @@ impl<A: ToRedisArgs, B: ToRedisArgs, C: ToRedisArgs> ToRedisArgs for (A, B, C) {
     ghost args_of = { and_then (and_then (of_part (λ t. t.0) A.args_of) (of_part (λ t. t.1) B.args_of)) (of_part (λ t. t.2) C.args_of) };
 
     fn write_redis_args(&self, alloc: Global, cmd: &mut Cmd) -> Result<(), AllocError> {
-        let mut more = Cmd::new(alloc);
-        self.0.write_redis_args(alloc, &mut more)?;
-        self.1.write_redis_args(alloc, &mut more)?;
-        self.2.write_redis_args(alloc, &mut more)?;
-        cmd.append(more)
+        let more = Cmd::new(alloc);
+        let one = behind(alloc, more, &self.0)?;
+        let two = behind(alloc, one, &self.1)?;
+        let three = behind(alloc, two, &self.2)?;
+        cmd.append(three)
     }
 }
 
@@ -64,12 +78,12 @@ impl<A: ToRedisArgs, B: ToRedisArgs, C: ToRedisArgs, D: ToRedisArgs> ToRedisArgs
     ghost args_of = { and_then (and_then (and_then (of_part (λ t. t.0) A.args_of) (of_part (λ t. t.1) B.args_of)) (of_part (λ t. t.2) C.args_of)) (of_part (λ t. t.3) D.args_of) };
 
     fn write_redis_args(&self, alloc: Global, cmd: &mut Cmd) -> Result<(), AllocError> {
-        let mut more = Cmd::new(alloc);
-        self.0.write_redis_args(alloc, &mut more)?;
-        self.1.write_redis_args(alloc, &mut more)?;
-        self.2.write_redis_args(alloc, &mut more)?;
-        self.3.write_redis_args(alloc, &mut more)?;
-        cmd.append(more)
+        let more = Cmd::new(alloc);
+        let one = behind(alloc, more, &self.0)?;
+        let two = behind(alloc, one, &self.1)?;
+        let three = behind(alloc, two, &self.2)?;
+        let four = behind(alloc, three, &self.3)?;
+        cmd.append(four)
     }
 }
 
@@ -82,13 +96,13 @@ impl<A: ToRedisArgs, B: ToRedisArgs, C: ToRedisArgs, D: ToRedisArgs, E: ToRedisA
     ghost args_of = { and_then (and_then (and_then (and_then (of_part (λ t. t.0) A.args_of) (of_part (λ t. t.1) B.args_of)) (of_part (λ t. t.2) C.args_of)) (of_part (λ t. t.3) D.args_of)) (of_part (λ t. t.4) E.args_of) };
 
     fn write_redis_args(&self, alloc: Global, cmd: &mut Cmd) -> Result<(), AllocError> {
-        let mut more = Cmd::new(alloc);
-        self.0.write_redis_args(alloc, &mut more)?;
-        self.1.write_redis_args(alloc, &mut more)?;
-        self.2.write_redis_args(alloc, &mut more)?;
-        self.3.write_redis_args(alloc, &mut more)?;
-        self.4.write_redis_args(alloc, &mut more)?;
-        cmd.append(more)
+        let more = Cmd::new(alloc);
+        let one = behind(alloc, more, &self.0)?;
+        let two = behind(alloc, one, &self.1)?;
+        let three = behind(alloc, two, &self.2)?;
+        let four = behind(alloc, three, &self.3)?;
+        let five = behind(alloc, four, &self.4)?;
+        cmd.append(five)
     }
 }
 
@@ -107,14 +121,14 @@ impl<
     ghost args_of = { and_then (and_then (and_then (and_then (and_then (of_part (λ t. t.0) A.args_of) (of_part (λ t. t.1) B.args_of)) (of_part (λ t. t.2) C.args_of)) (of_part (λ t. t.3) D.args_of)) (of_part (λ t. t.4) E.args_of)) (of_part (λ t. t.5) F.args_of) };
 
     fn write_redis_args(&self, alloc: Global, cmd: &mut Cmd) -> Result<(), AllocError> {
-        let mut more = Cmd::new(alloc);
-        self.0.write_redis_args(alloc, &mut more)?;
-        self.1.write_redis_args(alloc, &mut more)?;
-        self.2.write_redis_args(alloc, &mut more)?;
-        self.3.write_redis_args(alloc, &mut more)?;
-        self.4.write_redis_args(alloc, &mut more)?;
-        self.5.write_redis_args(alloc, &mut more)?;
-        cmd.append(more)
+        let more = Cmd::new(alloc);
+        let one = behind(alloc, more, &self.0)?;
+        let two = behind(alloc, one, &self.1)?;
+        let three = behind(alloc, two, &self.2)?;
+        let four = behind(alloc, three, &self.3)?;
+        let five = behind(alloc, four, &self.4)?;
+        let six = behind(alloc, five, &self.5)?;
+        cmd.append(six)
     }
 }
 
