@@ -1,5 +1,5 @@
 -- Steps from stage to stage.
-use Rattle.std.proofs.Common.{◌≡◌, ℕ, zero, suc, ◌≤◌, ◌<◌, ◌+◌, ◌-◌, List, [], ◌∷◌, ◌++◌, length, get_or, take, drop, Ok, Err, Some, None, Bool, true, false, refl, sym, ap, ◌∙◌, subst, arith}
+use Rattle.std.proofs.Common.{◌≡◌, ℕ, zero, suc, ◌≤◌, ◌<◌, ◌+◌, ◌*◌, ◌-◌, List, [], ◌∷◌, ◌++◌, length, get_or, take, drop, Ok, Err, Some, None, Bool, true, false, refl, sym, ap, ◌∙◌, subst, arith, Result, Option}
 use Rattle.std.proofs.lemmas.List.{drop-drop, drop_more, drop_all}
 use Rattle.std.proofs.lemmas.Bool.Decides.{nat_tests}
 use Rattle.std.specs.Prelude.{nat_lt}
@@ -21,7 +21,7 @@ use Rattle.resp_read.specs.declared.stages.Stage.TheVariants as stage
 use Rattle.resp_read.specs.declared.place.Taken.{Taken}
 use Rattle.resp_read.specs.declared.place.Place.{Place}
 use Rattle.resp_read.specs.Stages.{stage_as, part_as, format_then, follow_as, after_feed, IsFollow, IsStage, IsBody, IsFormat, IsKindOf}
-use Rattle.resp_read.specs.Places.{is_too_few, IsTaken, IsPlace, Goes}
+use Rattle.resp_read.specs.Places.{is_too_few, IsTaken, IsPlace, Goes, Advances, Costs, seen}
 use Rattle.resp_read.proofs.Bodies.{body_few, body_enough, bytes_few, bytes_enough}
 
 -- what f finds behind some more bytes is what the next stage finds there
@@ -95,3 +95,22 @@ few_short limits d (stage.End f) bs n is few = ap (after_feed (follow_as (bounds
 few_short limits d (stage.Want (want.Body p k)) bs n is few = ap (found_and_then (part_as (reading limits (d - 1)) p)) (body_waits k bs (grind (arith, nat_tests)) (nat_lt (length bs) k) refl)
 few_short limits d (stage.Want (want.Format k)) bs n is few = ap (found_and_then (format_then k)) (format_waits bs (grind (arith, nat_tests)) (nat_lt (length bs) 3) refl)
 few_short limits d (stage.Want (want.Kind k)) bs n is few = ap (stage_as limits d (stage.Want (want.Kind k))) (none_there bs (grind (arith, nat_tests)))
+
+-- a step from the stage of a place is one from the place
+advanced : (limits : Limits) (n : ℕ) (tape : List ℕ) (p : Place) (r : Result (Option Begun) Refusal) (new : Place) → Goes limits n tape (stage_as limits n p.stage) p.next r new → Advances limits n tape p r new
+advanced limits n tape p (Ok o) new h = h
+advanced limits n tape p (Err Short) new h = absurd h
+advanced limits n tape p (Err Bad) new h = h
+advanced limits n tape p (Err NoMemory) new h = tt
+
+-- also where the stage was taken out of it before
+pub advances_from : (limits : Limits) (n : ℕ) (tape : List ℕ) (p q : Place) (s : Stage) (r : Result (Option Begun) Refusal) (new : Place) → p.stage ≡ s → q.next ≡ p.next → Goes limits n tape (stage_as limits n s) q.next r new → Advances limits n tape p r new
+advances_from limits n tape p q s r new is at h =
+    advanced limits n tape p r new (subst (λ (t : Stage). Goes limits n tape (stage_as limits n t) p.next r new) (sym is) (subst (λ (k : ℕ). Goes limits n tape (stage_as limits n s) k r new) at h))
+
+-- what it costs is counted from how far was looked
+pub costs_from : (tape : List ℕ) (p q : Place) (before : ℕ) (r : Result (Option Begun) Refusal) (new : Place) (after : ℕ) → seen q ≡ seen p → Costs tape q before r new after → Costs tape p before r new after
+costs_from tape p q before (Ok o) new after e h = subst (λ (k : ℕ). after + 2 * k ≤ before + 2 * seen new) e h
+costs_from tape p q before (Err Short) new after e h = subst (λ (k : ℕ). after + 2 * k ≤ before + 2 * seen new) e h
+costs_from tape p q before (Err Bad) new after e h = subst (λ (k : ℕ). after + 2 * k ≤ before + 2 * length tape) e h
+costs_from tape p q before (Err NoMemory) new after e h = subst (λ (k : ℕ). after + 2 * k ≤ before + 2 * length tape) e h

@@ -121,12 +121,12 @@ impl Frame {
                 ..
             } => match key.take() {
                 None => {
-                    *key = Some(value);
+                    drop(std::mem::replace(key, Some(value)));
                     Ok(None)
                 }
                 Some(first) => {
                     if *more == 0 {
-                        *key = Some(first);
+                        drop(std::mem::replace(key, Some(first)));
                         return Ok(Some(value));
                     }
                     found.push(first, value)?;
