@@ -242,9 +242,16 @@ fn take_pair<K: FromRedisValue + Drop, V: FromRedisValue + Drop>(
     requires { FitsPair K.fits V.fits (data_of key, data_of value) }
     ensures { IfOk result (λ taken. IsPair K.reads V.reads (data_of key, data_of value) taken) }
 {
-    let key = K::take_value(alloc, key)?;
-    let value = V::take_value(alloc, value)?;
-    Ok((key, value))
+    match K::take_value(alloc, key) {
+        Ok(key) => {
+            let value = V::take_value(alloc, value)?;
+            Ok((key, value))
+        }
+        Err(error) => {
+            drop(value);
+            Err(error)
+        }
+    }
 }
 
 /// The keys and values of a map, each moved.

@@ -124,9 +124,9 @@ pub trait FromRedisValue: Sized {
         requires { fits (data_of value) }
         ensures { IfOk result (λ taken. reads (data_of value) taken) }
     {
-        let read = Self::read_value(alloc, &value)?;
+        let read = Self::read_value(alloc, &value);
         drop(value);
-        match read {
+        match read? {
             Some(read) => Ok(read),
             None => Err(AllocError),
         }

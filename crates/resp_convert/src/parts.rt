@@ -69,7 +69,10 @@ pub fn into_items(value: Value) -> Option<Values>
     match value {
         Value::Array(items) => Some(items),
         Value::Set(items) => Some(items),
-        _ => None,
+        other => {
+            drop(other);
+            None
+        }
     }
 }
 
@@ -82,6 +85,9 @@ pub fn into_members(value: Value) -> Option<Pairs>
 {
     match value {
         Value::Map(members) => Some(members),
-        _ => None,
+        other => {
+            drop(other);
+            None
+        }
     }
 }

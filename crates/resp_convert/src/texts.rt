@@ -41,7 +41,11 @@ impl FromRedisValue for Bytes {
                 drop(format);
                 Ok(text)
             }
-            other => Bytes::from_slice(alloc, text(&other).unwrap()),
+            other => {
+                let copy = Bytes::from_slice(alloc, text(&other).unwrap());
+                drop(other);
+                copy
+            }
         }
     }
 }
