@@ -181,16 +181,6 @@ pub enum Action {
     },
 }
 
-/// An equal error of its own, if there is one.
-fn clone_error(alloc: Global, error: &Option<RedisError>) -> Result<Option<RedisError>, AllocError>
-    ensures { IfOk result (λ e. e ≡ error.now) }
-{
-    match error {
-        None => Ok(None),
-        Some(error) => Ok(Some(error.clone(alloc)?)),
-    }
-}
-
 impl Cause {
     /// An equal value of its own.
     pub fn clone(&self, alloc: Global) -> Result<Cause, AllocError>
@@ -207,98 +197,6 @@ impl Cause {
             Cause::Event { event } => {
                 let event = event.clone(alloc)?;
                 Ok(Cause::Event { event })
-            }
-        }
-    }
-}
-
-impl Action {
-    /// An equal value of its own.
-    pub fn clone(&self, alloc: Global) -> Result<Action, AllocError>
-        ensures { IfOk result (λ a. a ≡ self.now) }
-    {
-        match self {
-            Action::Turn { number, cause } => {
-                let cause = cause.clone(alloc)?;
-                Ok(Action::Turn {
-                    number: *number,
-                    cause,
-                })
-            }
-            Action::Connect { link, host, port } => {
-                let host = host.clone(alloc)?;
-                Ok(Action::Connect {
-                    link: *link,
-                    host,
-                    port: *port,
-                })
-            }
-            Action::Timer { timer, ms, purpose } => Ok(Action::Timer {
-                timer: *timer,
-                ms: *ms,
-                purpose: *purpose,
-            }),
-            Action::Took { owner, link, count } => Ok(Action::Took {
-                owner: *owner,
-                link: *link,
-                count: *count,
-            }),
-            Action::Push { link, info } => {
-                let info = info.clone(alloc)?;
-                Ok(Action::Push { link: *link, info })
-            }
-            Action::Message { msg } => {
-                let msg = msg.clone(alloc)?;
-                Ok(Action::Message { msg })
-            }
-            Action::Monitor { value } => {
-                let value = value.clone(alloc)?;
-                Ok(Action::Monitor { value })
-            }
-            Action::NeedCreds { source, link } => Ok(Action::NeedCreds {
-                source: *source,
-                link: *link,
-            }),
-            Action::Generation { number } => Ok(Action::Generation { number: *number }),
-            Action::Round { owner, link } => Ok(Action::Round {
-                owner: *owner,
-                link: *link,
-            }),
-            Action::Close { link } => Ok(Action::Close { link: *link }),
-            Action::Write { link, bytes } => {
-                let bytes = bytes.clone(alloc)?;
-                Ok(Action::Write { link: *link, bytes })
-            }
-            Action::Wait { owner, wait } => Ok(Action::Wait {
-                owner: *owner,
-                wait: *wait,
-            }),
-            Action::Start {
-                link,
-                message,
-                owner,
-                need,
-                len,
-            } => Ok(Action::Start {
-                link: *link,
-                message: *message,
-                owner: *owner,
-                need: *need,
-                len: *len,
-            }),
-            Action::Created { error } => {
-                let error = clone_error(alloc, error)?;
-                Ok(Action::Created { error })
-            }
-            Action::Outcome {
-                submission,
-                outcome,
-            } => {
-                let outcome = outcome.clone(alloc)?;
-                Ok(Action::Outcome {
-                    submission: *submission,
-                    outcome,
-                })
             }
         }
     }

@@ -17,13 +17,31 @@ impl Msg {
         ensures { IfOk result (λ m. m ≡ self.now) }
     {
         let pattern = clone_pattern(alloc, &self.pattern)?;
-        let channel = self.channel.clone(alloc)?;
-        let payload = self.payload.clone(alloc)?;
-        Ok(Msg {
-            pattern,
-            channel,
-            payload,
-        })
+        match clone_both(alloc, &self.channel, &self.payload) {
+            Ok((channel, payload)) => Ok(Msg {
+                pattern,
+                channel,
+                payload,
+            }),
+            Err(error) => {
+                drop(pattern);
+                Err(error)
+            }
+        }
+    }
+}
+
+/// Equal values of their own.
+fn clone_both(alloc: Global, one: &Value, other: &Value) -> Result<(Value, Value), AllocError>
+    ensures { IfOk result (λ both. (both.0 ≡ one.now) × (both.1 ≡ other.now)) }
+{
+    let copy = one.clone(alloc)?;
+    match other.clone(alloc) {
+        Ok(value) => Ok((copy, value)),
+        Err(error) => {
+            drop(copy);
+            Err(error)
+        }
     }
 }
 

@@ -1,5 +1,5 @@
-ghost use Rattle.std.specs.Prelude.{◌≡◌, slice_get};
-ghost use Rattle.driver_model.specs.News.{news_of, of_timer, is_source_of, renews, told};
+ghost use Rattle.std.specs.Prelude.{◌≡◌, ◌==◌, slice_get};
+ghost use Rattle.driver_model.specs.News.{news_of, of_timer, is_source_of, renews, told, for_link, of_source, failed};
 
 use crate::action::{Purpose, SourceUse};
 use crate::event::EventKind;
@@ -109,51 +109,96 @@ fn renews(sources: &[SourceUse], source: u32, link: u32) -> bool
     }
 }
 
+/// News for the link that is named: another link sees nothing of it.
+fn for_link(named: u32, link: u32, news: LinkNews<'_>) -> LinkNews<'_>
+    ensures { told result ≡ for_link (named == link) (told news.entry) }
+{
+    if named == link {
+        news
+    } else {
+        LinkNews::Silence
+    }
+}
+
+/// What the link of that number sees of a source: the first news where its setup waits for the source, the later news where the
+/// source renews its credentials, and nothing of a source that is another link's.
+fn of_source<'a>(
+    sources: &[SourceUse],
+    source: u32,
+    link: u32,
+    first: LinkNews<'a>,
+    later: LinkNews<'a>,
+) -> LinkNews<'a>
+    ensures { told result ≡ of_source link (slice_get sources.now source) (told first.entry) (told later.entry) }
+{
+    if is_source_of(sources, source, link) {
+        first
+    } else if renews(sources, source, link) {
+        later
+    } else {
+        LinkNews::Silence
+    }
+}
+
+/// How the named link failed, to the link of that number.
+fn failed(named: u32, link: u32, fault: LinkFault) -> LinkNews<'static>
+    ensures { told result ≡ for_link (named == link) (failed fault) }
+{
+    if named == link {
+        LinkNews::Failed { fault }
+    } else {
+        LinkNews::Silence
+    }
+}
+
 impl EventKind {
     /// What the link of this number sees of the event, where these are the purposes of the timers, and the uses of the sources of
     /// credentials, by their numbers.
     pub fn news(&self, timers: &[Purpose], sources: &[SourceUse], link: u32) -> LinkNews<'_>
         ensures { told result ≡ news_of timers.now sources.now link self.now }
     {
-        if let EventKind::Fired { timer } = self {
-            return fired(timers, *timer, link);
-        }
         match self {
-            EventKind::Connected { link: named } if *named == link => LinkNews::Connected,
-            EventKind::Refused { link: named, fault } if *named == link => {
-                LinkNews::Refused { fault: *fault }
+            EventKind::Connected { link: named } => for_link(*named, link, LinkNews::Connected),
+            EventKind::Refused { link: named, fault } => {
+                for_link(*named, link, LinkNews::Refused { fault: *fault })
             }
-            EventKind::Wrote { link: named, count } if *named == link => {
-                LinkNews::Took { count: *count }
+            EventKind::Wrote { link: named, count } => {
+                for_link(*named, link, LinkNews::Took { count: *count })
             }
-            EventKind::Bytes { link: named, piece } if *named == link => LinkNews::Came {
-                piece: piece.as_slice(),
-            },
-            EventKind::Ended { link: named } if *named == link => LinkNews::Failed {
-                fault: LinkFault::Ended,
-            },
-            EventKind::ReadFault { link: named, fault } if *named == link => LinkNews::Failed {
-                fault: LinkFault::Io { fault: *fault },
-            },
-            EventKind::WriteFault { link: named, fault } if *named == link => LinkNews::Failed {
-                fault: LinkFault::Io { fault: *fault },
-            },
-            EventKind::Creds { source, auth } if is_source_of(sources, *source, link) => {
-                LinkNews::Authorized { auth }
+            EventKind::Bytes { link: named, piece } => {
+                let piece = piece.as_slice();
+                for_link(*named, link, LinkNews::Came { piece })
             }
-            EventKind::Creds { source, auth } if renews(sources, *source, link) => {
-                LinkNews::Renewed { auth }
+            EventKind::Ended { link: named } => failed(*named, link, LinkFault::Ended),
+            EventKind::ReadFault { link: named, fault } => {
+                failed(*named, link, LinkFault::Io { fault: *fault })
             }
-            EventKind::CredsError { source, text } if is_source_of(sources, *source, link) => {
-                LinkNews::Denied {
-                    text: text.as_slice(),
-                }
+            EventKind::WriteFault { link: named, fault } => {
+                failed(*named, link, LinkFault::Io { fault: *fault })
             }
-            EventKind::CredsEnd { source } if is_source_of(sources, *source, link) => {
-                LinkNews::Deserted
+            EventKind::Fired { timer } => fired(timers, *timer, link),
+            EventKind::Creds { source, auth } => {
+                let first = LinkNews::Authorized { auth };
+                of_source(sources, *source, link, first, LinkNews::Renewed { auth })
             }
-            EventKind::CredsEnd { source } if renews(sources, *source, link) => {
-                LinkNews::Unrenewed
+            EventKind::CredsError { source, text } => {
+                let text = text.as_slice();
+                of_source(
+                    sources,
+                    *source,
+                    link,
+                    LinkNews::Denied { text },
+                    LinkNews::Silence,
+                )
+            }
+            EventKind::CredsEnd { source } => {
+                of_source(
+                    sources,
+                    *source,
+                    link,
+                    LinkNews::Deserted,
+                    LinkNews::Unrenewed,
+                )
             }
             EventKind::DropStream => LinkNews::Dropped,
             EventKind::Shutdown => LinkNews::Shut,

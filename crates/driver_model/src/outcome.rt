@@ -56,7 +56,10 @@ impl Verdict {
     {
         match reply {
             Value::ServerError(error) => Verdict::Fault(RedisError::Server(error)),
-            _ => Verdict::Done,
+            _ => {
+                drop(reply);
+                Verdict::Done
+            }
         }
     }
 

@@ -123,8 +123,14 @@ fn verdict_behind(
     match reply {
         Value::ServerError(error) => Ok(Verdict::Fault(RedisError::Server(error))),
         _ => {
-            let errors = errors_among(alloc, queued)?;
-            Ok(unless_aborted(errors, kept))
+            drop(reply);
+            match errors_among(alloc, queued) {
+                Ok(errors) => Ok(unless_aborted(errors, kept)),
+                Err(error) => {
+                    drop(kept);
+                    Err(error)
+                }
+            }
         }
     }
 }
