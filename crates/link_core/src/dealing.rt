@@ -1,4 +1,4 @@
-ghost use Rattle.std.specs.Prelude.{◌≡◌, ◌≤◌, ◌<◌, ◌==◌, ◌||◌, not, false, [], ◌++◌, length, take, drop, map, OnOk, OnErr, IfOk, if◌then◌else◌};
+ghost use Rattle.std.specs.Prelude.{◌≡◌, ◌≤◌, ◌<◌, ◌==◌, ◌||◌, not, false, [], ◌++◌, ◌∷◌, length, take, drop, map, OnOk, OnErr, IfOk, if◌then◌else◌};
 ghost use Rattle.driver_model.specs.Hearing.{taken_by, message_taken, item_told, push_told};
 ghost use Rattle.driver_model.specs.declared.hearing.Hearing.TheVariants.{Nothing};
 ghost use Rattle.link_core.specs.Dealing.{dealing_with, dealing_on, dealt_if, is_awaiting};
@@ -200,7 +200,13 @@ fn take_value(
             Ok(false)
         }
         Hearing::Pushes => {
-            note_push(alloc, &value, settled, notices)?;
+            match note_push(alloc, &value, settled, notices) {
+                Ok(()) => {}
+                Err(error) => {
+                    drop(value);
+                    return Err(error);
+                }
+            }
             deal_item(alloc, value, row, out)?;
             Ok(false)
         }
@@ -233,6 +239,7 @@ fn deal_item(
     if is_item(&value) {
         return row.deal(alloc, value, out);
     }
+    drop(value);
     Ok(())
 }
 
@@ -274,14 +281,23 @@ fn take_answer(
     }
     match into_msg(value) {
         Some(msg) => {
-            notices.push(NoticeAt {
-                settled,
-                notice: Notice::Message(msg),
-            })?;
+            note(settled, Notice::Message(msg), notices)?;
             Ok(false)
         }
         None => Ok(true),
     }
+}
+
+/// One more notice, behind so many settled messages. An error leaves the notices as they were.
+fn note(settled: u64, notice: Notice, notices: &mut Vec<NoticeAt>) -> Result<(), AllocError>
+    ensures ok { OnOk result (
+        notices.new.items
+        ≡ notices.old.items ++ record { settled = settled; notice = notice } ∷ []
+        ) }
+    ensures err { OnErr result (notices.new.items ≡ notices.old.items) }
+{
+    notices.push(NoticeAt { settled, notice })?;
+    Ok(())
 }
 
 /// A push is noted, behind so many settled messages. An error leaves the notices as they were.
@@ -301,8 +317,7 @@ fn note_push(
         Value::Push { kind, parts } => {
             let kind = kind.clone(alloc)?;
             let parts = parts.clone(alloc)?;
-            let notice = Notice::Push(PushInfo { kind, parts });
-            notices.push(NoticeAt { settled, notice })?;
+            note(settled, Notice::Push(PushInfo { kind, parts }), notices)?;
             Ok(())
         }
         _ => Ok(()),
@@ -319,11 +334,10 @@ fn tell_item(value: Value, settled: u64, notices: &mut Vec<NoticeAt>) -> Result<
     ensures err { OnErr result (notices.new.items ≡ notices.old.items) }
 {
     if is_item(&value) {
-        notices.push(NoticeAt {
-            settled,
-            notice: Notice::Monitor(value),
-        })?;
+        note(settled, Notice::Monitor(value), notices)?;
+        return Ok(());
     }
+    drop(value);
     Ok(())
 }
 

@@ -741,8 +741,10 @@ fn take_pushes(notices: Vec<NoticeAt>, pushes: &mut Vec<PushAt>) -> Result<(), A
     let mut rest = Rest::of(notices);
     while let Some(told) = rest.pop_front() {
         let NoticeAt { settled, notice } = told;
-        if let Notice::Push(info) = notice {
-            pushes.push(PushAt { settled, info })?;
+        match notice {
+            Notice::Push(info) => pushes.push(PushAt { settled, info })?,
+            Notice::Message(msg) => drop(msg),
+            Notice::Monitor(value) => drop(value),
         }
     }
     Ok(())

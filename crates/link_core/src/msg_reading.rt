@@ -58,7 +58,10 @@ pub fn into_msg(value: Value) -> Option<Msg>
     match value {
         Value::Array(parts) => msg_of_array(parts),
         Value::Push { kind, parts } => msg_of_kind(&kind, parts),
-        _ => None,
+        other => {
+            drop(other);
+            None
+        }
     }
 }
 
@@ -80,7 +83,10 @@ fn msg_named(name: Value, parts: Values) -> Option<Msg>
     match name {
         Value::BulkString(text) => msg_of_kind(&PushKind::of_text(text), parts),
         Value::SimpleString(text) => msg_of_kind(&PushKind::of_text(text), parts),
-        _ => None,
+        other => {
+            drop(other);
+            None
+        }
     }
 }
 
@@ -102,7 +108,10 @@ fn msg_by_channel(parts: Values) -> Option<Msg>
 {
     let mut parts = parts;
     let channel = parts.pop_front()?;
-    let payload = parts.pop_front()?;
+    let Some(payload) = parts.pop_front() else {
+        drop(channel);
+        return None;
+    };
     Some(Msg {
         pattern: None,
         channel,
@@ -116,8 +125,15 @@ fn msg_by_pattern(parts: Values) -> Option<Msg>
 {
     let mut parts = parts;
     let pattern = parts.pop_front()?;
-    let channel = parts.pop_front()?;
-    let payload = parts.pop_front()?;
+    let Some(channel) = parts.pop_front() else {
+        drop(pattern);
+        return None;
+    };
+    let Some(payload) = parts.pop_front() else {
+        drop(pattern);
+        drop(channel);
+        return None;
+    };
     Some(Msg {
         pattern: Some(pattern),
         channel,

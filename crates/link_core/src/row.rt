@@ -177,7 +177,10 @@ impl Row {
         }
         match self.pop_front() {
             Some(entry) => settle(alloc, entry, item, out),
-            None => Ok(()),
+            None => {
+                drop(item);
+                Ok(())
+            }
         }
     }
 }
@@ -240,6 +243,17 @@ fn error_by(fault: LinkFault, shape: Shape) -> RedisError
     }
 }
 
+/// One more message is settled, by this verdict. An error leaves `out` as it was.
+fn add_verdict(id: u64, verdict: Verdict, out: &mut Vec<Settled>) -> Result<(), AllocError>
+    ensures ok { OnOk result (
+        out.new.items ≡ out.old.items ++ record { id = id; verdict = verdict } ∷ []
+        ) }
+    ensures err { OnErr result (out.new.items ≡ out.old.items) }
+{
+    out.push(Settled { id, verdict })?;
+    Ok(())
+}
+
 /// A message without verdict ends with an error, if it is awaited. Want of memory leaves `out` as it was.
 pub fn fail(
     awaited: bool,
@@ -251,13 +265,10 @@ pub fn fail(
     ensures err { OnErr result (out.new.items ≡ out.old.items) }
 {
     if !awaited {
+        drop(error);
         return Ok(());
     }
-    out.push(Settled {
-        id,
-        verdict: Verdict::Fault(error),
-    })?;
-    Ok(())
+    add_verdict(id, Verdict::Fault(error), out)
 }
 
 /// The verdict of a message that this item fills, if it is awaited. An error leaves `out` as it was.
@@ -273,18 +284,14 @@ fn settle(
         ) }
     ensures err { OnErr result (out.new.items ≡ out.old.items) }
 {
-    let Entry {
-        id,
-        shape,
-        awaited,
-        got,
-    } = entry;
-    if !awaited {
+    if !entry.awaited {
+        drop(entry);
+        drop(item);
         return Ok(());
     }
-    let verdict = verdict_with(alloc, shape, got, item)?;
-    out.push(Settled { id, verdict })?;
-    Ok(())
+    let id = entry.id;
+    let verdict = verdict_with(alloc, entry.shape, entry.got, item)?;
+    add_verdict(id, verdict, out)
 }
 
 /// What the items of a message are that this one fills: the one item of a single command or of a subscription call is its
