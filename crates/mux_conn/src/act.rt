@@ -1,7 +1,10 @@
+ghost use Rattle.std.specs.Prelude.{◌≡◌, ◌∷◌, ◌++◌, [], OnOk, OnErr};
+
 use containers::Bytes;
 use driver_model::{Msg, Outcome, PushInfo, WaitKind};
 use redis_error::RedisError;
 use resp_value::Value;
+use std::alloc::AllocError;
 
 /// What a connection asks of the outside, or tells it. A request goes by the name that its maker gave it.
 #[derive(Drop)]
@@ -100,4 +103,13 @@ pub enum LinkAct {
         request: u32,
         outcome: Outcome,
     },
+}
+
+/// One more act is shown. An error leaves `out` as it was.
+pub(crate) fn show(out: &mut Vec<LinkAct>, act: LinkAct) -> Result<(), AllocError>
+    ensures ok { OnOk result (out.new.items ≡ out.old.items ++ act ∷ []) }
+    ensures err { OnErr result (out.new.items ≡ out.old.items) }
+{
+    out.push(act)?;
+    Ok(())
 }

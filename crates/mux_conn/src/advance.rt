@@ -4,7 +4,7 @@ ghost use Rattle.mux_conn.specs.Passes.{entry_of, without, has_number};
 ghost use Rattle.mux_conn.specs.Places.{IsPlaceOf};
 ghost use Rattle.link_core.specs.Link.{is_spent, starting_with, started_all};
 
-use crate::act::LinkAct;
+use crate::act::{LinkAct, show};
 use crate::connection::MultiplexedConnection;
 use crate::errors::ConnectionError;
 use crate::life::{Greeting, Life};
@@ -34,12 +34,15 @@ impl MultiplexedConnection {
         let mut rest = Rest::of(starts);
         while let Some(start) = rest.pop_front() {
             let request = self.name(start.id);
-            out.push(LinkAct::Start {
-                message: start.msg,
-                request,
-                need: start.need,
-                len: start.len,
-            })?;
+            show(
+                out,
+                LinkAct::Start {
+                    message: start.msg,
+                    request,
+                    need: start.need,
+                    len: start.len,
+                },
+            )?;
         }
         self.starts.give(rest.into_list());
         Ok(())
@@ -59,7 +62,7 @@ impl MultiplexedConnection {
     {
         let mut rest = Queue::from_vec(starts);
         while let Some(start) = rest.pop_front() {
-            out.push(greeting.act(start))?;
+            show(out, greeting.act(start))?;
         }
         Ok(())
     }
@@ -111,9 +114,8 @@ impl MultiplexedConnection {
         if self.life.is_setting_up() {
             return self.start_greeting(alloc, out);
         }
-        let mut starts = self.starts.take(alloc);
-        let ready = match &mut self.life {
-            Life::Ready { link } => start_ready(alloc, link, &mut starts),
+        let link = match &mut self.life {
+            Life::Ready { link } => link,
             Life::SettingUp {
                 link: _,
                 greeting: _,
@@ -123,6 +125,8 @@ impl MultiplexedConnection {
             Life::Wanting { link: _ } => return Ok(()),
             Life::Ended { error: _ } => return Ok(()),
         };
+        let mut starts = self.starts.take(alloc);
+        let ready = start_ready(alloc, link, &mut starts);
         match ready {
             Ok(()) => {}
             Err(error) => return Err(error),
@@ -186,7 +190,7 @@ impl MultiplexedConnection {
         self.hold(number, count);
         if self.limit.is_some() {
             let request = self.name(u64::from(number));
-            out.push(LinkAct::Took { request, count })?;
+            show(out, LinkAct::Took { request, count })?;
         }
         Ok(())
     }
@@ -206,7 +210,7 @@ impl MultiplexedConnection {
         match timeout {
             Some(ms) => {
                 let request = self.name(u64::from(number));
-                out.push(LinkAct::Timer { request, ms })?;
+                show(out, LinkAct::Timer { request, ms })?;
                 Ok(())
             }
             None => Ok(()),
@@ -234,7 +238,7 @@ impl MultiplexedConnection {
     ghost use Rattle.mux_conn.specs.Requests.{answered};
     ghost use Rattle.mux_conn.specs.Passes.{placed_at, seated, moved_up};
     ghost use Rattle.mux_conn.specs.Passes.{moved_up_all, put_behind, seated_or_behind, admitted};
-    ghost use Rattle.mux_conn.specs.Passes.{admitted_all, said, moved_all, passed};
+    ghost use Rattle.mux_conn.specs.Passes.{admitted_all, said, moved_all, passed, let_in, round_begun};
     ghost use Rattle.mux_conn.specs.Connection.{work_with, admits_none, has_room, runs_out, uses_up};
 
     /// A request takes its place in the queue.
@@ -252,11 +256,11 @@ impl MultiplexedConnection {
             Life::SettingUp {
                 link: _,
                 greeting: _,
-            } => return Ok(()),
-            Life::Resting => return Ok(()),
-            Life::Dialing => return Ok(()),
-            Life::Wanting { link: _ } => return Ok(()),
-            Life::Ended { error: _ } => return Ok(()),
+            } => unreachable!(),
+            Life::Resting => unreachable!(),
+            Life::Dialing => unreachable!(),
+            Life::Wanting { link: _ } => unreachable!(),
+            Life::Ended { error: _ } => unreachable!(),
         };
         let Waiting {
             number,
@@ -407,6 +411,21 @@ impl MultiplexedConnection {
         Ok(())
     }
 
+    /// The round of a request begins, and it is let in.
+    fn enter(&mut self, request: &Waiting, out: &mut Vec<LinkAct>) -> Result<(), AllocError>
+        requires { request.now.number < length self.old.requests }
+        ensures work { OnOk result (
+            work_with self.new out.new.items
+            ≡ let_in (round_begun (work_with self.old out.old.items) request.now.number)
+            request.now
+            ) }
+        ensures count { length self.new.requests ≡ length self.old.requests }
+        ensures failure { self.new.failure ≡ self.old.failure }
+    {
+        self.begin_round(request.number, out)?;
+        self.let_in(request, out)
+    }
+
     /// A request that still waits for the connection, or for a permit, is let in, once its round has begun. On a link that has
     /// ended it is answered.
     fn admit(
@@ -429,12 +448,13 @@ impl MultiplexedConnection {
             return Ok(());
         }
         if let Life::Ended { error } = &self.life {
+            let number = u64::from(request.number);
+            drop(request);
             let error = error.clone(alloc)?;
-            self.answer(u64::from(request.number), Outcome::Fault(error), out)?;
+            self.answer(number, Outcome::Fault(error), out)?;
             return Ok(());
         }
-        self.begin_round(request.number, out)?;
-        self.let_in(&request, out)?;
+        self.enter(&request, out)?;
         self.seat_or_put_behind(alloc, request, out)
     }
 

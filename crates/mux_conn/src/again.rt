@@ -1,7 +1,7 @@
 ghost use Rattle.std.specs.Prelude.{◌≡◌, ◌++◌, ◌∷◌, [], length, true, OnOk, IfOk, IsErrOf};
 ghost use Rattle.mux_conn.specs.Repeats.{repeat_id, repeat_act};
 
-use crate::act::LinkAct;
+use crate::act::{LinkAct, show};
 use crate::connection::MultiplexedConnection;
 use crate::errors::ConnectionError;
 use crate::life::Life;
@@ -135,7 +135,7 @@ impl MultiplexedConnection {
             ) }
     {
         if let Some(ms) = self.renewal.within {
-            out.push(LinkAct::RepeatTimer { ms })?;
+            show(out, LinkAct::RepeatTimer { ms })?;
         }
         Ok(())
     }
@@ -238,11 +238,14 @@ impl MultiplexedConnection {
 fn show_repeat(start: Started, out: &mut Vec<LinkAct>) -> Result<(), AllocError>
     ensures { OnOk result (out.new.items ≡ out.old.items ++ repeat_act start ∷ []) }
 {
-    out.push(LinkAct::Repeated {
-        message: start.msg,
-        need: start.need,
-        len: start.len,
-    })?;
+    show(
+        out,
+        LinkAct::Repeated {
+            message: start.msg,
+            need: start.need,
+            len: start.len,
+        },
+    )?;
     Ok(())
 }
 

@@ -1,6 +1,6 @@
 ghost use Rattle.std.specs.Prelude.{◌≡◌, ◌≤◌, [], true, length, OnOk};
 
-use crate::act::LinkAct;
+use crate::act::{LinkAct, show};
 use crate::connection::MultiplexedConnection;
 use crate::life::{Greeting, Life};
 use crate::request::{Pending, Waiting};
@@ -113,10 +113,10 @@ impl MultiplexedConnection {
         ensures count { length self.new.requests ≡ length self.old.requests }
         ensures failure { self.new.failure ≡ self.old.failure }
     {
-        self.life = Life::Ended {
+        self.come_to(Life::Ended {
             error: RedisError::Closed,
-        };
-        out.push(LinkAct::Close)?;
+        });
+        show(out, LinkAct::Close)?;
         Ok(())
     }
 
@@ -127,9 +127,12 @@ impl MultiplexedConnection {
             ) }
     {
         if self.hears.hears_pushes() {
-            out.push(LinkAct::Push {
-                info: PushInfo::disconnection(alloc),
-            })?;
+            show(
+                out,
+                LinkAct::Push {
+                    info: PushInfo::disconnection(alloc),
+                },
+            )?;
         }
         Ok(())
     }
@@ -263,8 +266,8 @@ impl MultiplexedConnection {
         ensures failure { self.new.failure ≡ self.old.failure }
     {
         self.refresh(alloc)?;
-        self.life = Life::Wanting { link };
-        out.push(LinkAct::NeedCreds)?;
+        self.come_to(Life::Wanting { link });
+        show(out, LinkAct::NeedCreds)?;
         Ok(())
     }
 
@@ -353,8 +356,38 @@ impl MultiplexedConnection {
     {
         if self.life.is_wanting() {
             self.close_opening(alloc, error, out)?;
+            return Ok(());
         }
+        drop(error);
         Ok(())
+    }
+
+    /// The source of the credentials answered with this error text.
+    fn deny(&mut self, alloc: Global, text: &[u8], out: &mut Vec<LinkAct>) -> Result<(), AllocError>
+        ensures work { OnOk result (
+            work_with self.new out.new.items
+            ≡ unauthorized_at (work_with self.old out.old.items)
+            (RedisError.Credentials text.now) self.old.life
+            ) }
+        ensures count { length self.new.requests ≡ length self.old.requests }
+        ensures failure { self.new.failure ≡ self.old.failure }
+    {
+        let text = Bytes::from_slice(alloc, text)?;
+        self.go_without(alloc, RedisError::Credentials { text }, out)
+    }
+
+    /// The source of the credentials ended without any.
+    fn desert(&mut self, alloc: Global, out: &mut Vec<LinkAct>) -> Result<(), AllocError>
+        ensures work { OnOk result (
+            work_with self.new out.new.items
+            ≡ unauthorized_at (work_with self.old out.old.items) (RedisError.AuthFailed [])
+            self.old.life
+            ) }
+        ensures count { length self.new.requests ≡ length self.old.requests }
+        ensures failure { self.new.failure ≡ self.old.failure }
+    {
+        let text = Bytes::new(alloc);
+        self.go_without(alloc, RedisError::AuthFailed { text }, out)
     }
 
     /// Offered bytes were taken.
@@ -506,14 +539,8 @@ impl MultiplexedConnection {
             LinkNews::Came { piece } => self.read(alloc, piece, out),
             LinkNews::Failed { fault } => self.fail(alloc, fault, out),
             LinkNews::Authorized { auth } => self.authorize(alloc, auth, out),
-            LinkNews::Denied { text } => {
-                let text = Bytes::from_slice(alloc, text)?;
-                self.go_without(alloc, RedisError::Credentials { text }, out)
-            }
-            LinkNews::Deserted => {
-                let text = Bytes::new(alloc);
-                self.go_without(alloc, RedisError::AuthFailed { text }, out)
-            }
+            LinkNews::Denied { text } => self.deny(alloc, text, out),
+            LinkNews::Deserted => self.desert(alloc, out),
             LinkNews::Renewed { auth } => self.expect_renewal(alloc, auth),
             LinkNews::Unrenewed => {
                 self.end_renewals();

@@ -2,7 +2,7 @@ ghost use Rattle.std.specs.Prelude.{◌≡◌, ◌<◌, ◌≤◌, ◌^◌, ◌+
 ghost use Rattle.std.specs.Prelude.{true, min, unwrap_or, ◌+◌};
 ghost use Rattle.mux_conn.specs.Requests.{given_back};
 
-use crate::act::LinkAct;
+use crate::act::{LinkAct, show};
 use crate::again::Again;
 use crate::errors::ConnectionError;
 use crate::life::Life;
@@ -297,6 +297,13 @@ impl MultiplexedConnection {
         self.requests.at(number as usize).permits
     }
 
+    /// From now on this is how far its link has come.
+    pub(crate) fn come_to(&mut self, life: Life)
+        ensures { self.new ≡ record self.old { life = life } }
+    {
+        drop(std::mem::replace(&mut self.life, life));
+    }
+
     /// A request has come so far, and holds as many permits as before.
     pub(crate) fn set_progress(&mut self, number: u32, progress: Progress)
         requires { number < length self.old.requests }
@@ -352,14 +359,18 @@ impl MultiplexedConnection {
         ensures failure { self.new.failure ≡ self.old.failure }
     {
         if !self.is_open(number) {
+            drop(outcome);
             return Ok(());
         }
         let name = self.name(number);
         self.close(number);
-        out.push(LinkAct::Outcome {
-            request: name,
-            outcome,
-        })?;
+        show(
+            out,
+            LinkAct::Outcome {
+                request: name,
+                outcome,
+            },
+        )?;
         Ok(())
     }
 

@@ -1,7 +1,7 @@
 ghost use Rattle.std.specs.Prelude.{◌≡◌, length, true, OnOk};
 ghost use Rattle.mux_conn.specs.Turn.{is_from};
 
-use crate::act::LinkAct;
+use crate::act::{LinkAct, show};
 use crate::connection::MultiplexedConnection;
 use crate::life::Life;
 use containers::{Bytes, Queue};
@@ -32,9 +32,12 @@ impl MultiplexedConnection {
             Life::Ended { error: _ } => unreachable!(),
         };
         if offers {
-            out.push(LinkAct::Write {
-                bytes: Bytes::from_vec(bytes),
-            })?;
+            show(
+                out,
+                LinkAct::Write {
+                    bytes: Bytes::from_vec(bytes),
+                },
+            )?;
         }
         Ok(())
     }
@@ -50,9 +53,8 @@ impl MultiplexedConnection {
         if self.life.is_setting_up() {
             return self.offer_setup(alloc, out);
         }
-        let mut bytes = Vec::new(alloc);
-        let offers = match &mut self.life {
-            Life::Ready { link } => link.offer(&mut bytes)?,
+        let link = match &mut self.life {
+            Life::Ready { link } => link,
             Life::SettingUp {
                 link: _,
                 greeting: _,
@@ -62,10 +64,14 @@ impl MultiplexedConnection {
             Life::Wanting { link: _ } => return Ok(()),
             Life::Ended { error: _ } => return Ok(()),
         };
-        if offers {
-            out.push(LinkAct::Write {
-                bytes: Bytes::from_vec(bytes),
-            })?;
+        let mut bytes = Vec::new(alloc);
+        if link.offer(&mut bytes)? {
+            show(
+                out,
+                LinkAct::Write {
+                    bytes: Bytes::from_vec(bytes),
+                },
+            )?;
         }
         Ok(())
     }
@@ -119,7 +125,7 @@ impl MultiplexedConnection {
         match kind {
             Some(wait) => {
                 let request = self.name(u64::from(number));
-                out.push(LinkAct::Wait { request, wait })?;
+                show(out, LinkAct::Wait { request, wait })?;
                 Ok(())
             }
             None => Ok(()),

@@ -106,7 +106,7 @@ impl MultiplexedConnection {
         let mut packed = self.greeting_bytes(alloc, greeting)?;
         let shape = self.greeting_shape(greeting);
         link.enqueue_beyond(alloc, greeting.number(), &mut packed, shape)?;
-        self.life = Life::SettingUp { link, greeting };
+        self.come_to(Life::SettingUp { link, greeting });
         Ok(())
     }
 

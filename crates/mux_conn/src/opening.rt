@@ -1,7 +1,7 @@
-ghost use Rattle.std.specs.Prelude.{◌≡◌, [], length, OnOk, IfOk};
+ghost use Rattle.std.specs.Prelude.{◌≡◌, [], length, Some, OnOk, IfOk};
 ghost use Rattle.mux_conn.specs.Effects.{numbers_of};
 
-use crate::act::LinkAct;
+use crate::act::{LinkAct, show};
 use crate::again::Again;
 use crate::connection::MultiplexedConnection;
 use crate::life::Life;
@@ -39,7 +39,7 @@ impl MultiplexedConnection {
         self.info = info;
         self.renewal = Renewal::new(alloc, self.renewal.wanted, self.renewal.within);
         self.again = Again::Nothing;
-        self.life = Life::Resting;
+        self.come_to(Life::Resting);
         self.opened = false;
         self.admitted = Queue::new(alloc);
         self.moved = Queue::new(alloc);
@@ -57,7 +57,7 @@ impl MultiplexedConnection {
         self.refresh(alloc)?;
         self.last = last;
         self.again = again;
-        self.life = Life::Dialing;
+        self.come_to(Life::Dialing);
         Ok(())
     }
 
@@ -75,9 +75,41 @@ impl MultiplexedConnection {
         ensures failure { self.new.failure ≡ self.old.failure }
     {
         if std::mem::replace(&mut self.told, true) {
+            drop(error);
             return Ok(());
         }
-        out.push(LinkAct::Created { error })?;
+        show(out, LinkAct::Created { error })?;
+        Ok(())
+    }
+
+    /// That the opening failed with this error is shown, unless it was before.
+    fn tell_failure(
+        &mut self,
+        alloc: Global,
+        error: &RedisError,
+        out: &mut Vec<LinkAct>,
+    ) -> Result<(), AllocError>
+        ensures work { OnOk result (
+            work_with self.new out.new.items
+            ≡ creation_told (work_with self.old out.old.items) (Some error.now)
+            ) }
+        ensures count { length self.new.requests ≡ length self.old.requests }
+        ensures failure { self.new.failure ≡ self.old.failure }
+    {
+        let shown = error.clone(alloc)?;
+        self.tell_creation(Some(shown), out)
+    }
+
+    /// Its link has ended, and every later request gets this error.
+    fn end_with(&mut self, alloc: Global, error: &RedisError) -> Result<(), AllocError>
+        ensures conn { OnOk result (
+            self.new ≡ record self.old { life = Life.Ended error.now }
+            ) }
+        ensures count { length self.new.requests ≡ length self.old.requests }
+        ensures failure { self.new.failure ≡ self.old.failure }
+    {
+        let error = error.clone(alloc)?;
+        self.come_to(Life::Ended { error });
         Ok(())
     }
 
@@ -95,10 +127,8 @@ impl MultiplexedConnection {
         ensures count { length self.new.requests ≡ length self.old.requests }
         ensures failure { self.new.failure ≡ self.old.failure }
     {
-        let kept = error.clone(alloc)?;
-        let shown = error.clone(alloc)?;
-        self.life = Life::Ended { error: kept };
-        self.tell_creation(Some(shown), out)?;
+        self.end_with(alloc, error)?;
+        self.tell_failure(alloc, error, out)?;
         self.fail_waiting(alloc, error, out)
     }
 
@@ -117,10 +147,13 @@ impl MultiplexedConnection {
         ensures failure { self.new.failure ≡ self.old.failure }
     {
         if !self.last {
+            drop(error);
             self.start_afresh(alloc)?;
             return Ok(());
         }
-        self.give_up(alloc, &error, out)?;
+        let ended = self.give_up(alloc, &error, out);
+        drop(error);
+        ended?;
         Ok(())
     }
 
@@ -138,8 +171,13 @@ impl MultiplexedConnection {
         ensures count { length self.new.requests ≡ length self.old.requests }
         ensures failure { self.new.failure ≡ self.old.failure }
     {
-        out.push(LinkAct::Close)?;
-        self.fail_opening(alloc, error, out)
+        match show(out, LinkAct::Close) {
+            Ok(()) => self.fail_opening(alloc, error, out),
+            Err(refused) => {
+                drop(error);
+                Err(refused)
+            }
+        }
     }
 
     /// This link is set up, which is shown, and a source is asked for new credentials, where they come of sources. The waits of
@@ -158,7 +196,7 @@ impl MultiplexedConnection {
         ensures failure { self.new.failure ≡ self.old.failure }
     {
         self.refresh(alloc)?;
-        self.life = Life::Ready { link };
+        self.come_to(Life::Ready { link });
         self.opened = true;
         self.tell_creation(None, out)?;
         self.ask_source(out)

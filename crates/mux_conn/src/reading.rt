@@ -1,10 +1,10 @@
-ghost use Rattle.std.specs.Prelude.{◌≡◌, ◌∷◌, ◌++◌, [], List, length, true, false, OnOk};
+ghost use Rattle.std.specs.Prelude.{◌≡◌, ◌∷◌, ◌++◌, ◌||◌, [], List, length, true, false, OnOk, IfOk};
 ghost use Rattle.connection_setup.specs.Setup.{setup};
 ghost use Rattle.connection_setup.specs.Judgement.{Tells};
 ghost use Rattle.link_core.specs.Link.{piece_read};
 ghost use Rattle.mux_conn.specs.Effects.{judged_by, has_user, notice_act};
 
-use crate::act::LinkAct;
+use crate::act::{LinkAct, show};
 use crate::connection::MultiplexedConnection;
 use crate::life::{Greeting, Life};
 use connection_info::RedisConnectionInfo;
@@ -57,6 +57,7 @@ impl MultiplexedConnection {
                 self.tell_each(&mut rest, out)?;
                 return Ok(());
             }
+            drop(told);
         }
         Ok(())
     }
@@ -84,7 +85,13 @@ impl MultiplexedConnection {
                 show_notice(told.notice, out)?;
                 return Ok(());
             };
-            self.settle_one(alloc, message, out)?;
+            match self.settle_one(alloc, message, out) {
+                Ok(()) => {}
+                Err(error) => {
+                    drop(told);
+                    return Err(error);
+                }
+            }
             *answered += 1;
         }
         show_notice(told.notice, out)?;
@@ -181,7 +188,7 @@ impl MultiplexedConnection {
                 Ok(())
             }
             None => {
-                self.life = Life::SettingUp { link, greeting };
+                self.come_to(Life::SettingUp { link, greeting });
                 Ok(())
             }
         }
@@ -233,20 +240,8 @@ impl MultiplexedConnection {
         ensures count { length self.new.requests ≡ length self.old.requests }
         ensures failure { self.new.failure ≡ self.old.failure }
     {
-        let mut settled = Vec::new(alloc);
-        let mut notices = Vec::new(alloc);
         let broken = match &mut self.life {
-            Life::Wanting { link } => {
-                link.read(
-                    alloc,
-                    piece,
-                    Hearing::Nothing,
-                    false,
-                    &mut settled,
-                    &mut notices,
-                )?;
-                link.is_broken()
-            }
+            Life::Wanting { link } => read_unheard(alloc, link, piece)?,
             Life::SettingUp {
                 link: _,
                 greeting: _,
@@ -279,13 +274,8 @@ impl MultiplexedConnection {
         ensures failure { self.new.failure ≡ self.old.failure }
     {
         let heard = self.hears;
-        let mut settled = self.settled.take(alloc);
-        let mut notices = self.notices.take(alloc);
-        let ended = match &mut self.life {
-            Life::Ready { link } => {
-                let strange = link.read(alloc, piece, heard, true, &mut settled, &mut notices)?;
-                link.is_broken() || strange
-            }
+        let link = match &mut self.life {
+            Life::Ready { link } => link,
             Life::SettingUp {
                 link: _,
                 greeting: _,
@@ -295,6 +285,9 @@ impl MultiplexedConnection {
             Life::Dialing => return Ok(()),
             Life::Ended { error: _ } => return Ok(()),
         };
+        let mut settled = self.settled.take(alloc);
+        let mut notices = self.notices.take(alloc);
+        let ended = read_heard(alloc, link, piece, heard, &mut settled, &mut notices)?;
         self.tell(alloc, settled, notices, out)?;
         if ended {
             self.fail(alloc, LinkFault::Parse, out)?;
@@ -337,6 +330,57 @@ impl MultiplexedConnection {
     }
 }
 
+/// Bytes came on a link that is set up, where this is heard: the lists gain what they settle and what is told, and the answer is
+/// whether they end the link.
+fn read_heard(
+    alloc: Global,
+    link: &mut LinkCore,
+    piece: &[u8],
+    heard: Hearing,
+    settled: &mut Vec<Settled>,
+    notices: &mut Vec<NoticeAt>,
+) -> Result<bool, AllocError>
+    ensures link { OnOk result (link.new ≡ (piece_read heard true link.old piece.now).link) }
+    ensures settled { OnOk result (
+        settled.new.items ≡ settled.old.items ++ (piece_read heard true link.old piece.now).out
+        ) }
+    ensures told { OnOk result (
+        notices.new.items
+        ≡ notices.old.items ++ (piece_read heard true link.old piece.now).notices
+        ) }
+    ensures ended { IfOk result (λ ended.
+        ended
+        ≡ ((piece_read heard true link.old piece.now).link.broken
+        || (piece_read heard true link.old piece.now).strange)
+        ) }
+{
+    let strange = link.read(alloc, piece, heard, true, settled, notices)?;
+    let broken = link.is_broken();
+    Ok(broken || strange)
+}
+
+/// Bytes came on a link that isn't set up, where nothing is heard: the answer is whether they can't be read on.
+fn read_unheard(alloc: Global, link: &mut LinkCore, piece: &[u8]) -> Result<bool, AllocError>
+    ensures link { OnOk result (
+        link.new ≡ (piece_read Hearing.Nothing false link.old piece.now).link
+        ) }
+    ensures broken { IfOk result (λ broken.
+        broken ≡ (piece_read Hearing.Nothing false link.old piece.now).link.broken
+        ) }
+{
+    let mut settled = Vec::new(alloc);
+    let mut notices = Vec::new(alloc);
+    link.read(
+        alloc,
+        piece,
+        Hearing::Nothing,
+        false,
+        &mut settled,
+        &mut notices,
+    )?;
+    Ok(link.is_broken())
+}
+
 /// What shows a notice.
 fn act_of(notice: Notice) -> LinkAct
     ensures { result ≡ notice_act notice }
@@ -352,7 +396,7 @@ fn act_of(notice: Notice) -> LinkAct
 fn show_notice(notice: Notice, out: &mut Vec<LinkAct>) -> Result<(), AllocError>
     ensures { OnOk result (out.new.items ≡ out.old.items ++ notice_act notice ∷ []) }
 {
-    out.push(act_of(notice))?;
+    show(out, act_of(notice))?;
     Ok(())
 }
 
@@ -367,7 +411,10 @@ fn judged(
 {
     match verdict {
         Verdict::Many(replies) => check_setup(alloc, info, with_user, &replies),
-        Verdict::One(_) => SetupResult::Ready,
+        Verdict::One(reply) => {
+            drop(reply);
+            SetupResult::Ready
+        }
         Verdict::Done => SetupResult::Ready,
         Verdict::Fault(error) => SetupResult::Failed(error),
     }

@@ -1,7 +1,7 @@
 ghost use Rattle.std.specs.Prelude.{◌≡◌, ◌++◌, ◌∷◌, [], length, true, OnOk, IfOk, IsErrOf};
 ghost use Rattle.mux_conn.specs.Renewals.{renewal_id, renewal_act, is_done};
 
-use crate::act::LinkAct;
+use crate::act::{LinkAct, show};
 use crate::again::repeat_id;
 use crate::connection::MultiplexedConnection;
 use crate::errors::ConnectionError;
@@ -104,7 +104,7 @@ impl MultiplexedConnection {
             ) }
     {
         if self.renewal.wanted {
-            out.push(LinkAct::NeedRenewals)?;
+            show(out, LinkAct::NeedRenewals)?;
         }
         Ok(())
     }
@@ -162,6 +162,7 @@ impl MultiplexedConnection {
         ensures failure { self.new.failure ≡ self.old.failure }
     {
         if message.id == repeat_id() {
+            drop(message);
             return self.serve(alloc);
         }
         self.answer(message.id, message.verdict.into_outcome(), out)
@@ -183,6 +184,7 @@ impl MultiplexedConnection {
     {
         if message.id == renewal_id() {
             self.renewal.reply(is_done(&message.verdict));
+            drop(message);
             return Ok(());
         }
         self.settle_other(alloc, message, out)
@@ -205,7 +207,7 @@ impl MultiplexedConnection {
             ) }
     {
         if let Some(ms) = self.renewal.within {
-            out.push(LinkAct::RenewalTimer { number, ms })?;
+            show(out, LinkAct::RenewalTimer { number, ms })?;
         }
         Ok(())
     }
@@ -279,7 +281,9 @@ impl MultiplexedConnection {
         };
         self.renewal.pending = false;
         self.renewal.unanswered = true;
-        let start = match self.start_renewal(alloc, &auth) {
+        let started = self.start_renewal(alloc, &auth);
+        drop(auth);
+        let start = match started {
             Ok(start) => start,
             Err(error) => return Err(error),
         };
@@ -326,11 +330,14 @@ impl MultiplexedConnection {
 fn show_renewal(start: Started, out: &mut Vec<LinkAct>) -> Result<(), AllocError>
     ensures { OnOk result (out.new.items ≡ out.old.items ++ renewal_act start ∷ []) }
 {
-    out.push(LinkAct::Renewed {
-        message: start.msg,
-        need: start.need,
-        len: start.len,
-    })?;
+    show(
+        out,
+        LinkAct::Renewed {
+            message: start.msg,
+            need: start.need,
+            len: start.len,
+        },
+    )?;
     Ok(())
 }
 

@@ -1,6 +1,6 @@
 ghost use Rattle.std.specs.Prelude.{◌≡◌, length, OnOk};
 
-use crate::act::LinkAct;
+use crate::act::{LinkAct, show};
 use crate::connection::MultiplexedConnection;
 use crate::request::Progress;
 use std::alloc::AllocError;
@@ -27,7 +27,7 @@ impl MultiplexedConnection {
         }
         let request = self.name(u64::from(number));
         self.set_progress(number, Progress::Begun);
-        out.push(LinkAct::Round { request })?;
+        show(out, LinkAct::Round { request })?;
         Ok(())
     }
 

@@ -27,10 +27,10 @@ pub returns : goal.returns
 returns c =
     let w : Work = record { conn = c.args.self.now; acts = c.args.out.now.items } in
     let q = c.args.request in
-    let all = ap (λ (x : Work). seated_or_behind x q) c.in_ok-let_in.ensures.work ∙ ap (λ (x : Work). seated_or_behind (let_in x q) q) c.in_ok-begin_round.ensures.work ∙ is_in w q (sym c.is_waiting.ensures.value ∙ c.if-not-is_waiting.false) c.requires c.in_default.not-Ended in
+    let all = ap (λ (x : Work). seated_or_behind x q) c.in_ok-enter.ensures.work ∙ is_in w q (sym c.is_waiting.ensures.value ∙ c.if-not-is_waiting.false) c.requires c.in_default.not-Ended in
     record {
       work = subst (λ (x : Work). OnOk c.seat_or_put_behind.result (◌≡◌ {A = Work} (record { conn = c.seat_or_put_behind.new.self; acts = c.seat_or_put_behind.new.out.items }) x)) all c.seat_or_put_behind.ensures.work;
       spent = λ is. subst (λ (x : Work). is_spent_in x.conn.life ≡ true) all (c.seat_or_put_behind.ensures.spent is);
-      count = c.seat_or_put_behind.ensures.count ∙ c.in_ok-let_in.ensures.count ∙ c.in_ok-begin_round.ensures.count;
-      failure = c.seat_or_put_behind.ensures.failure ∙ c.in_ok-let_in.ensures.failure ∙ c.in_ok-begin_round.ensures.failure;
+      count = c.seat_or_put_behind.ensures.count ∙ c.in_ok-enter.ensures.count;
+      failure = c.seat_or_put_behind.ensures.failure ∙ c.in_ok-enter.ensures.failure;
     }

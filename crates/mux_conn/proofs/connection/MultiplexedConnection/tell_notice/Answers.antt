@@ -9,9 +9,9 @@ behind-preserved c =
     let v : Work = record { conn = c.settle_one.new.self; acts = c.settle_one.new.out.items } in
     let less : c.behind.answered < c.args.told.settled = omega (arith, c.behind-test.true) in
     record {
-      work = λ later. told_answer w v c.behind.answered c.args.told later c.in-Some.message c.pop_front.new.self c.behind.settled less c.in-Some.ensures c.in_ok-settle_one.ensures.work ∙ c.behind.invariant.work later;
-      count = c.in_ok-settle_one.ensures.count ∙ c.behind.invariant.count;
-      failure = c.in_ok-settle_one.ensures.failure ∙ c.behind.invariant.failure;
+      work = λ later. told_answer w v c.behind.answered c.args.told later c.in-Some.message c.pop_front.new.self c.behind.settled less c.in-Some.ensures c.in-Ok.ensures.work ∙ c.behind.invariant.work later;
+      count = c.in-Ok.ensures.count ∙ c.behind.invariant.count;
+      failure = c.in-Ok.ensures.failure ∙ c.behind.invariant.failure;
     }
 
 pub returns-clause-work : goal.returns-clause-work
