@@ -44,7 +44,9 @@ impl ConnectionManager {
         match &self.generations.phase {
             Phase::Failed { error } => {
                 let copy = error.clone(alloc)?;
-                self.fail_held(alloc, &copy)
+                let failed = self.fail_held(alloc, &copy);
+                drop(copy);
+                failed
             }
             Phase::Idle => Ok(()),
             Phase::Opening => Ok(()),

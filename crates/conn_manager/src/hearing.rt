@@ -70,9 +70,13 @@ impl ConnectionManager {
     ) -> Result<(), AllocError>
         ensures { OnOk result (self.new ≡ opened self.old draw error) }
     {
-        match &error {
+        match error {
             None => self.set_up(alloc),
-            Some(error) => self.fail_opening(alloc, error, draw),
+            Some(error) => {
+                let failed = self.fail_opening(alloc, &error, draw);
+                drop(error);
+                failed
+            }
         }
     }
 
@@ -90,6 +94,7 @@ impl ConnectionManager {
         ensures { OnOk result (self.new ≡ came_to self.old request outcome) }
     {
         if request == RESUBSCRIPTION {
+            drop(outcome);
             return self.generations.resubscribed();
         }
         self.answer(alloc, request, outcome)

@@ -188,6 +188,7 @@ impl ConnectionManager {
         ensures { OnOk result (self.new ≡ answered self.old number outcome) }
     {
         if !self.is_open(number) {
+            drop(outcome);
             return Ok(());
         }
         self.stages.set(number as usize, Stage::Closed);
@@ -208,6 +209,8 @@ impl ConnectionManager {
     {
         if (number as usize) < self.outcomes.len() {
             self.outcomes.set(number as usize, Some(outcome));
+        } else {
+            drop(outcome);
         }
     }
 

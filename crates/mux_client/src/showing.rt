@@ -19,6 +19,8 @@ fn keep(outcomes: &mut Seq<Option<Outcome>>, request: u32, outcome: Outcome)
 {
     if (request as usize) < outcomes.len() {
         outcomes.set(request as usize, Some(outcome));
+    } else {
+        drop(outcome);
     }
 }
 

@@ -1,4 +1,4 @@
-ghost use Rattle.std.specs.Prelude.{◌≡◌, ◌∷◌, ◌++◌, List, length, take, OnOk, OnErr};
+ghost use Rattle.std.specs.Prelude.{◌≡◌, ◌∷◌, ◌++◌, [], List, length, take, OnOk, OnErr};
 ghost use Rattle.mux_client.specs.declared.act.ConnectionAct.{ConnectionAct as Act};
 ghost use Rattle.push_links.specs.Links.{other_than_message, other_than_told};
 ghost use Rattle.push_links.specs.Links.{others_of_messages, others_of_told, with_messages, with_told};
@@ -9,6 +9,15 @@ use containers::Queue;
 use mux_client::ConnectionAct;
 use resp_value::Value;
 use std::alloc::AllocError;
+
+/// One more act is to be done. An error leaves `out` as it was.
+fn show(out: &mut Vec<ConnectionAct>, act: ConnectionAct) -> Result<(), AllocError>
+    ensures ok { OnOk result (out.new.items ≡ out.old.items ++ act ∷ []) }
+    ensures err { OnErr result (out.new.items ≡ out.old.items) }
+{
+    out.push(act)?;
+    Ok(())
+}
 
 /// The messages among these acts go to the stream, which ends where they close the link, and the others to `out`. An error leaves
 /// `out` as it was.
@@ -67,14 +76,13 @@ fn sort_message(
     ensures err { OnErr result (out.new.items ≡ out.old.items) }
 {
     match act {
-        ConnectionAct::Message { msg } => stream.put(msg)?,
+        ConnectionAct::Message { msg } => stream.put(msg),
         ConnectionAct::Close => {
             stream.finish();
-            out.push(ConnectionAct::Close)?;
+            show(out, ConnectionAct::Close)
         }
-        other => out.push(other)?,
+        other => show(out, other),
     }
-    Ok(())
 }
 
 /// What a server in monitor mode tells by these acts is held, and that the link has ended where they close it; the others go to
@@ -129,12 +137,11 @@ fn sort_one_told(
     ensures err { OnErr result (out.new.items ≡ out.old.items) }
 {
     match act {
-        ConnectionAct::Monitor { value } => held.put(value)?,
+        ConnectionAct::Monitor { value } => held.put(value),
         ConnectionAct::Close => {
             held.finish();
-            out.push(ConnectionAct::Close)?;
+            show(out, ConnectionAct::Close)
         }
-        other => out.push(other)?,
+        other => show(out, other),
     }
-    Ok(())
 }
