@@ -124,12 +124,9 @@ impl Core {
         ensures requests { self.new.single.connection ≡ self.old.single.connection }
     {
         let request = self.table.len() as u32;
-        self.table.push(None)?;
-        acts.push(LinkAct::Outcome {
-            request,
-            outcome: Outcome::Fault(error),
-        })?;
-        Ok(())
+        let outcome = Outcome::Fault(error);
+        acts.push(LinkAct::Outcome { request, outcome })?;
+        self.table.push(None)
     }
 
     /// The next submission is a request of the connection, named by its number.

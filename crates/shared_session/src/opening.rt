@@ -7,6 +7,7 @@ ghost use Rattle.shared_session.specs.Replay.{connect_timers, timer_asked};
 
 use crate::core_state::{Core, Single};
 use crate::generations::Generations;
+use crate::showing::show;
 use connection_info::{ConnectionInfo, RedisConnectionInfo};
 use containers::Seq;
 use driver_model::{Action, Cause, Config, Purpose};
@@ -143,14 +144,14 @@ fn show_timer(timeout: Option<u64>, out: &mut Vec<Action>) -> Result<(), AllocEr
     ensures { OnOk result (out.new.items ≡ out.old.items ++ timer_asked timeout) }
 {
     match timeout {
-        Some(ms) => {
-            out.push(Action::Timer {
+        Some(ms) => show(
+            out,
+            Action::Timer {
                 timer: 0,
                 ms,
                 purpose: Purpose::Connect { link: FIRST_LINK },
-            })?;
-            Ok(())
-        }
+            },
+        ),
         None => Ok(()),
     }
 }
@@ -163,11 +164,16 @@ fn show_connect(
 ) -> Result<(), AllocError>
     ensures { OnOk result (out.new.items ≡ out.old.items ++ connect_asked (Some info) timeout) }
 {
-    out.push(Action::Connect {
-        link: FIRST_LINK,
-        host: info.host,
-        port: info.port,
-    })?;
+    let ConnectionInfo { host, port, redis } = info;
+    drop(redis);
+    show(
+        out,
+        Action::Connect {
+            link: FIRST_LINK,
+            host,
+            port,
+        },
+    )?;
     show_timer(timeout, out)
 }
 
@@ -189,11 +195,26 @@ fn show_beginning(
         return show_connect(info, timeout, out);
     };
     if config.is_lazy() {
-        out.push(Action::Created { error: None })?;
-        return Ok(());
+        return show(out, Action::Created { error: None });
     }
-    out.push(Action::Generation { number: 1 })?;
+    show(out, Action::Generation { number: 1 })?;
     show_connect(info, timeout, out)
+}
+
+/// The first action of the opening.
+fn show_cause(
+    alloc: Global,
+    config: &Config,
+    word: u64,
+    out: &mut Vec<Action>,
+) -> Result<(), AllocError>
+    ensures { OnOk result (
+        out.new.items ≡ out.old.items ++ Action.Turn 0 (Cause.Opening config.now word) ∷ []
+        ) }
+{
+    let config = config.clone(alloc)?;
+    let cause = Cause::Opening { config, word };
+    show(out, Action::Turn { number: 0, cause })
 }
 
 /// The actions of the opening. After an error `out` is as it was.
@@ -210,15 +231,14 @@ pub(crate) fn show_opening(
         ) }
     ensures err { OnErr result (out.new.items ≡ out.old.items) }
 {
-    let shown = config.clone(alloc)?;
     let mut actions = Vec::new(alloc);
-    actions.push(Action::Turn {
-        number: 0,
-        cause: Cause::Opening {
-            config: shown,
-            word,
-        },
-    })?;
+    match show_cause(alloc, config, word, &mut actions) {
+        Ok(()) => {}
+        Err(error) => {
+            drop(info);
+            return Err(error);
+        }
+    }
     show_beginning(config, info, &mut actions)?;
     out.append(&mut actions)
 }

@@ -7,7 +7,7 @@ ghost use Rattle.shared_session.specs.Done.{done_each};
 
 use crate::core_state::Core;
 use crate::generations::{Comeback, Generations};
-use crate::showing::{Done, show_each};
+use crate::showing::{Done, show, show_each};
 use connection_info::ConnectionInfo;
 use driver_model::{Action, Purpose};
 use manager_config::backoff_ms;
@@ -23,10 +23,8 @@ fn show_generation(number: Option<u64>, out: &mut Vec<Action>) -> Result<(), All
     let Some(number) = number else {
         return Ok(());
     };
-    out.push(Action::Generation {
-        number: number as u32,
-    })?;
-    Ok(())
+    let number = number as u32;
+    show(out, Action::Generation { number })
 }
 
 /// A link is asked for.
@@ -43,12 +41,8 @@ fn show_connect(
     ensures front { take (length out.old.items) out.new.items ≡ out.old.items }
 {
     let host = info.host.clone(alloc)?;
-    out.push(Action::Connect {
-        link,
-        host,
-        port: info.port,
-    })?;
-    Ok(())
+    let port = info.port;
+    show(out, Action::Connect { link, host, port })
 }
 
 /// The timer of a connect is asked for, where that is bounded.
@@ -65,12 +59,9 @@ fn show_connect_timer(
     let Some(ms) = bound else {
         return Ok(());
     };
-    out.push(Action::Timer {
-        timer: timer as u32,
-        ms,
-        purpose: Purpose::Connect { link },
-    })?;
-    Ok(())
+    let timer = timer as u32;
+    let purpose = Purpose::Connect { link };
+    show(out, Action::Timer { timer, ms, purpose })
 }
 
 /// A link is asked for, by the first attempt of that generation or by another one.
@@ -113,12 +104,9 @@ fn show_rest(
     ensures front { take (length out.old.items) out.new.items ≡ out.old.items }
 {
     let ms = backoff_ms(&generations.settings, attempt, word);
-    out.push(Action::Timer {
-        timer: timer as u32,
-        ms,
-        purpose: Purpose::Backoff { generation },
-    })?;
-    Ok(())
+    let timer = timer as u32;
+    let purpose = Purpose::Backoff { generation };
+    show(out, Action::Timer { timer, ms, purpose })
 }
 
 /// What a manager does of its own is shown, in a turn of this word.

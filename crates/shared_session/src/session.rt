@@ -1,15 +1,15 @@
 ghost use Rattle.std.specs.Prelude.{◌≡◌, ◌⊎◌, ℕ, ◌<◌, ◌+◌, ◌^◌, ◌↔◌, [], ◌∷◌, ◌++◌, length, take, true};
-ghost use Rattle.std.specs.Prelude.{false, Some, OnOk, OnErr, IfOk, IsErrOf, option_copied};
+ghost use Rattle.std.specs.Prelude.{false, Some, OnOk, OnErr, IfOk, IsErrOf, option_copied, slice_set};
 ghost use Rattle.shared_session.specs.Done.{put_each};
-ghost use Rattle.driver_model.specs.Config.{first_fault};
-ghost use Rattle.shared_session.specs.Replay.{opening_actions, with_room, IsSound};
+ghost use Rattle.driver_model.specs.Config.{address, first_fault};
+ghost use Rattle.shared_session.specs.Replay.{opening_actions, opening_core, with_room, IsSound};
 
 use crate::core_state::Core;
 use crate::errors::{MakeError, StepError};
 use crate::opening::{opened, show_opening};
-use crate::showing::Done;
+use crate::showing::{Done, show};
 use crate::turns::{Rooms, make_turn};
-use connection_info::OpenError;
+use connection_info::{ConnectionInfo, OpenError};
 use containers::Seq;
 use driver_model::{Action, Cause, Config, Event, EventKind, Outcome};
 use mux_conn::{ConnectionError, Rest, Spare};
@@ -103,16 +103,15 @@ impl Session {
             → first_fault config ≡ Some name }
         ensures err { OnErr result (out.new.items ≡ out.old.items) }
     {
-        let info = match config.info(alloc) {
-            Ok(info) => info,
-            Err(OpenError::Config(name)) => return Err(MakeError::Config { name }),
-            Err(_) => return Err(MakeError::NoMemory),
+        let core = match begun(alloc, &config, word, out) {
+            Ok(core) => core,
+            Err(error) => {
+                drop(config);
+                return Err(error);
+            }
         };
         let events = Seq::new(alloc);
         let outcomes = Seq::new(alloc);
-        let told = config.told_info(alloc, &info)?;
-        let core = opened(alloc, &config, &info, told)?;
-        show_opening(alloc, &config, info, word, out)?;
         Ok(Session {
             config,
             word,
@@ -221,6 +220,7 @@ impl Session {
         match self.tell(alloc, &event, out) {
             Ok(()) => {}
             Err(_) => {
+                drop(event);
                 self.failure = Failure::NoMemory;
                 return Err(StepError::NoMemory);
             }
@@ -319,13 +319,21 @@ impl Session {
         let before = out.len();
         match self.failure {
             Failure::Sound => {}
-            Failure::Spent => return Err(StepError::Spent { events }),
-            Failure::NoMemory => return Err(StepError::NoMemory),
+            Failure::Spent => {
+                drop(event);
+                return Err(StepError::Spent { events });
+            }
+            Failure::NoMemory => {
+                drop(event);
+                return Err(StepError::NoMemory);
+            }
         }
         if self.core.is_bad_event(&event.kind) {
+            drop(event);
             return Err(StepError::BadEvent);
         }
         if self.core.turns > u64::from(u32::MAX) {
+            drop(event);
             self.failure = Failure::Spent;
             return Err(StepError::Spent { events });
         }
@@ -341,11 +349,15 @@ impl Session {
         ) {
             Ok(()) => {}
             Err(ConnectionError::Spent) => {
+                drop(event);
+                drop(done);
                 out.truncate(before);
                 self.failure = Failure::Spent;
                 return Err(StepError::Spent { events });
             }
             Err(ConnectionError::NoMemory) => {
+                drop(event);
+                drop(done);
                 out.truncate(before);
                 return Err(StepError::NoMemory);
             }
@@ -353,6 +365,7 @@ impl Session {
         match keep(&mut self.outcomes, &mut self.events, event) {
             Ok(()) => {}
             Err(_) => {
+                drop(done);
                 out.truncate(before);
                 return Err(StepError::NoMemory);
             }
@@ -361,6 +374,53 @@ impl Session {
         self.failure = Failure::Sound;
         Ok(())
     }
+}
+
+/// The state after the opening, whose actions `out` gains. A configuration of which something is refused has none. After an
+/// error `out` is as it was.
+fn begun(
+    alloc: Global,
+    config: &Config,
+    word: u64,
+    out: &mut Vec<Action>,
+) -> Result<Core, MakeError>
+    ensures core { IfOk result (λ core. core ≡ opening_core config.now word) }
+    ensures actions { OnOk result (
+        out.new.items ≡ out.old.items ++ opening_actions config.now word
+        ) }
+    ensures sound { OnOk result (IsSound config.now) }
+    ensures refused { (name : ConfigName) → IsErrOf result (MakeError.Config name)
+        → first_fault config.now ≡ Some name }
+    ensures err { OnErr result (out.new.items ≡ out.old.items) }
+{
+    let info = match config.info(alloc) {
+        Ok(info) => info,
+        Err(OpenError::Config(name)) => return Err(MakeError::Config { name }),
+        Err(_) => return Err(MakeError::NoMemory),
+    };
+    let core = match core_at(alloc, config, &info) {
+        Ok(core) => core,
+        Err(_) => {
+            drop(info);
+            return Err(MakeError::NoMemory);
+        }
+    };
+    match show_opening(alloc, config, info, word, out) {
+        Ok(()) => Ok(core),
+        Err(_) => {
+            drop(core);
+            Err(MakeError::NoMemory)
+        }
+    }
+}
+
+/// The state after the opening, where this is the address.
+fn core_at(alloc: Global, config: &Config, info: &ConnectionInfo) -> Result<Core, AllocError>
+    requires { address config.now ≡ Some info.now }
+    ensures { IfOk result (λ core. (word : ℕ) → core ≡ opening_core config.now word) }
+{
+    let told = config.told_info(alloc, info)?;
+    opened(alloc, config, info, told)
 }
 
 /// The first action of a turn is shown. After an error `out` is as it was.
@@ -378,11 +438,8 @@ fn show_line(
     ensures err { OnErr result (out.new.items ≡ out.old.items) }
 {
     let event = event.clone(alloc)?;
-    out.push(Action::Turn {
-        number,
-        cause: Cause::Event { event },
-    })?;
-    Ok(())
+    let cause = Cause::Event { event };
+    show(out, Action::Turn { number, cause })
 }
 
 /// Room for the outcome of a submission, and the event in the history. After an error both are as before.
@@ -419,6 +476,22 @@ fn make_room(outcomes: &mut Seq<Option<Outcome>>, event: &EventKind) -> Result<(
     }
 }
 
+/// An outcome is put in the place of its submission, if there is one.
+fn put(outcomes: &mut Seq<Option<Outcome>>, done: Done)
+    ensures { outcomes.new ≡ slice_set outcomes.old done.submission (Some done.outcome) }
+{
+    let Done {
+        submission,
+        outcome,
+    } = done;
+    let place = submission as usize;
+    if place < outcomes.len() {
+        outcomes.set(place, Some(outcome));
+    } else {
+        drop(outcome);
+    }
+}
+
 /// The outcomes of a turn are put in their places. The answer is their list, emptied.
 fn commit(outcomes: &mut Seq<Option<Outcome>>, done: Vec<Done>) -> Vec<Done>
     ensures outcomes { outcomes.new ≡ put_each outcomes.old done.items }
@@ -426,10 +499,7 @@ fn commit(outcomes: &mut Seq<Option<Outcome>>, done: Vec<Done>) -> Vec<Done>
 {
     let mut rest = Rest::of(done);
     while let Some(next) = rest.pop_front() {
-        let place = next.submission as usize;
-        if place < outcomes.len() {
-            outcomes.set(place, Some(next.outcome));
-        }
+        put(outcomes, next);
     }
     rest.into_list()
 }

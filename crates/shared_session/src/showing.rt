@@ -160,6 +160,41 @@ fn note_done(alloc: Global, act: &LinkAct, done: &mut Vec<Done>) -> Result<(), A
     }
 }
 
+/// One more action. After an error `out` is as it was.
+pub(crate) fn show(out: &mut Vec<Action>, action: Action) -> Result<(), AllocError>
+    ensures ok { OnOk result (out.new.items ≡ out.old.items ++ action ∷ []) }
+    ensures err { OnErr result (out.new.items ≡ out.old.items) }
+{
+    out.push(action)?;
+    Ok(())
+}
+
+/// One act is shown, where so many timers, and so many sources of credentials, were asked for before, and the outcome that it
+/// tells is kept.
+fn show_one(
+    alloc: Global,
+    link: u32,
+    timer: u64,
+    source: u64,
+    act: LinkAct,
+    done: &mut Vec<Done>,
+    out: &mut Vec<Action>,
+) -> Result<(), AllocError>
+    requires timer { timer + length (timer_of link act) < 2 ^ 32 }
+    requires source { source + length (source_of link act) < 2 ^ 32 }
+    ensures actions { OnOk result (out.new.items ≡ out.old.items ++ shown link timer source act ∷ []) }
+    ensures done { OnOk result (done.new.items ≡ done.old.items ++ done_by act) }
+    ensures err { OnErr result (out.new.items ≡ out.old.items) }
+{
+    match note_done(alloc, &act, done) {
+        Ok(()) => show(out, action_of(link, timer, source, act)),
+        Err(error) => {
+            drop(act);
+            Err(error)
+        }
+    }
+}
+
 /// The acts of a turn are shown, where so many timers, and so many sources of credentials, were asked for before it, and their
 /// outcomes kept. The answer is the list of the acts, emptied. After an error `out` begins with what it held.
 pub fn show_each(
@@ -184,10 +219,9 @@ pub fn show_each(
     let mut source = sources;
     let mut rest = Rest::of(acts);
     while let Some(act) = rest.pop_front() {
-        note_done(alloc, &act, done)?;
         let more_timers = timers_in(&act);
         let more_sources = sources_in(&act);
-        out.push(action_of(link, timer, source, act))?;
+        show_one(alloc, link, timer, source, act, done, out)?;
         timer += more_timers;
         source += more_sources;
     }

@@ -6,7 +6,7 @@ pub invariant_of-result : goal.invariant_of-result
 invariant_of-result c =
     let config = c.args.config in
     let word = c.args.word in
-    let is = c.in_ok-core.ensures word in
+    let is = c.in-Ok.ensures.core in
     record {
       configured = c.in-Ok.ensures.sound;
       core = λ _. opened_is _ config word c.new-events.result is c.new-events.ensures;
