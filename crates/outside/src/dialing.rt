@@ -22,6 +22,38 @@ fn share(left: Duration, addresses: usize) -> Duration {
     left / addresses
 }
 
+/// What is left of a limit of time since a moment. `TimedOut` where nothing is left.
+fn time_left<R: Clock>(rt: &R, start: Instant, limit: Duration) -> io::Result<Duration> {
+    let left = limit.saturating_sub(start.elapsed(rt)?);
+    if left.is_zero() {
+        return Err(io::Error::from(ErrorKind::TimedOut));
+    }
+    Ok(left)
+}
+
+/// Tries one of so many addresses that wait, within its share of the time that is left. The answer is how the search ends, if it
+/// does: with a stream, or where no time is left. Else `last` is the address's error.
+fn try_address<R: Net + Clock>(
+    rt: &R,
+    address: SocketAddr,
+    start: Instant,
+    limit: Duration,
+    waiting: usize,
+    last: &mut io::Error,
+) -> Option<io::Result<R::Stream>> {
+    let left = match time_left(rt, start, limit) {
+        Ok(left) => left,
+        Err(error) => return Some(Err(error)),
+    };
+    match connect_address(rt, address, share(left, waiting)) {
+        Ok(stream) => Some(Ok(stream)),
+        Err(error) => {
+            drop(std::mem::replace(last, error));
+            None
+        }
+    }
+}
+
 /// Connects to a host within a limit of time: to each of its addresses in order, each within its share of the time that
 /// is left, until one answers. The error is the last address's, `TimedOut` where no time was left for it. Only the
 /// look-up of a name has no limit of its own: the system's resolver decides how long it takes.
@@ -36,13 +68,9 @@ pub(crate) fn connect<R: Net + Clock>(
     let mut waiting = addresses.size_hint().0;
     let mut last = io::Error::from(ErrorKind::NotFound);
     for address in addresses {
-        let left = limit.saturating_sub(start.elapsed(rt)?);
-        if left.is_zero() {
-            return Err(io::Error::from(ErrorKind::TimedOut));
-        }
-        match connect_address(rt, address, share(left, waiting)) {
-            Ok(stream) => return Ok(stream),
-            Err(error) => last = error,
+        if let Some(ended) = try_address(rt, address, start, limit, waiting, &mut last) {
+            drop(last);
+            return ended;
         }
         waiting = waiting.saturating_sub(1);
     }

@@ -456,7 +456,8 @@ fn shutdown(words: &[Word<'_>]) -> Option<EventKind>
     }
 }
 
-/// What happens besides submissions, by the name and the words behind it.
+/// What happens besides submissions, by the name and the words behind it: a caller goes, a connect or a write is answered, or
+/// something else.
 #[tactic(auto, unfolding(crate::specs::EventLine::others))]
 fn other(
     alloc: Global,
@@ -477,6 +478,18 @@ fn other(
     if name == b"wrote".as_slice() {
         return Ok(read_wrote(words));
     }
+    given(alloc, name, words)
+}
+
+/// What a link gives, that it has ended, a fault on it, or what happens besides that.
+#[tactic(auto, unfolding(crate::specs::EventLine::others))]
+fn given(
+    alloc: Global,
+    name: &[u8],
+    words: &mut [Word<'_>],
+) -> Result<Option<EventKind>, AllocError>
+    ensures { IfOk result (λ k. k ≡ by_first (drop 4 others) (name.now ∷ words.old) []) }
+{
     if name == b"bytes".as_slice() {
         return read_came(alloc, words);
     }
@@ -489,6 +502,18 @@ fn other(
     if name == b"write-fault".as_slice() {
         return Ok(write_fault(words));
     }
+    timer_or_source(alloc, name, words)
+}
+
+/// A timer that fires, what a source of credentials says, or what happens besides that.
+#[tactic(auto, unfolding(crate::specs::EventLine::others))]
+fn timer_or_source(
+    alloc: Global,
+    name: &[u8],
+    words: &mut [Word<'_>],
+) -> Result<Option<EventKind>, AllocError>
+    ensures { IfOk result (λ k. k ≡ by_first (drop 8 others) (name.now ∷ words.old) []) }
+{
     if name == b"fired".as_slice() {
         return Ok(fired(words));
     }
@@ -501,16 +526,24 @@ fn other(
     if name == b"creds-end".as_slice() {
         return Ok(creds_end(words));
     }
+    Ok(told_to_session(name, words))
+}
+
+/// What the session itself is told.
+#[tactic(auto, unfolding(crate::specs::EventLine::others))]
+fn told_to_session(name: &[u8], words: &[Word<'_>]) -> Option<EventKind>
+    ensures { result ≡ by_first (drop 12 others) (name.now ∷ words.now) [] }
+{
     if name == b"timeout".as_slice() {
-        return Ok(timeout(words));
+        return timeout(words);
     }
     if name == b"drop-stream".as_slice() {
-        return Ok(drop_stream(words));
+        return drop_stream(words);
     }
     if name == b"shutdown".as_slice() {
-        return Ok(shutdown(words));
+        return shutdown(words);
     }
-    Ok(None)
+    None
 }
 
 /// What happens in a session of this kind.

@@ -1,9 +1,10 @@
-ghost use Rattle.std.specs.Prelude.{◌≡◌, ◌++◌, ◌∷◌, [], OnOk, codes, decimal};
+ghost use Rattle.std.specs.Prelude.{◌≡◌, ◌++◌, ◌∷◌, [], OnOk, codes, decimal, true};
 ghost use Rattle.driver_model.specs.Request.{listed};
 ghost use Rattle.redis_error.specs.Names.{fault_name};
+ghost use Rattle.trace_text.specs.Plain.{is_literal};
 ghost use Rattle.trace_text.specs.Words.{following, separated};
 ghost use Rattle.trace_text.specs.Show.{behind_first, config_words, connect_words, first_of, url};
-ghost use Rattle.trace_text.specs.Show.{session_words, setting_words};
+ghost use Rattle.trace_text.specs.Show.{kind_word, session_words, setting_words};
 ghost use Rattle.trace_text.specs.Show.{boundary_words, buffer_words, limit_words, response_words};
 ghost use Rattle.trace_text.specs.Show.{push_words, creds_words, lib_words, switch_words};
 ghost use Rattle.trace_text.specs.Show.{numbers_words, times_words, time_word};
@@ -15,7 +16,8 @@ use crate::writer::Writer;
 use containers::{Bytes, Names};
 use credentials::BasicAuth;
 use driver_model::{
-    AddressWords, Cause, Config, ConnectionWords, Event, EventKind, SessionKind, Submission,
+    AddressWords, Cause, Commands, Config, ConnectionWords, Event, EventKind, SessionKind,
+    Submission,
 };
 use redis_error::FaultKind;
 use resp_write::SubscriptionAction;
@@ -162,6 +164,37 @@ impl Writer {
         self.switch_settings(words)
     }
 
+    /// What a session of one link is, and what is given of it.
+    fn link_session(&mut self, kind: SessionKind, address: &AddressWords) -> Result<(), AllocError>
+        ensures before { self.new.before ≡ self.old.before }
+        ensures ok { OnOk result
+            (AddedWords self.old self.new
+            (kind_word kind ∷ url address.now ∷ lib_words address.now.lib)) }
+    {
+        self.kind(kind)?;
+        self.url(address)?;
+        self.lib(address.lib)
+    }
+
+    /// What a session of a multiplexed connection is, and what is given of it.
+    fn multiplexed(
+        &mut self,
+        kind: SessionKind,
+        address: &AddressWords,
+        connection: &ConnectionWords,
+    ) -> Result<(), AllocError>
+        ensures before { self.new.before ≡ self.old.before }
+        ensures ok { OnOk result
+            (AddedWords self.old self.new
+            (kind_word kind ∷ url address.now
+            ∷ (setting_words connection.now ++ lib_words address.now.lib))) }
+    {
+        self.kind(kind)?;
+        self.url(address)?;
+        self.settings(connection)?;
+        self.lib(address.lib)
+    }
+
     /// What a session is, and what is given of it.
     fn session(&mut self, config: &Config) -> Result<(), AllocError>
         ensures before { self.new.before ≡ self.old.before }
@@ -171,34 +204,18 @@ impl Writer {
             Config::Single {
                 address,
                 connection,
-            } => {
-                self.kind(SessionKind::Single)?;
-                self.url(address)?;
-                self.settings(connection)?;
-                self.lib(address.lib)
-            }
+            } => self.multiplexed(SessionKind::Single, address, connection),
             Config::Manager {
                 lazy,
                 address,
                 connection,
                 manager,
             } => {
-                self.kind(SessionKind::Manager { lazy: *lazy })?;
-                self.url(address)?;
-                self.settings(connection)?;
-                self.lib(address.lib)?;
+                self.multiplexed(SessionKind::Manager { lazy: *lazy }, address, connection)?;
                 self.manager(manager)
             }
-            Config::PubSub { address } => {
-                self.kind(SessionKind::PubSub)?;
-                self.url(address)?;
-                self.lib(address.lib)
-            }
-            Config::Monitor { address } => {
-                self.kind(SessionKind::Monitor)?;
-                self.url(address)?;
-                self.lib(address.lib)
-            }
+            Config::PubSub { address } => self.link_session(SessionKind::PubSub, address),
+            Config::Monitor { address } => self.link_session(SessionKind::Monitor, address),
         }
     }
 
@@ -271,6 +288,51 @@ impl Writer {
         }
     }
 
+    /// A name that is written as it is, and the arguments of a command.
+    fn named_arguments(&mut self, name: &[u8], args: &Names) -> Result<(), AllocError>
+        requires { is_literal name.now ≡ true }
+        ensures before { self.new.before ≡ self.old.before }
+        ensures ok { OnOk result (AddedWords self.old self.new (name.now ∷ args.now)) }
+    {
+        self.literal(name)?;
+        self.arguments(args.as_slice())
+    }
+
+    /// A name that is written as it is, and commands.
+    fn named_commands(&mut self, name: &[u8], commands: &Commands) -> Result<(), AllocError>
+        requires { is_literal name.now ≡ true }
+        ensures before { self.new.before ≡ self.old.before }
+        ensures ok { OnOk result
+            (AddedParts self.old self.new (name.now ∷ first_of commands.now)
+            (behind_first commands.now)) }
+    {
+        self.literal(name)?;
+        self.commands(commands.as_slice())
+    }
+
+    /// The words of a packed request: how many replies it skips, how many it keeps, and its commands.
+    fn packed(&mut self, offset: u32, count: u32, commands: &Commands) -> Result<(), AllocError>
+        ensures before { self.new.before ≡ self.old.before }
+        ensures ok { OnOk result
+            (AddedParts self.old self.new
+            (codes "packed" ∷ decimal offset ∷ decimal count ∷ first_of commands.now)
+            (behind_first commands.now)) }
+    {
+        self.literal(b"packed")?;
+        self.number(u64::from(offset))?;
+        self.number(u64::from(count))?;
+        self.commands(commands.as_slice())
+    }
+
+    /// The words of a subscription call and its names.
+    fn called(&mut self, action: SubscriptionAction, names: &Names) -> Result<(), AllocError>
+        ensures before { self.new.before ≡ self.old.before }
+        ensures ok { OnOk result (AddedWords self.old self.new (call_word action ∷ names.now)) }
+    {
+        self.word(call_word(action))?;
+        self.arguments(names.as_slice())
+    }
+
     /// The words of what a caller hands in.
     fn submitted(&mut self, submission: &Submission) -> Result<(), AllocError>
         ensures before { self.new.before ≡ self.old.before }
@@ -279,36 +341,16 @@ impl Writer {
             (submission_more submission.now)) }
     {
         match submission {
-            Submission::Cmd { args } => {
-                self.literal(b"cmd")?;
-                self.arguments(args.as_slice())
-            }
-            Submission::NoReply { args } => {
-                self.literal(b"noreply")?;
-                self.arguments(args.as_slice())
-            }
-            Submission::Pipe { commands } => {
-                self.literal(b"pipe")?;
-                self.commands(commands.as_slice())
-            }
-            Submission::Multi { commands } => {
-                self.literal(b"multi")?;
-                self.commands(commands.as_slice())
-            }
+            Submission::Cmd { args } => self.named_arguments(b"cmd", args),
+            Submission::NoReply { args } => self.named_arguments(b"noreply", args),
+            Submission::Pipe { commands } => self.named_commands(b"pipe", commands),
+            Submission::Multi { commands } => self.named_commands(b"multi", commands),
             Submission::Packed {
                 offset,
                 count,
                 commands,
-            } => {
-                self.literal(b"packed")?;
-                self.number(u64::from(*offset))?;
-                self.number(u64::from(*count))?;
-                self.commands(commands.as_slice())
-            }
-            Submission::Subscription { action, names } => {
-                self.word(call_word(*action))?;
-                self.arguments(names.as_slice())
-            }
+            } => self.packed(*offset, *count, commands),
+            Submission::Subscription { action, names } => self.called(*action, names),
             Submission::Ping { message } => self.ping(message),
         }
     }
@@ -336,6 +378,71 @@ impl Writer {
         self.word(auth.password())
     }
 
+    /// The words of an event that names a number: its name, and that number.
+    fn named_number(&mut self, name: &[u8], number: u64) -> Result<(), AllocError>
+        requires { is_literal name.now ≡ true }
+        ensures before { self.new.before ≡ self.old.before }
+        ensures ok { OnOk result
+            (AddedWords self.old self.new (name.now ∷ decimal number ∷ [])) }
+    {
+        self.literal(name)?;
+        self.number(number)
+    }
+
+    /// The words of the event that a caller hands something in.
+    fn handed_in(&mut self, submission: &Submission) -> Result<(), AllocError>
+        ensures before { self.new.before ≡ self.old.before }
+        ensures ok { OnOk result
+            (AddedParts self.old self.new (codes "submit" ∷ submission_words submission.now)
+            (submission_more submission.now)) }
+    {
+        self.literal(b"submit")?;
+        self.submitted(submission)
+    }
+
+    /// The words of bytes that a link took.
+    fn wrote(&mut self, link: u32, count: u64) -> Result<(), AllocError>
+        ensures before { self.new.before ≡ self.old.before }
+        ensures ok { OnOk result
+            (AddedWords self.old self.new (codes "wrote" ∷ decimal link ∷ decimal count ∷ [])) }
+    {
+        self.literal(b"wrote")?;
+        self.number(u64::from(link))?;
+        self.number(count)
+    }
+
+    /// The words of bytes that came on a link.
+    fn came(&mut self, link: u32, piece: &Bytes) -> Result<(), AllocError>
+        ensures before { self.new.before ≡ self.old.before }
+        ensures ok { OnOk result
+            (AddedWords self.old self.new (codes "bytes" ∷ decimal link ∷ piece.now ∷ [])) }
+    {
+        self.literal(b"bytes")?;
+        self.number(u64::from(link))?;
+        self.word(piece.as_slice())
+    }
+
+    /// The words of a source that could not give credentials, and why.
+    fn denied(&mut self, source: u32, text: &Bytes) -> Result<(), AllocError>
+        ensures before { self.new.before ≡ self.old.before }
+        ensures ok { OnOk result
+            (AddedWords self.old self.new (codes "creds-err" ∷ decimal source ∷ text.now ∷ [])) }
+    {
+        self.literal(b"creds-err")?;
+        self.number(u64::from(source))?;
+        self.word(text.as_slice())
+    }
+
+    /// The words of a new time for requests.
+    fn new_time(&mut self, ms: Option<u64>) -> Result<(), AllocError>
+        ensures before { self.new.before ≡ self.old.before }
+        ensures ok { OnOk result
+            (AddedWords self.old self.new (codes "timeout" ∷ time_word ms ∷ [])) }
+    {
+        self.literal(b"timeout")?;
+        self.time(ms)
+    }
+
     /// The words of an event.
     fn event(&mut self, kind: &EventKind) -> Result<(), AllocError>
         ensures before { self.new.before ≡ self.old.before }
@@ -343,53 +450,22 @@ impl Writer {
             (AddedParts self.old self.new (event_words kind.now) (event_more kind.now)) }
     {
         match kind {
-            EventKind::Submit { submission } => {
-                self.literal(b"submit")?;
-                self.submitted(submission)
-            }
+            EventKind::Submit { submission } => self.handed_in(submission),
             EventKind::Cancel { submission } => {
-                self.literal(b"cancel")?;
-                self.number(u64::from(*submission))
+                self.named_number(b"cancel", u64::from(*submission))
             }
-            EventKind::Connected { link } => {
-                self.literal(b"connected")?;
-                self.number(u64::from(*link))
-            }
+            EventKind::Connected { link } => self.named_number(b"connected", u64::from(*link)),
             EventKind::Refused { link, fault } => self.fault(b"refused", *link, *fault),
-            EventKind::Wrote { link, count } => {
-                self.literal(b"wrote")?;
-                self.number(u64::from(*link))?;
-                self.number(*count)
-            }
-            EventKind::Bytes { link, piece } => {
-                self.literal(b"bytes")?;
-                self.number(u64::from(*link))?;
-                self.word(piece.as_slice())
-            }
-            EventKind::Ended { link } => {
-                self.literal(b"ended")?;
-                self.number(u64::from(*link))
-            }
+            EventKind::Wrote { link, count } => self.wrote(*link, *count),
+            EventKind::Bytes { link, piece } => self.came(*link, piece),
+            EventKind::Ended { link } => self.named_number(b"ended", u64::from(*link)),
             EventKind::ReadFault { link, fault } => self.fault(b"read-fault", *link, *fault),
             EventKind::WriteFault { link, fault } => self.fault(b"write-fault", *link, *fault),
-            EventKind::Fired { timer } => {
-                self.literal(b"fired")?;
-                self.number(u64::from(*timer))
-            }
+            EventKind::Fired { timer } => self.named_number(b"fired", u64::from(*timer)),
             EventKind::Creds { source, auth } => self.creds(*source, auth),
-            EventKind::CredsError { source, text } => {
-                self.literal(b"creds-err")?;
-                self.number(u64::from(*source))?;
-                self.word(text.as_slice())
-            }
-            EventKind::CredsEnd { source } => {
-                self.literal(b"creds-end")?;
-                self.number(u64::from(*source))
-            }
-            EventKind::Timeout { ms } => {
-                self.literal(b"timeout")?;
-                self.time(*ms)
-            }
+            EventKind::CredsError { source, text } => self.denied(*source, text),
+            EventKind::CredsEnd { source } => self.named_number(b"creds-end", u64::from(*source)),
+            EventKind::Timeout { ms } => self.new_time(*ms),
             EventKind::DropStream => self.literal(b"drop-stream"),
             EventKind::Shutdown => self.literal(b"shutdown"),
         }
