@@ -17,6 +17,7 @@ use containers::{Queue, Seq};
 use redis_error::RedisError;
 use slot_hash::NodeAddress;
 use std::alloc::{AllocError, Global};
+use std::mem;
 
 /// The connects with which a reconnect begins: what has come of each so far, and the last failure.
 #[derive(Drop)]
@@ -39,7 +40,9 @@ fn keep_failure(link: Option<u32>, told: Answer, last: &mut RedisError)
     ensures { last.new ≡ later_failure link (error_told told) last.old }
 {
     if link.is_none() {
-        *last = error_told(told);
+        drop(mem::replace(last, error_told(told)));
+    } else {
+        drop(told);
     }
 }
 
@@ -151,10 +154,17 @@ impl InitialConnects {
             → plan_from self entries rows more ≡ plan_behind end entries rows more) }
     {
         let InitialConnects { nodes, last } = self;
-        let entries = connected(alloc, nodes)?;
+        let entries = match connected(alloc, nodes) {
+            Ok(entries) => entries,
+            Err(error) => {
+                drop(last);
+                return Err(error);
+            }
+        };
         if entries.is_empty() {
             Ok(InitialEnd::Failed(last))
         } else {
+            drop(last);
             Ok(InitialEnd::Connected(entries))
         }
     }

@@ -51,7 +51,10 @@ fn hear_connect(told: Answer) -> Heard
     ensures { result ≡ heard_by_link (link_told told) (error_told told) }
 {
     match link_told(&told) {
-        Some(link) => Heard::Goes(Step::Arrived(link)),
+        Some(link) => {
+            drop(told);
+            Heard::Goes(Step::Arrived(link))
+        }
         None => Heard::Error(error_told(told)),
     }
 }
@@ -62,8 +65,18 @@ fn hear_query(alloc: Global, host: &[u8], told: Answer) -> Result<Heard, AllocEr
         (λ h. h ≡ heard_by_rows (rows_told host.now told) (error_told told)) }
     ensures rows { IfOk result AreHeard }
 {
-    match rows_told(alloc, host, &told)? {
-        Some(rows) => Ok(Heard::Rows(rows)),
+    let rows = match rows_told(alloc, host, &told) {
+        Ok(rows) => rows,
+        Err(error) => {
+            drop(told);
+            return Err(error);
+        }
+    };
+    match rows {
+        Some(rows) => {
+            drop(told);
+            Ok(Heard::Rows(rows))
+        }
         None => Ok(Heard::Error(error_told(told))),
     }
 }
@@ -74,7 +87,11 @@ pub fn hear(alloc: Global, host: &[u8], step: Step, told: Answer) -> Result<Hear
     ensures rows { IfOk result AreHeard }
 {
     match step {
-        Step::Checking(link) => Ok(Heard::Goes(checked(link, &told))),
+        Step::Checking(link) => {
+            let next = checked(link, &told);
+            drop(told);
+            Ok(Heard::Goes(next))
+        }
         Step::Connecting => Ok(hear_connect(told)),
         Step::Arrived(_) => {
             let heard = hear_query(alloc, host, told)?;

@@ -184,6 +184,7 @@ pub fn after_first(
     let rows = rows_told(alloc, pass.here.address.host.as_slice(), told)?;
     match rows {
         Some(rows) => {
+            drop(slots);
             let entries = pass.entries()?;
             let state = renew(alloc, entries, rows)?;
             Ok(state)
@@ -213,8 +214,16 @@ fn behind_node(
     let Pass { passed, here, rest } = pass;
     let NodeEntry { address, state: _ } = here;
     let mut passed = passed;
-    passed.push(NodeEntry { address, state })?;
-    Ok(begin_second(passed, rest, slots, last))
+    match passed.push(NodeEntry { address, state }) {
+        Ok(()) => Ok(begin_second(passed, rest, slots, last)),
+        Err(error) => {
+            drop(passed);
+            drop(rest);
+            drop(slots);
+            drop(last);
+            Err(error)
+        }
+    }
 }
 
 /// A node of pass two told these slots.
@@ -270,10 +279,13 @@ pub fn after_second(
             last,
         }),
         Heard::Rows(rows) => {
+            drop(slots);
+            drop(last);
             let next = renew_with(alloc, pass, entered(step), rows)?;
             Ok(next)
         }
         Heard::Error(error) => {
+            drop(last);
             let next = behind_node(pass, entered(step), slots, error)?;
             Ok(next)
         }

@@ -82,6 +82,8 @@ fn go_on(
     }
     match connects.finish(alloc)? {
         InitialEnd::Connected(links) => {
+            drop(entries);
+            drop(slots);
             let links = in_address_order(alloc, links)?;
             let none = no_slots(alloc)?;
             let state = refresh(alloc, links, none)?;
@@ -149,7 +151,9 @@ fn first_answered(
         → plan_of s more ≡ first_from pass slots link ((ask.now, told) ∷ more)) }
     ensures sound { IfOk result IsSound }
 {
-    let state = after_first(alloc, pass, slots, link, &told)?;
+    let reached = after_first(alloc, pass, slots, link, &told);
+    drop(told);
+    let state = reached?;
     Ok(state)
 }
 
@@ -170,7 +174,15 @@ fn second_answered(
         → plan_of s more ≡ second_from pass slots step last ((ask.now, told) ∷ more)) }
     ensures sound { IfOk result IsSound }
 {
-    let heard = hear(alloc, pass.here.address.host.as_slice(), step, told)?;
+    let heard = match hear(alloc, pass.here.address.host.as_slice(), step, told) {
+        Ok(heard) => heard,
+        Err(error) => {
+            drop(pass);
+            drop(slots);
+            drop(last);
+            return Err(error);
+        }
+    };
     let state = after_second(alloc, pass, slots, step, last, heard)?;
     Ok(state)
 }
@@ -191,7 +203,9 @@ fn last_answered(
         → plan_of s more ≡ renewed_by entries slots (stepped nodes ((ask.now, told) ∷ more))) }
     ensures sound { IfOk result IsSound }
 {
-    let state = after_arrival(alloc, entries, slots, nodes, ask, &told)?;
+    let reached = after_arrival(alloc, entries, slots, nodes, ask, &told);
+    drop(told);
+    let state = reached?;
     Ok(state)
 }
 

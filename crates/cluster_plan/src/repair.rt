@@ -242,9 +242,12 @@ impl Repair {
         ensures address { self.new.address ≡ self.old.address }
         ensures attempt { self.new.attempt ≤ self.old.attempt + 1 }
     {
+        let passed = passes(&told);
+        let progress = progress_by(&told);
+        drop(told);
         match ask.request {
-            Request::Check(_) => self.check = Some(passes(&told)),
-            Request::Connect => self.connect = progress_by(&told),
+            Request::Check(_) => self.check = Some(passed),
+            Request::Connect => self.connect = progress,
             Request::Wait(_) => {
                 self.attempt += 1;
                 self.check = None;

@@ -59,7 +59,10 @@ fn error_of_reply(reply: Value) -> RedisError
 {
     match reply {
         Value::ServerError(error) => RedisError::Server(error),
-        _ => RedisError::Parse,
+        other => {
+            drop(other);
+            RedisError::Parse
+        }
     }
 }
 

@@ -125,6 +125,8 @@ fn put(row: &mut Seq<Value>, place: usize, value: Value)
 {
     if place < row.len() {
         row.set(place, value);
+    } else {
+        drop(value);
     }
 }
 

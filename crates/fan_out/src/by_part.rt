@@ -158,11 +158,11 @@ fn push_reply(alloc: Global, pairs: &mut Pairs, part: &PartResult) -> Result<(),
     let Some(ended) = &part.ended else {
         return Ok(());
     };
-    let Some(reply) = reply_in(alloc, &ended.end)? else {
-        return Ok(());
-    };
     let address = address_text(alloc, &part.address)?;
-    pairs.push(Value::BulkString(address), reply)
+    match reply_in(alloc, &ended.end)? {
+        Some(reply) => pairs.push(Value::BulkString(address), reply),
+        None => Ok(()),
+    }
 }
 
 /// The replies of all parts, each under the address of its node.

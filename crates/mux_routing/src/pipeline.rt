@@ -65,28 +65,36 @@ impl PipelineRoute {
     }
 }
 
+/// The route of a command that goes there.
+fn route_in(routing: &Option<RoutingInfo>, draw: u64) -> PipelineRoute
+    ensures route { result.route ≡ route_in draw routing.now }
+    ensures draw { result.used_draw ≡ is_drawn routing.now }
+{
+    match routing {
+        Some(RoutingInfo::SingleNode(SingleNodeRoutingInfo::SpecificNode(route))) => {
+            PipelineRoute::fixed(Some(*route))
+        }
+        Some(RoutingInfo::SingleNode(SingleNodeRoutingInfo::RandomPrimary)) => {
+            PipelineRoute::drawn(draw)
+        }
+        Some(RoutingInfo::SingleNode(SingleNodeRoutingInfo::Random)) => PipelineRoute::fixed(None),
+        Some(RoutingInfo::SingleNode(SingleNodeRoutingInfo::ByAddress(_))) => {
+            PipelineRoute::fixed(None)
+        }
+        Some(RoutingInfo::MultiNode(_, _)) => PipelineRoute::fixed(None),
+        None => PipelineRoute::fixed(None),
+    }
+}
+
 /// The route of one command.
 fn route_of(alloc: Global, cmd: &Cmd, draw: u64) -> Result<PipelineRoute, AllocError>
     ensures route { IfOk result (λ r. r.route ≡ route_in draw (routing_of cmd.now.args)) }
     ensures draw { IfOk result (λ r. r.used_draw ≡ is_drawn (routing_of cmd.now.args)) }
 {
     let routing = RoutingInfo::for_routable(alloc, cmd)?;
-    match routing {
-        Some(RoutingInfo::SingleNode(SingleNodeRoutingInfo::SpecificNode(route))) => Ok(
-            PipelineRoute::fixed(Some(route)),
-        ),
-        Some(RoutingInfo::SingleNode(SingleNodeRoutingInfo::RandomPrimary)) => Ok(
-            PipelineRoute::drawn(draw),
-        ),
-        Some(RoutingInfo::SingleNode(SingleNodeRoutingInfo::Random)) => Ok(PipelineRoute::fixed(
-            None,
-        )),
-        Some(RoutingInfo::SingleNode(SingleNodeRoutingInfo::ByAddress(_))) => Ok(
-            PipelineRoute::fixed(None),
-        ),
-        Some(RoutingInfo::MultiNode(_, _)) => Ok(PipelineRoute::fixed(None)),
-        None => Ok(PipelineRoute::fixed(None)),
-    }
+    let route = route_in(&routing, draw);
+    drop(routing);
+    Ok(route)
 }
 
 /// Whether a route is to the primary.

@@ -97,7 +97,10 @@ fn check_watch(answer: Result<Value, CallError>) -> Result<(), CallError>
             let value = Value::ServerError(error);
             Err(CallError::Redis(RedisError::Convert { value }))
         }
-        Ok(_) => Ok(()),
+        Ok(value) => {
+            drop(value);
+            Ok(())
+        }
         Err(error) => Err(error),
     }
 }
@@ -107,7 +110,7 @@ fn call_unwatch<C: Calls>(alloc: Global, conn: &mut C, unwatch: &Cmd)
     requires { unwatch.now ≡ unwatch_all }
     ensures { Unwatches C.told conn.old conn.new }
 {
-    let _ = conn.call(alloc, unwatch);
+    drop(conn.call(alloc, unwatch));
 }
 
 /// The command WATCH with these keys.
