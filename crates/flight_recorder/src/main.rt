@@ -2,8 +2,6 @@
 #![tactic(auto)]
 
 mod recording;
-#[cfg(test)]
-mod tests;
 
 use crate::recording::run;
 use outside::{NetWorld, standard_input, standard_output};

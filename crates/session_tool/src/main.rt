@@ -2,29 +2,9 @@
 //! script, and writes what is counted in its trace; or makes a live run, and writes the outcomes.
 #![tactic(auto)]
 
-mod bad;
-#[cfg(test)]
-mod calls;
-mod command;
-mod counting;
-mod generating;
-mod lines;
-#[cfg(test)]
-mod note_tests;
-mod noting;
-mod offer;
-mod reading;
-mod replaying;
-mod rounds;
-#[cfg(test)]
-mod rows;
-mod running;
-#[cfg(test)]
-mod tests;
-
-use crate::running::run;
 use outside::{NetWorld, StdSink, standard_input, standard_output};
 use program_ends::Status;
+use session_program::run;
 use std::alloc::{AllocError, Global};
 use std::env::Args;
 use std::io::ErrorKind;
