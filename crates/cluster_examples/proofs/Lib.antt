@@ -1,2 +1,4 @@
+mod ClientWords
 mod Computed
 mod Redirected
+mod Turning

@@ -1,3 +1,16 @@
 pub mod Tables
+pub mod ClientNodes
+pub mod ClientsRefused
+pub mod ClientsAsked
 pub mod Retries
 pub mod Routes
+pub mod Stories
+pub mod Turns
+pub mod Reconnects
+pub mod Refreshes
+pub mod Repairs
+pub mod Tries
+pub mod PartTries
+pub mod Folds
+pub mod FoldPolicies
+pub mod FoldWholes

@@ -1,9 +1,16 @@
-//! Tests of connections, by public calls alone.
+//! Tests of links, connections, pushes and managers, by public calls alone.
 #![tactic(auto)]
 
 #[cfg(test)]
-mod calls;
+mod acts;
 #[cfg(test)]
-mod clients;
+mod connections;
+#[cfg(test)]
+mod links;
+pub mod managers;
+#[cfg(test)]
+mod pushes;
+#[cfg(test)]
+mod servers;
 #[cfg(test)]
 mod threads;

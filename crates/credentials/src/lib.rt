@@ -6,8 +6,6 @@ mod message;
 mod refresh;
 mod retry;
 mod streaming;
-#[cfg(test)]
-mod tests;
 mod threshold;
 
 pub use basic_auth::BasicAuth;

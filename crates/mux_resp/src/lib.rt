@@ -14,6 +14,3 @@ pub use resp_value::{
 pub use resp_write::{
     ArgsIter, Cmd, CmdIter, Pipeline, SubscriptionAction, ToRedisArgs, canonical_text, cmd, pipe,
 };
-
-#[cfg(test)]
-mod tests;

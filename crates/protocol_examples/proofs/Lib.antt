@@ -6,3 +6,6 @@ pub mod Again
 pub mod FirstBytes
 pub mod Others
 pub mod Addresses
+pub mod Urls
+pub mod Setups
+pub mod Renewed

@@ -9,3 +9,4 @@ pub mod Canonical
 pub mod Tracking
 pub mod Routes
 pub mod SlotRows
+pub mod Connections

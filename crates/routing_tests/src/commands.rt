@@ -217,7 +217,8 @@ const ROWS: [(&str, Want); 137] = [
     ("CLIENT foo", Want::Foo(SlotAddr::Master)),
 ];
 
-fn command(alloc: Global, text: &str) -> Result<Cmd, AllocError> {
+/// The command of the words of a text.
+pub fn command(alloc: Global, text: &str) -> Result<Cmd, AllocError> {
     let mut cmd = Cmd::new(alloc);
     for word in text.split_whitespace() {
         cmd.arg(alloc, word.as_bytes())?;
@@ -254,7 +255,7 @@ fn is_wanted(got: &Option<RoutingInfo>, want: Want) -> bool {
 }
 
 /// Where the command of a text goes.
-fn routing(alloc: Global, text: &str) -> Result<Option<RoutingInfo>, AllocError> {
+pub fn routing(alloc: Global, text: &str) -> Result<Option<RoutingInfo>, AllocError> {
     let cmd = command(alloc, text)?;
     RoutingInfo::for_routable(alloc, &cmd)
 }
@@ -379,7 +380,7 @@ fn has_bytes(alloc: Global, text: &str, bytes: &[u8]) -> Result<bool, AllocError
 }
 
 /// Whether a command and the command of a text have the same bytes.
-fn is_command(alloc: Global, cmd: &Cmd, text: &str) -> Result<bool, AllocError> {
+pub fn is_command(alloc: Global, cmd: &Cmd, text: &str) -> Result<bool, AllocError> {
     let packed = cmd.get_packed_command(alloc)?;
     has_bytes(alloc, text, packed.as_slice())
 }

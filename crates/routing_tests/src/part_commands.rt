@@ -1,26 +1,7 @@
+use crate::commands::{command, is_command, routing};
 use command_table::{MultipleNodeRoutingInfo, RoutingInfo, SlotParts};
 use resp_write::Cmd;
 use std::alloc::{AllocError, Global};
-
-fn command(alloc: Global, text: &str) -> Result<Cmd, AllocError> {
-    let mut cmd = Cmd::new(alloc);
-    for word in text.split(' ') {
-        cmd.arg(alloc, word.as_bytes())?;
-    }
-    Ok(cmd)
-}
-
-/// Whether a command and the command of that text have the same bytes.
-fn is_command(alloc: Global, part: &Cmd, text: &str) -> Result<bool, AllocError> {
-    let packed = part.get_packed_command(alloc)?;
-    has_bytes(alloc, text, packed.as_slice())
-}
-
-/// Whether the command of that text has these bytes.
-fn has_bytes(alloc: Global, text: &str, bytes: &[u8]) -> Result<bool, AllocError> {
-    let wanted = command(alloc, text)?;
-    Ok(wanted.get_packed_command(alloc)?.as_slice() == bytes)
-}
 
 /// Whether a command's part of place `k` is the wanted one; without a wanted one, whether there is none.
 fn is_part(
@@ -47,12 +28,6 @@ fn give(
 ) -> Result<bool, AllocError> {
     let cmd = command(alloc, text)?;
     is_part(alloc, &cmd, parts, k, wanted)
-}
-
-/// Where the command of a text goes.
-fn routing(alloc: Global, text: &str) -> Result<Option<RoutingInfo>, AllocError> {
-    let cmd = command(alloc, text)?;
-    RoutingInfo::for_routable(alloc, &cmd)
 }
 
 /// Whether the parts of one command's route give that part of another command.

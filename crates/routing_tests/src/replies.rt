@@ -1,5 +1,6 @@
 use mux_routing::{SlotRow, SlotRows, parse_slots};
-use resp_read::Reader;
+use resp_read::{ReadError, Reader};
+use resp_value::Value;
 use std::alloc::{AllocError, Global};
 
 /// What a server of version 7 answers to CLUSTER SLOTS on RESP2: each node with its id and an array of metadata. The
@@ -27,14 +28,25 @@ const RESP3: &[u8] = b"*3\r\n\
     *3\r\n:10923\r\n:16383\r\n\
     *4\r\n$1\r\n?\r\n:30003\r\n$40\r\n044ec91f325b7595e76dbcb18cc688b6a5b434a1\r\n%0\r\n";
 
-/// The rows that the bytes of a reply give, where they are a reply of that shape.
-fn rows_in(alloc: Global, bytes: &[u8]) -> Result<Option<SlotRows>, AllocError> {
+/// The value that some bytes are.
+pub fn value(alloc: Global, bytes: &[u8]) -> Result<Option<Value>, AllocError> {
     let mut reader = Reader::new(alloc);
     reader.feed(bytes)?;
-    let Ok(Some(reply)) = reader.next_value(alloc) else {
+    match reader.next_value(alloc) {
+        Ok(value) => Ok(value),
+        Err(ReadError::Parse) => Ok(None),
+        Err(ReadError::NoMemory) => Err(AllocError),
+    }
+}
+
+/// The rows that the bytes of a reply give, where they are a reply of that shape.
+fn rows_in(alloc: Global, bytes: &[u8]) -> Result<Option<SlotRows>, AllocError> {
+    let Some(reply) = value(alloc, bytes)? else {
         return Ok(None);
     };
-    match parse_slots(alloc, &reply, b"answer.host") {
+    let told = parse_slots(alloc, &reply, b"answer.host");
+    drop(reply);
+    match told {
         Ok(rows) => Ok(Some(rows)),
         Err(_) => Ok(None),
     }

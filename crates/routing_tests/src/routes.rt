@@ -1,12 +1,13 @@
 ghost use Rattle.std.specs.Prelude.{◌≡◌, ◌<◌, ◌^◌};
 
+use crate::commands::command;
 use containers::Bytes;
 use mux_routing::{
     NodeAddress, ReadRoutingStrategy, ReadStrategy, Route, RouteError, SlotAddr, SlotMap, SlotRows,
     SlotsError, parse_slots, route_for_pipeline, route_with_draw,
 };
 use resp_value::{Value, Values};
-use resp_write::{Cmd, Pipeline};
+use resp_write::Pipeline;
 use std::alloc::{AllocError, Global};
 use std::test::Fail;
 
@@ -136,7 +137,10 @@ fn row_reply(
 fn tells(alloc: Global, case: &(i64, i64, Host, i64, Told)) -> Result<bool, AllocError> {
     let reply = row_reply(alloc, case.0, case.1, case.2, case.3)?;
     let got = parse_slots(alloc, &reply, b"answer.host");
-    Ok(is_told(&got, case.3, case.4))
+    drop(reply);
+    let told = is_told(&got, case.3, case.4);
+    drop(got);
+    Ok(told)
 }
 
 #[test]
@@ -170,7 +174,11 @@ fn odd_reply(alloc: Global, odd: Odd) -> Result<Value, AllocError> {
 /// Whether a reply of another shape is refused.
 fn is_refused(alloc: Global, odd: Odd) -> Result<bool, AllocError> {
     let reply = odd_reply(alloc, odd)?;
-    Ok(matches!(parse_slots(alloc, &reply, b"h"), Err(SlotsError::Parse)))
+    let got = parse_slots(alloc, &reply, b"h");
+    drop(reply);
+    let refused = matches!(&got, Err(SlotsError::Parse));
+    drop(got);
+    Ok(refused)
 }
 
 const ODD: [Odd; 5] = [
@@ -192,8 +200,12 @@ fn other_shapes_are_refused(rt: HostRuntime) -> Result<(), AllocError> {
 /// How many rows an empty list has.
 fn rows_of_nothing(alloc: Global) -> Result<usize, SlotsError> {
     let reply = Value::Array(Values::new(alloc));
-    let rows = parse_slots(alloc, &reply, b"h")?;
-    Ok(rows.len())
+    let told = parse_slots(alloc, &reply, b"h");
+    drop(reply);
+    let rows = told?;
+    let count = rows.len();
+    drop(rows);
+    Ok(count)
 }
 
 #[test]
@@ -218,8 +230,12 @@ fn unknown_replica(alloc: Global) -> Result<Value, AllocError> {
 /// Whether an unknown replica is left out.
 fn leaves_out(alloc: Global) -> Result<bool, SlotsError> {
     let reply = unknown_replica(alloc)?;
-    let rows = parse_slots(alloc, &reply, b"answer.host")?;
-    Ok(has_one_node(&rows))
+    let told = parse_slots(alloc, &reply, b"answer.host");
+    drop(reply);
+    let rows = told?;
+    let is_one = has_one_node(&rows);
+    drop(rows);
+    Ok(is_one)
 }
 
 #[test]
@@ -253,8 +269,12 @@ fn map_reply(alloc: Global) -> Result<Value, AllocError> {
 
 fn map(alloc: Global) -> Result<SlotMap, SlotsError> {
     let reply = map_reply(alloc)?;
-    let rows = parse_slots(alloc, &reply, b"h")?;
-    Ok(SlotMap::from_rows(alloc, &rows)?)
+    let told = parse_slots(alloc, &reply, b"h");
+    drop(reply);
+    let rows = told?;
+    let made = SlotMap::from_rows(alloc, &rows);
+    drop(rows);
+    Ok(made?)
 }
 
 /// Slots with the host of the primary.
@@ -469,14 +489,6 @@ fn replicas_stand_in(rt: HostRuntime) -> Result<(), Fail> {
     Ok(())
 }
 
-fn command(alloc: Global, text: &str) -> Result<Cmd, AllocError> {
-    let mut cmd = Cmd::new(alloc);
-    for word in text.split_whitespace() {
-        cmd.arg(alloc, word.as_bytes())?;
-    }
-    Ok(cmd)
-}
-
 /// A pipeline of the commands between semicolons.
 fn pipeline(alloc: Global, text: &str) -> Result<Pipeline, AllocError> {
     let mut pipeline = Pipeline::new(alloc);
@@ -543,7 +555,6 @@ fn pipelines_have_routes(rt: HostRuntime) -> Result<(), AllocError> {
     Ok(())
 }
 
-/// A pick through the trait alone.
 /// Pipelines with whether the draw is used for their route.
 const DRAWN: [(&str, bool); 3] = [
     ("GET foo; EVAL x 0 foo; FLUSHALL", true),
@@ -568,6 +579,7 @@ fn draws_are_told(rt: HostRuntime) -> Result<(), AllocError> {
     Ok(())
 }
 
+/// A pick through the trait alone.
 fn picked<R: ReadRoutingStrategy>(strategy: &mut R, replicas: u32) -> u32
     requires { 0 < replicas }
 {

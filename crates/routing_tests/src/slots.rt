@@ -1,3 +1,4 @@
+use crate::nodes::is_at;
 use containers::Bytes;
 use slot_hash::{AddressError, NodeAddress, key_slot};
 use std::alloc::{AllocError, Global};
@@ -64,7 +65,7 @@ const ADDRESSES: [(&[u8], Option<(&[u8], u16)>); 16] = [
 ];
 
 fn is_address(address: &NodeAddress, wanted: &(&[u8], u16)) -> bool {
-    address.host.as_slice() == wanted.0 && address.port == wanted.1
+    is_at(address, wanted.0, wanted.1)
 }
 
 /// Whether a copy of an address has that host and that port.

@@ -1,13 +1,11 @@
-//! Tests of sessions and their callers, by public calls alone.
+//! Tests of sessions and their callers, of live runs, and of the lines that these have in scripts, by public calls alone.
 #![tactic(auto)]
 
 #[cfg(test)]
-mod callers;
+mod given;
 #[cfg(test)]
-mod meetings;
-#[cfg(test)]
-mod pushes;
+mod live;
 #[cfg(test)]
 mod sessions;
 #[cfg(test)]
-mod threads;
+mod texts;

@@ -8,6 +8,3 @@ mod tracker;
 pub use laws::{one_pipeline_resubscribes, the_last_command_decides};
 pub use resp_write::SubscriptionAction;
 pub use tracker::SubscriptionTracker;
-
-#[cfg(test)]
-mod tests;

@@ -1,5 +1,0 @@
-use Rattle.std.proofs.Common.{refl}
-use Rattle.builder_examples.proofs.a_request_may_take_so_long.Goals as goal
-
-pub returns : goal.returns
-returns c = record { matched = refl; unlimited = refl; longer = refl }

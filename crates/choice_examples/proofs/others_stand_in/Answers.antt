@@ -1,8 +1,0 @@
-use Rattle.std.proofs.Common.{refl}
-use Rattle.mux_routing.specs.Shards.{address_less, shard_at}
-use Rattle.route_choice.specs.Resolver.{resolution}
-use Rattle.choice_examples.proofs.others_stand_in.Goals as goal
-
-pub returns : goal.returns
-unfolding address_less shard_at resolution
-returns c = record { replica = refl; primary = refl; random = refl; both_draws = refl; no_row = refl; none = refl; empty = refl }

@@ -1,5 +1,0 @@
-//! Tests of where requests go, by public calls alone.
-#![tactic(auto)]
-
-#[cfg(test)]
-mod tests;

@@ -1,6 +1,0 @@
-use Rattle.std.proofs.Common.{refl}
-use Rattle.connection_examples.proofs.Said.{newer_bytes, older_bytes, unnamed}
-use Rattle.connection_examples.proofs.these_are_setups.Goals as goal
-
-pub returns : goal.returns
-returns c = record { newer_bytes = newer_bytes; newer_commands = refl; older_bytes = older_bytes; older_commands = refl; unnamed = unnamed }

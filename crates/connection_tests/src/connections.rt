@@ -1,0 +1,4 @@
+//! Tests of connections that many callers share.
+
+mod calls;
+mod clients;

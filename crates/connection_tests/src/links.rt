@@ -1,0 +1,7 @@
+//! Tests of requests, events and links.
+
+mod configurations;
+mod deliveries;
+mod driving;
+mod events;
+mod requests;

@@ -1,4 +1,0 @@
-pub mod Tables
-pub mod Parts
-pub mod Policies
-pub mod Wholes

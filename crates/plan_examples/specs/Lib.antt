@@ -1,5 +1,0 @@
-pub mod Stories
-pub mod Turns
-pub mod Reconnects
-pub mod Refreshes
-pub mod Repairs
