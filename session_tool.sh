@@ -11,7 +11,7 @@ folder=$top/crates/$name
 out=$folder/out
 program=$out/$name
 # What a build from nothing leaves on the disk, and what one check takes of memory at most, in megabytes.
-disk=6000
+disk=9000
 memory=3000
 
 say() {
