@@ -1,11 +1,13 @@
-ghost use Rattle.std.specs.Prelude.{◌≡◌, ◌↔◌, IsTrue};
-ghost use Rattle.resp_value.specs.Data.{items_of, members_of};
+ghost use Rattle.std.specs.Prelude.{◌≡◌, ◌↔◌, IsTrue, true};
+ghost use Rattle.resp_value.specs.Data.{items_of, members_of, verbatim};
 ghost use Rattle.resp_value.specs.View.{data_of, pair_of};
+ghost use Rattle.resp_value.specs.Single.{is_single};
 ghost use Rattle.resp_value.specs.Same.{same, same_error, same_items, same_kind, same_members, same_pair};
 
 use crate::push_kind::PushKind;
 use crate::server_error::ServerError;
 use crate::value::{Pairs, Value, Values};
+use containers::Bytes;
 
 impl PartialEq for PushKind {
     ghost use Rattle.std.specs.Cmp.{partial_equiv_from_equiv};
@@ -146,12 +148,7 @@ fn same(one: &Value, other: &Value) -> bool
     ensures { result ≡ same (data_of one.now) (data_of other.now) }
 {
     match one {
-        Value::Nil => matches!(other, Value::Nil),
-        Value::Int(number) => matches!(other, Value::Int(n) if number == n),
-        Value::BulkString(text) => matches!(other, Value::BulkString(t) if text == t),
         Value::Array(items) => matches!(other, Value::Array(i) if same_items(items, i)),
-        Value::SimpleString(text) => matches!(other, Value::SimpleString(t) if text == t),
-        Value::Okay => matches!(other, Value::Okay),
         Value::Map(pairs) => matches!(other, Value::Map(p) if same_members(pairs, p)),
         Value::Attribute { inner, attributes } => match other {
             Value::Attribute {
@@ -161,18 +158,53 @@ fn same(one: &Value, other: &Value) -> bool
             _ => false,
         },
         Value::Set(items) => matches!(other, Value::Set(i) if same_items(items, i)),
-        Value::Double(text) => matches!(other, Value::Double(t) if text == t),
-        Value::Boolean(on) => matches!(other, Value::Boolean(o) if on == o),
-        Value::VerbatimString { format, text } => match other {
-            Value::VerbatimString { format: f, text: t } => format == f && text == t,
-            _ => false,
-        },
-        Value::BigNumber(text) => matches!(other, Value::BigNumber(t) if text == t),
         Value::Push { kind, parts } => match other {
             Value::Push { kind: k, parts: p } => same_kind(kind, k) && same_items(parts, p),
             _ => false,
         },
-        Value::ServerError(error) => matches!(other, Value::ServerError(e) if error == e),
+        _ => same_single(one, other),
+    }
+}
+
+/// Whether two values are the same, of which the one holds no other.
+fn same_single(one: &Value, other: &Value) -> bool
+    requires { is_single one.now ≡ true }
+    ensures { result ≡ same (data_of one.now) (data_of other.now) }
+{
+    match one {
+        Value::Nil => matches!(other, Value::Nil),
+        Value::Int(number) => matches!(other, Value::Int(n) if *number == *n),
+        Value::BulkString(text) => match other {
+            Value::BulkString(other) => *text == *other,
+            _ => false,
+        },
+        Value::SimpleString(text) => match other {
+            Value::SimpleString(other) => *text == *other,
+            _ => false,
+        },
+        Value::Okay => matches!(other, Value::Okay),
+        Value::Double(text) => match other {
+            Value::Double(other) => *text == *other,
+            _ => false,
+        },
+        Value::Boolean(on) => matches!(other, Value::Boolean(o) if *on == *o),
+        Value::VerbatimString { format, text } => same_verbatim(format, text, other),
+        Value::BigNumber(text) => match other {
+            Value::BigNumber(other) => *text == *other,
+            _ => false,
+        },
+        Value::ServerError(error) => matches!(other, Value::ServerError(e) if *error == *e),
+        _ => unreachable!(),
+    }
+}
+
+/// Whether a value is this text with this format.
+fn same_verbatim(format: &Bytes, text: &Bytes, other: &Value) -> bool
+    ensures { result ≡ same (verbatim format.now text.now) (data_of other.now) }
+{
+    match other {
+        Value::VerbatimString { format: f, text: t } => *format == *f && *text == *t,
+        _ => false,
     }
 }
 

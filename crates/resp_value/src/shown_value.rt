@@ -11,16 +11,14 @@ impl fmt::Debug for Value {
 impl fmt::Debug for Values {
     fn fmt<W: fmt::Write>(&self, f: &mut fmt::Formatter<W>) -> fmt::Result {
         f.write_str("[")?;
-        show_items(f, self)?;
-        f.write_str("]")
+        show_items(f, self, "]")
     }
 }
 
 impl fmt::Debug for Pairs {
     fn fmt<W: fmt::Write>(&self, f: &mut fmt::Formatter<W>) -> fmt::Result {
         f.write_str("{")?;
-        show_members(f, self)?;
-        f.write_str("}")
+        show_members(f, self, "}")
     }
 }
 
@@ -28,19 +26,24 @@ impl fmt::Debug for Pairs {
 #[cycle(shown)]
 fn show<W: fmt::Write>(f: &mut fmt::Formatter<W>, value: &Value) -> fmt::Result {
     show_front(f, value)?;
+    show_held(f, value)
+}
+
+/// Shows what a value holds, and closes it. Of a value that holds no other this is nothing.
+#[cycle(shown)]
+fn show_held<W: fmt::Write>(f: &mut fmt::Formatter<W>, value: &Value) -> fmt::Result {
     match value {
-        Value::Array(items) => show_items(f, items)?,
-        Value::Map(pairs) => show_members(f, pairs)?,
+        Value::Array(items) => show_items(f, items, ")"),
+        Value::Map(pairs) => show_members(f, pairs, ")"),
         Value::Attribute { inner, attributes } => {
             show(f, inner.get())?;
             f.write_str("; ")?;
-            show_members(f, attributes)?;
+            show_members(f, attributes, ")")
         }
-        Value::Set(items) => show_items(f, items)?,
-        Value::Push { kind: _, parts } => show_items(f, parts)?,
-        _ => return Ok(()),
+        Value::Set(items) => show_items(f, items, ")"),
+        Value::Push { kind: _, parts } => show_items(f, parts, ")"),
+        _ => Ok(()),
     }
-    f.write_str(")")
 }
 
 /// Shows all of a value that holds no other, and of another what stands before those that it holds.
@@ -60,16 +63,25 @@ fn show_front<W: fmt::Write>(f: &mut fmt::Formatter<W>, value: &Value) -> fmt::R
 /// Shows a number, a text, a truth or an error, and of another value nothing.
 fn show_single<W: fmt::Write>(f: &mut fmt::Formatter<W>, value: &Value) -> fmt::Result {
     match value {
-        Value::Int(number) => write!(f, "int({number})"),
+        Value::Int(number) => show_plain(f, "int", number),
         Value::BulkString(text) => show_text(f, "bulk-string", text),
         Value::SimpleString(text) => show_text(f, "simple-string", text),
         Value::Double(text) => show_numeral(f, "double", text),
-        Value::Boolean(on) => write!(f, "boolean({on})"),
+        Value::Boolean(on) => show_plain(f, "boolean", on),
         Value::VerbatimString { format, text } => show_verbatim(f, format, text),
         Value::BigNumber(text) => show_numeral(f, "big-number", text),
         Value::ServerError(error) => fmt::Debug::fmt(error, f),
         _ => Ok(()),
     }
+}
+
+/// Shows a number or a truth behind the name of its form.
+fn show_plain<W: fmt::Write, T: fmt::Display>(
+    f: &mut fmt::Formatter<W>,
+    name: &str,
+    value: &T,
+) -> fmt::Result {
+    write!(f, "{name}({value})")
 }
 
 /// Shows a text, in quotes, behind the name of its form.
@@ -91,28 +103,28 @@ fn show_verbatim<W: fmt::Write>(
     write!(f, "verbatim-string({format:?}, {text:?})")
 }
 
-/// Shows values, separated by commas.
+/// Shows values, separated by commas, and how they end.
 #[cycle(shown)]
-fn show_items<W: fmt::Write>(f: &mut fmt::Formatter<W>, values: &Values) -> fmt::Result {
+fn show_items<W: fmt::Write>(f: &mut fmt::Formatter<W>, values: &Values, end: &str) -> fmt::Result {
     for (index, value) in values.as_slice().iter().enumerate() {
         if index > 0 {
             f.write_str(", ")?;
         }
         show(f, value)?;
     }
-    Ok(())
+    f.write_str(end)
 }
 
-/// Shows keys, each with its value, separated by commas.
+/// Shows keys, each with its value, separated by commas, and how they end.
 #[cycle(shown)]
-fn show_members<W: fmt::Write>(f: &mut fmt::Formatter<W>, pairs: &Pairs) -> fmt::Result {
+fn show_members<W: fmt::Write>(f: &mut fmt::Formatter<W>, pairs: &Pairs, end: &str) -> fmt::Result {
     for (index, pair) in pairs.as_slice().iter().enumerate() {
         if index > 0 {
             f.write_str(", ")?;
         }
         show_pair(f, &pair.0, &pair.1)?;
     }
-    Ok(())
+    f.write_str(end)
 }
 
 /// Shows a key and its value.

@@ -1,3 +1,7 @@
+ghost use Rattle.std.specs.Prelude.{◌≡◌, IfOk};
+ghost use Rattle.resp_value.specs.View.{data_of};
+ghost use Rattle.resp_value.specs.declared.value.Value.TheVariants.{Attribute, Push, VerbatimString};
+
 use crate::push_kind::PushKind;
 use crate::server_error::ServerError;
 use containers::Bytes;
@@ -188,7 +192,7 @@ impl Values {
         ensures { IfOk result (λ v. v ≡ self.now) }
     {
         let mut copies = Values::new(alloc);
-        for item in &self.items {
+        for item in self.as_slice() {
             copies.push(item.clone(alloc)?)?;
         }
         Ok(copies)
@@ -255,7 +259,7 @@ impl Pairs {
         ensures { IfOk result (λ v. v ≡ self.now) }
     {
         let mut copies = Pairs::new(alloc);
-        for item in &self.items {
+        for item in self.as_slice() {
             let key = item.0.clone(alloc)?;
             match item.1.clone(alloc) {
                 Ok(value) => copies.push(key, value)?,
@@ -306,34 +310,76 @@ impl Value {
         match self {
             Value::Nil => Ok(Value::Nil),
             Value::Int(n) => Ok(Value::Int(*n)),
-            Value::BulkString(text) => Ok(Value::BulkString(text.clone(alloc)?)),
-            Value::Array(items) => Ok(Value::Array(items.clone(alloc)?)),
-            Value::SimpleString(text) => Ok(Value::SimpleString(text.clone(alloc)?)),
+            Value::BulkString(text) => text.clone(alloc).map(Value::BulkString),
+            Value::Array(items) => items.clone(alloc).map(Value::Array),
+            Value::SimpleString(text) => text.clone(alloc).map(Value::SimpleString),
             Value::Okay => Ok(Value::Okay),
-            Value::Map(pairs) => Ok(Value::Map(pairs.clone(alloc)?)),
-            Value::Attribute { inner, attributes } => {
-                let value = inner.get().clone(alloc)?;
-                let attributes = attributes.clone(alloc)?;
-                Ok(Value::Attribute {
-                    inner: Inner::new(alloc, value)?,
-                    attributes,
-                })
-            }
-            Value::Set(items) => Ok(Value::Set(items.clone(alloc)?)),
-            Value::Double(text) => Ok(Value::Double(text.clone(alloc)?)),
+            Value::Map(pairs) => pairs.clone(alloc).map(Value::Map),
+            Value::Attribute { inner, attributes } => clone_attribute(alloc, inner, attributes),
+            Value::Set(items) => items.clone(alloc).map(Value::Set),
+            Value::Double(text) => text.clone(alloc).map(Value::Double),
             Value::Boolean(on) => Ok(Value::Boolean(*on)),
-            Value::VerbatimString { format, text } => {
-                let format = format.clone(alloc)?;
-                let text = text.clone(alloc)?;
-                Ok(Value::VerbatimString { format, text })
-            }
-            Value::BigNumber(text) => Ok(Value::BigNumber(text.clone(alloc)?)),
-            Value::Push { kind, parts } => {
-                let kind = kind.clone(alloc)?;
-                let parts = parts.clone(alloc)?;
-                Ok(Value::Push { kind, parts })
-            }
-            Value::ServerError(error) => Ok(Value::ServerError(error.clone(alloc)?)),
+            Value::VerbatimString { format, text } => clone_verbatim(alloc, format, text),
+            Value::BigNumber(text) => text.clone(alloc).map(Value::BigNumber),
+            Value::Push { kind, parts } => clone_push(alloc, kind, parts),
+            Value::ServerError(error) => error.clone(alloc).map(Value::ServerError),
+        }
+    }
+}
+
+/// An attribute of an equal value and equal pairs.
+#[cycle(copy)]
+fn clone_attribute(alloc: Global, inner: &Inner, attributes: &Pairs) -> Result<Value, AllocError>
+    ensures { IfOk result (λ v. v ≡ Attribute inner.now attributes.now) }
+{
+    let attributes = attributes.clone(alloc)?;
+    match inner.get().clone(alloc) {
+        Ok(value) => with_attributes(alloc, value, attributes),
+        Err(error) => {
+            drop(attributes);
+            Err(error)
+        }
+    }
+}
+
+/// An attribute of this value and these pairs.
+fn with_attributes(alloc: Global, value: Value, attributes: Pairs) -> Result<Value, AllocError>
+    ensures { IfOk result (λ v. v ≡ Attribute (data_of value) attributes) }
+{
+    match Inner::new(alloc, value) {
+        Ok(inner) => Ok(Value::Attribute { inner, attributes }),
+        Err(error) => {
+            drop(attributes);
+            Err(error)
+        }
+    }
+}
+
+/// A push of an equal kind and equal parts.
+#[cycle(copy)]
+fn clone_push(alloc: Global, kind: &PushKind, parts: &Values) -> Result<Value, AllocError>
+    ensures { IfOk result (λ v. v ≡ Push kind.now parts.now) }
+{
+    let kind = kind.clone(alloc)?;
+    match parts.clone(alloc) {
+        Ok(parts) => Ok(Value::Push { kind, parts }),
+        Err(error) => {
+            drop(kind);
+            Err(error)
+        }
+    }
+}
+
+/// A text of an equal format and equal bytes.
+fn clone_verbatim(alloc: Global, format: &Bytes, text: &Bytes) -> Result<Value, AllocError>
+    ensures { IfOk result (λ v. v ≡ VerbatimString format.now text.now) }
+{
+    let format = format.clone(alloc)?;
+    match text.clone(alloc) {
+        Ok(text) => Ok(Value::VerbatimString { format, text }),
+        Err(error) => {
+            drop(format);
+            Err(error)
         }
     }
 }
