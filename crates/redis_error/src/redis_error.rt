@@ -185,37 +185,33 @@ impl RedisError {
             RedisError::EmptyCommand => Ok(RedisError::EmptyCommand),
             RedisError::Closed => Ok(RedisError::Closed),
             RedisError::Io { fault } => Ok(RedisError::Io { fault: *fault }),
-            RedisError::CreateFailed { last } => {
-                let last = last.clone(alloc)?;
-                Ok(RedisError::CreateFailed { last })
-            }
+            RedisError::CreateFailed { last } => last
+                .clone(alloc)
+                .map(|last| RedisError::CreateFailed { last }),
             RedisError::Parse => Ok(RedisError::Parse),
-            RedisError::Convert { value } => {
-                let value = value.clone(alloc)?;
-                Ok(RedisError::Convert { value })
-            }
+            RedisError::Convert { value } => value
+                .clone(alloc)
+                .map(|value| RedisError::Convert { value }),
             RedisError::NotFound => Ok(RedisError::NotFound),
-            RedisError::Server(error) => Ok(RedisError::Server(error.clone(alloc)?)),
-            RedisError::Aborted { errors } => {
-                let errors = errors.clone(alloc)?;
-                Ok(RedisError::Aborted { errors })
-            }
+            RedisError::Server(error) => error.clone(alloc).map(RedisError::Server),
+            RedisError::Aborted { errors } => errors
+                .clone(alloc)
+                .map(|errors| RedisError::Aborted { errors }),
             RedisError::AuthFailed { text } => {
-                let text = text.clone(alloc)?;
-                Ok(RedisError::AuthFailed { text })
+                text.clone(alloc)
+                    .map(|text| RedisError::AuthFailed { text })
             }
             RedisError::Credentials { text } => {
-                let text = text.clone(alloc)?;
-                Ok(RedisError::Credentials { text })
+                text.clone(alloc)
+                    .map(|text| RedisError::Credentials { text })
             }
             RedisError::CrossSlot { first, second } => Ok(RedisError::CrossSlot {
                 first: *first,
                 second: *second,
             }),
-            RedisError::RouteWithoutLink { routes } => {
-                let routes = routes.clone(alloc)?;
-                Ok(RedisError::RouteWithoutLink { routes })
-            }
+            RedisError::RouteWithoutLink { routes } => routes
+                .clone(alloc)
+                .map(|routes| RedisError::RouteWithoutLink { routes }),
             RedisError::TurnsSpent { turns } => Ok(RedisError::TurnsSpent { turns: *turns }),
         }
     }
