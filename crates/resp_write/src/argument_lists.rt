@@ -1,5 +1,6 @@
 ghost use Rattle.std.specs.Prelude.{IfOk};
 ghost use Rattle.resp_write.specs.Arguments.{IsWritten, and_then, of_each, of_part};
+ghost use Rattle.resp_write.specs.Command.{Command};
 
 use crate::arguments::ToRedisArgs;
 use crate::command::Cmd;
@@ -42,6 +43,21 @@ fn behind<T: ToRedisArgs>(alloc: Global, mut more: Cmd, value: &T) -> Result<Cmd
             Err(error)
         }
     }
+}
+
+/// A command, with the arguments of two values behind its own.
+fn behind_both<T: ToRedisArgs, U: ToRedisArgs>(
+    alloc: Global,
+    more: Cmd,
+    one: &T,
+    other: &U,
+) -> Result<Cmd, AllocError>
+    ensures { IfOk result (λ both. (first : Command)
+        × IsWritten T.args_of one.now more first × IsWritten U.args_of other.now first both) }
+{
+    let first = behind(alloc, more, one)?;
+    let both = behind(alloc, first, other)?;
+    Ok(both)
 }
 
 /// The arguments of each, in order.
@@ -97,10 +113,8 @@ impl<A: ToRedisArgs, B: ToRedisArgs, C: ToRedisArgs, D: ToRedisArgs, E: ToRedisA
 
     fn write_redis_args(&self, alloc: Global, cmd: &mut Cmd) -> Result<(), AllocError> {
         let more = Cmd::new(alloc);
-        let one = behind(alloc, more, &self.0)?;
-        let two = behind(alloc, one, &self.1)?;
-        let three = behind(alloc, two, &self.2)?;
-        let four = behind(alloc, three, &self.3)?;
+        let two = behind_both(alloc, more, &self.0, &self.1)?;
+        let four = behind_both(alloc, two, &self.2, &self.3)?;
         let five = behind(alloc, four, &self.4)?;
         cmd.append(five)
     }
@@ -122,12 +136,9 @@ impl<
 
     fn write_redis_args(&self, alloc: Global, cmd: &mut Cmd) -> Result<(), AllocError> {
         let more = Cmd::new(alloc);
-        let one = behind(alloc, more, &self.0)?;
-        let two = behind(alloc, one, &self.1)?;
-        let three = behind(alloc, two, &self.2)?;
-        let four = behind(alloc, three, &self.3)?;
-        let five = behind(alloc, four, &self.4)?;
-        let six = behind(alloc, five, &self.5)?;
+        let two = behind_both(alloc, more, &self.0, &self.1)?;
+        let four = behind_both(alloc, two, &self.2, &self.3)?;
+        let six = behind_both(alloc, four, &self.4, &self.5)?;
         cmd.append(six)
     }
 }

@@ -1,12 +1,16 @@
-ghost use Rattle.std.specs.Prelude.{◌≡◌, ◌++◌, ◌<◌, ◌^◌, OnOk, OnErr, IfOk, length};
+ghost use Rattle.std.specs.Prelude.{◌≡◌, ◌++◌, ◌<◌, ◌^◌, suc, true, OnOk, OnErr, IfOk, length};
+ghost use Rattle.std.specs.Str.{byte};
 ghost use Rattle.resp_value.specs.Data.{array, items_of, list_of, members_of, pairs_of};
+ghost use Rattle.resp_value.specs.Kinds.{kind_text};
+ghost use Rattle.resp_value.specs.Single.{is_single};
 ghost use Rattle.resp_value.specs.View.{data_of};
 ghost use Rattle.resp_write.specs.Canonical.{canonical, each_item, each_member};
+ghost use Rattle.resp_write.specs.Pack.{bulk_string, number_line};
 
 use crate::lines::{push_bulk_string, push_number_line, push_text_line};
 use crate::parts::{push_boolean, push_error, push_int, push_verbatim};
 use containers::Bytes;
-use resp_value::{Pairs, Value, Values};
+use resp_value::{Pairs, PushKind, Value, Values};
 use std::alloc::{AllocError, Global};
 
 /// How many values there are.
@@ -38,8 +42,7 @@ pub fn list_text(alloc: Global, values: &Values) -> Result<Bytes, AllocError>
     ensures { IfOk result (λ text. text ≡ canonical (array (items_of values.now))) }
 {
     let mut text = Bytes::new(alloc);
-    push_number_line(&mut text, b'*', count_of(values))?;
-    push_values(alloc, &mut text, values)?;
+    push_list(alloc, &mut text, b'*', values)?;
     Ok(text)
 }
 
@@ -57,15 +60,7 @@ fn push_value(alloc: Global, out: &mut Bytes, value: &Value) -> Result<(), Alloc
     ensures { OnOk result (out.new ≡ out.old ++ canonical (data_of value.now)) }
 {
     match value {
-        Value::Nil => push_text_line(out, b'_', b""),
-        Value::Int(number) => push_int(out, *number),
-        Value::BulkString(text) => push_bulk_string(out, text.as_slice()),
-        Value::Array(items) => {
-            push_number_line(out, b'*', count_of(items))?;
-            push_values(alloc, out, items)
-        }
-        Value::SimpleString(text) => push_text_line(out, b'+', text.as_slice()),
-        Value::Okay => push_text_line(out, b'+', b"OK"),
+        Value::Array(items) => push_list(alloc, out, b'*', items),
         Value::Map(pairs) => {
             push_number_line(out, b'%', count_of_pairs(pairs))?;
             push_pairs(alloc, out, pairs)
@@ -75,22 +70,53 @@ fn push_value(alloc: Global, out: &mut Bytes, value: &Value) -> Result<(), Alloc
             push_pairs(alloc, out, attributes)?;
             push_value(alloc, out, inner.get())
         }
-        Value::Set(items) => {
-            push_number_line(out, b'~', count_of(items))?;
-            push_values(alloc, out, items)
+        Value::Set(items) => push_list(alloc, out, b'~', items),
+        Value::Push { kind, parts } => {
+            push_kind(out, kind, parts)?;
+            push_values(alloc, out, parts)
         }
+        _ => push_single(alloc, out, value),
+    }
+}
+
+/// Appends a line of a first byte and how many values there are, and the values.
+#[cycle(text)]
+fn push_list(alloc: Global, out: &mut Bytes, first: u8, values: &Values) -> Result<(), AllocError>
+    ensures { OnOk result
+        (out.new ≡ out.old ++ number_line first (length (list_of (items_of values.now))) ++ each_item (items_of values.now)) }
+{
+    push_number_line(out, first, count_of(values))?;
+    push_values(alloc, out, values)
+}
+
+/// Appends how many parts a push has, and its kind.
+fn push_kind(out: &mut Bytes, kind: &PushKind, parts: &Values) -> Result<(), AllocError>
+    ensures { OnOk result (out.new ≡ out.old
+        ++ number_line (byte ">") (suc (length (list_of (items_of parts.now)))) ++ bulk_string (kind_text kind.now)) }
+{
+    push_number_line(out, b'>', count_of(parts) + 1)?;
+    push_bulk_string(out, kind.name())
+}
+
+/// Appends the canonical text of a value that holds no other.
+fn push_single(alloc: Global, out: &mut Bytes, value: &Value) -> Result<(), AllocError>
+    requires { is_single value.now ≡ true }
+    ensures { OnOk result (out.new ≡ out.old ++ canonical (data_of value.now)) }
+{
+    match value {
+        Value::Nil => push_text_line(out, b'_', b""),
+        Value::Int(number) => push_int(out, *number),
+        Value::BulkString(text) => push_bulk_string(out, text.as_slice()),
+        Value::SimpleString(text) => push_text_line(out, b'+', text.as_slice()),
+        Value::Okay => push_text_line(out, b'+', b"OK"),
         Value::Double(text) => push_text_line(out, b',', text.as_slice()),
         Value::Boolean(on) => push_boolean(out, *on),
         Value::VerbatimString { format, text } => {
             push_verbatim(out, format.as_slice(), text.as_slice())
         }
         Value::BigNumber(text) => push_text_line(out, b'(', text.as_slice()),
-        Value::Push { kind, parts } => {
-            push_number_line(out, b'>', count_of(parts) + 1)?;
-            push_bulk_string(out, kind.name())?;
-            push_values(alloc, out, parts)
-        }
         Value::ServerError(error) => push_error(alloc, out, error),
+        _ => unreachable!(),
     }
 }
 

@@ -1,17 +1,21 @@
-use Rattle.std.proofs.Common.{◌≡◌, ◌++◌, drop}
+use Rattle.std.proofs.Common.{◌≡◌, ◌+◌, suc, ◌++◌, drop}
 use Rattle.resp_value.specs.Data.{weight, list_weight, pairs_weight, items_of, members_of}
 use Rattle.resp_value.specs.View.{data_of, list_view, pairs_view}
 use Rattle.resp_write.specs.Canonical.{each_item, each_member}
 use Rattle.resp_write.proofs.value_text.+text.Given as goal
 
+-- twice the nodes, and a step for the line before a list
 abbrev pub decreases-push_pairs : goal.decreases-push_pairs
-decreases-push_pairs l = pairs_weight l.pairs.now
+decreases-push_pairs l = pairs_weight l.pairs.now + pairs_weight l.pairs.now
 
 abbrev pub decreases-push_values : goal.decreases-push_values
-decreases-push_values l = list_weight l.values.now
+decreases-push_values l = list_weight l.values.now + list_weight l.values.now
+
+abbrev pub decreases-push_list : goal.decreases-push_list
+decreases-push_list l = suc (list_weight l.values.now + list_weight l.values.now)
 
 abbrev pub decreases-push_value : goal.decreases-push_value
-decreases-push_value l = weight (data_of l.value.now)
+decreases-push_value l = weight (data_of l.value.now) + weight (data_of l.value.now)
 
 -- what is written and what is left are the whole
 abbrev pub invariant-push_pairs-loop-pair : goal.invariant-push_pairs-loop-pair

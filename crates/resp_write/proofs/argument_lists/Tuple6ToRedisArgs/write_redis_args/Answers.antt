@@ -6,19 +6,19 @@ use Rattle.resp_write.proofs.argument_lists.Tuple6ToRedisArgs.write_redis_args.G
 pub returns-clause-ok : goal.returns-clause-ok
 returns-clause-ok g c =
     let t = c.args.self.now in
-    let one = c.in_ok-one.one in
     let two = c.in_ok-two.two in
-    let three = c.in_ok-three.three in
     let four = c.in_ok-four.four in
-    let five = c.in_ok-five.five in
+    let first = c.in_ok-two.ensures in
+    let second = c.in_ok-four.ensures in
     let six = c.in_ok-six.six in
-    let first : IsWritten g.A.ToRedisArgs.args_of t.0 empty one =
-    subst (λ m. IsWritten g.A.ToRedisArgs.args_of t.0 m one) c.new-more.ensures c.in_ok-one.ensures
+    let third = c.in_ok-six.ensures in
+    let one : IsWritten g.A.ToRedisArgs.args_of t.0 empty first.0 =
+    subst (λ m. IsWritten g.A.ToRedisArgs.args_of t.0 m first.0) c.new-more.ensures first.1
     in
     written_at_end _ t c.args.cmd.now six c.append.new.self c.append.result c.append.ensures.ok (
-    written_next _ _ t empty five six (written_part (λ x. x.5) g.F.ToRedisArgs.args_of t five six c.in_ok-six.ensures) (
-    written_next _ _ t empty four five (written_part (λ x. x.4) g.E.ToRedisArgs.args_of t four five c.in_ok-five.ensures) (
-    written_next _ _ t empty three four (written_part (λ x. x.3) g.D.ToRedisArgs.args_of t three four c.in_ok-four.ensures) (
-    written_next _ _ t empty two three (written_part (λ x. x.2) g.C.ToRedisArgs.args_of t two three c.in_ok-three.ensures) (
-    written_next _ _ t empty one two (written_part (λ x. x.1) g.B.ToRedisArgs.args_of t one two c.in_ok-two.ensures) (
-    written_part (λ x. x.0) g.A.ToRedisArgs.args_of t empty one first))))))
+    written_next _ _ t empty third.0 six (written_part (λ x. x.5) g.F.ToRedisArgs.args_of t third.0 six third.2) (
+    written_next _ _ t empty four third.0 (written_part (λ x. x.4) g.E.ToRedisArgs.args_of t four third.0 third.1) (
+    written_next _ _ t empty second.0 four (written_part (λ x. x.3) g.D.ToRedisArgs.args_of t second.0 four second.2) (
+    written_next _ _ t empty two second.0 (written_part (λ x. x.2) g.C.ToRedisArgs.args_of t two second.0 second.1) (
+    written_next _ _ t empty first.0 two (written_part (λ x. x.1) g.B.ToRedisArgs.args_of t first.0 two first.2) (
+    written_part (λ x. x.0) g.A.ToRedisArgs.args_of t empty first.0 one))))))
