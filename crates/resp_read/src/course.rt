@@ -1,4 +1,4 @@
-ghost use Rattle.std.specs.Prelude.{◌≡◌, ◌+◌, [], ◌++◌, length, OnOk, OnErr};
+ghost use Rattle.std.specs.Prelude.{◌≡◌, ◌+◌, [], ◌∷◌, ◌++◌, length, OnOk, OnErr};
 ghost use Rattle.resp_read.specs.Limits.{AreAllowed};
 ghost use Rattle.resp_read.specs.Courses.{rest_of, unread, IsInTape, IsCourse, ReadsNext, NextCosts, AppendsAll, AllCosts};
 
@@ -166,7 +166,7 @@ impl Course {
     {
         loop {
             match self.next(alloc, limits, steps) {
-                Ok(value) => match out.push(value) {
+                Ok(value) => match keep(out, value) {
                     Ok(()) => {}
                     Err(_) => return Err(Refusal::NoMemory),
                 },
@@ -176,4 +176,13 @@ impl Course {
             }
         }
     }
+}
+
+/// One more value.
+fn keep(out: &mut Vec<Value>, value: Value) -> Result<(), AllocError>
+    ensures ok { OnOk result (out.new.items ≡ out.old.items ++ value ∷ []) }
+    ensures err { OnErr result (out.new.items ≡ out.old.items) }
+{
+    out.push(value)?;
+    Ok(())
 }

@@ -19,7 +19,7 @@ loop-value-preserved g c =
       course = c.in-Ok.ensures.reads.0;
       read = (
         so_far.0 ++ v ∷ [],
-        c.in-Ok-push.ensures.items ∙ ap (λ vs. vs ++ v ∷ []) so_far.1 ∙ append_assoc c.args.out.now.items so_far.0 (v ∷ []),
+        c.in-Ok-keep.ensures.ok ∙ ap (λ vs. vs ++ v ∷ []) so_far.1 ∙ append_assoc c.args.out.now.items so_far.0 (v ∷ []),
         one_value_more c.args.limits (rest_of c.args.self.now) (rest_of c.loop-value.self) (rest_of c.next.new.self) so_far.0 v so_far.2 c.in-Ok.ensures.reads.1,
       );
       costs = omega (arith, before, costs);
@@ -31,4 +31,4 @@ loop-value-smaller g c = takes_a_byte c.args.limits c.requires.allowed c.args.li
 pub returns-in-Err-clause-appends : goal.returns-in-Err-clause-appends
 returns-in-Err-clause-appends g c =
     let so_far = c.loop-value.invariant.read in
-    (so_far.0, rest_of c.loop-value.self, c.in-Err.ensures.items ∙ so_far.1, so_far.2)
+    (so_far.0, rest_of c.loop-value.self, c.in-Err.ensures.err ∙ so_far.1, so_far.2)
