@@ -104,44 +104,33 @@ impl Submission {
         ensures { IfOk result (λ s. s ≡ self.now) }
     {
         match self {
-            Submission::Cmd { args } => {
-                let args = args.clone(alloc)?;
-                Ok(Submission::Cmd { args })
-            }
+            Submission::Cmd { args } => args.clone(alloc).map(|args| Submission::Cmd { args }),
             Submission::NoReply { args } => {
-                let args = args.clone(alloc)?;
-                Ok(Submission::NoReply { args })
+                args.clone(alloc).map(|args| Submission::NoReply { args })
             }
-            Submission::Pipe { commands } => {
-                let commands = commands.clone(alloc)?;
-                Ok(Submission::Pipe { commands })
-            }
-            Submission::Multi { commands } => {
-                let commands = commands.clone(alloc)?;
-                Ok(Submission::Multi { commands })
-            }
+            Submission::Pipe { commands } => commands
+                .clone(alloc)
+                .map(|commands| Submission::Pipe { commands }),
+            Submission::Multi { commands } => commands
+                .clone(alloc)
+                .map(|commands| Submission::Multi { commands }),
             Submission::Packed {
                 offset,
                 count,
                 commands,
-            } => {
-                let commands = commands.clone(alloc)?;
-                Ok(Submission::Packed {
-                    offset: *offset,
-                    count: *count,
-                    commands,
-                })
-            }
+            } => commands.clone(alloc).map(|commands| Submission::Packed {
+                offset: *offset,
+                count: *count,
+                commands,
+            }),
             Submission::Subscription { action, names } => {
-                let names = names.clone(alloc)?;
-                Ok(Submission::Subscription {
+                names.clone(alloc).map(|names| Submission::Subscription {
                     action: *action,
                     names,
                 })
             }
             Submission::Ping { message } => {
-                let message = clone_message(alloc, message)?;
-                Ok(Submission::Ping { message })
+                clone_message(alloc, message).map(|message| Submission::Ping { message })
             }
         }
     }
@@ -153,10 +142,9 @@ impl EventKind {
         ensures { IfOk result (λ k. k ≡ self.now) }
     {
         match self {
-            EventKind::Submit { submission } => {
-                let submission = submission.clone(alloc)?;
-                Ok(EventKind::Submit { submission })
-            }
+            EventKind::Submit { submission } => submission
+                .clone(alloc)
+                .map(|submission| EventKind::Submit { submission }),
             EventKind::Cancel { submission } => Ok(EventKind::Cancel {
                 submission: *submission,
             }),
@@ -169,10 +157,9 @@ impl EventKind {
                 link: *link,
                 count: *count,
             }),
-            EventKind::Bytes { link, piece } => {
-                let piece = piece.clone(alloc)?;
-                Ok(EventKind::Bytes { link: *link, piece })
-            }
+            EventKind::Bytes { link, piece } => piece
+                .clone(alloc)
+                .map(|piece| EventKind::Bytes { link: *link, piece }),
             EventKind::Ended { link } => Ok(EventKind::Ended { link: *link }),
             EventKind::ReadFault { link, fault } => Ok(EventKind::ReadFault {
                 link: *link,
@@ -183,16 +170,12 @@ impl EventKind {
                 fault: *fault,
             }),
             EventKind::Fired { timer } => Ok(EventKind::Fired { timer: *timer }),
-            EventKind::Creds { source, auth } => {
-                let auth = auth.clone(alloc)?;
-                Ok(EventKind::Creds {
-                    source: *source,
-                    auth,
-                })
-            }
+            EventKind::Creds { source, auth } => auth.clone(alloc).map(|auth| EventKind::Creds {
+                source: *source,
+                auth,
+            }),
             EventKind::CredsError { source, text } => {
-                let text = text.clone(alloc)?;
-                Ok(EventKind::CredsError {
+                text.clone(alloc).map(|text| EventKind::CredsError {
                     source: *source,
                     text,
                 })
