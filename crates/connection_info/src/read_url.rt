@@ -1,6 +1,7 @@
 ghost use Rattle.std.specs.Prelude.{◌≡◌, Some, None, Ok, IfOk, IfErr, OnOk, is_ok, true, false};
 ghost use Rattle.url.specs.Parser.{parse_url};
-ghost use Rattle.connection_info.specs.Address.{address_in, address_of, has_scheme};
+ghost use Rattle.connection_info.specs.Address.{address_in, address_of, has_scheme, joined};
+ghost use Rattle.connection_info.specs.Credential.{credential_of};
 ghost use Rattle.connection_info.specs.Refusal.{RefusesUrl};
 
 use crate::address::{ConnectionInfo, RedisConnectionInfo};
@@ -8,6 +9,7 @@ use crate::credential::credential;
 use crate::host::host;
 use crate::open_error::OpenError;
 use crate::path::database;
+use crate::protocol::ProtocolVersion;
 use crate::query::protocol;
 use containers::Bytes;
 use std::alloc::Global;
@@ -44,6 +46,27 @@ fn address_in(alloc: Global, url: &Url) -> Result<ConnectionInfo, OpenError>
     let Some(protocol) = protocol(url)? else {
         return Err(OpenError::URL);
     };
+    match address_of_parts(alloc, url, host, db, protocol) {
+        Ok(info) => Ok(info),
+        Err(error) => Err(error),
+    }
+}
+
+/// The address of this host, with this database and protocol, and with the port and the credentials of a URL.
+fn address_of_parts(
+    alloc: Global,
+    url: &Url,
+    host: &[u8],
+    db: i64,
+    protocol: ProtocolVersion,
+) -> Result<ConnectionInfo, OpenError>
+    ensures ok { IfOk result (λ info.
+        joined url.now.port (Some host.now) (Some db) (Some protocol)
+        (credential_of url.now.username) (credential_of url.now.password) ≡ Some info) }
+    ensures err { IfErr result (RefusesUrl (
+        joined url.now.port (Some host.now) (Some db) (Some protocol)
+        (credential_of url.now.username) (credential_of url.now.password) ≡ None)) }
+{
     let username = credential(alloc, url.username())?;
     let password = credential(alloc, url.password().unwrap_or(""))?;
     let host = Bytes::from_slice(alloc, host)?;

@@ -80,17 +80,26 @@ fn push_protocol(out: &mut Bytes, protocol: ProtocolVersion) -> Result<(), Alloc
     }
 }
 
+/// Appends all of an address that stands behind the scheme.
+fn push_address(alloc: Global, out: &mut Bytes, info: &ConnectionInfo) -> Result<(), AllocError>
+    ensures { OnOk result (out.new ≡ out.old ++ user_part info.now.redis.username info.now.redis.password
+        ++ host_part info.now.host ++ port_part info.now.port ++ database_part info.now.redis.db
+        ++ protocol_part info.now.redis.protocol) }
+{
+    push_user(alloc, out, &info.redis)?;
+    push_host(out, info.host.as_slice())?;
+    push_port(out, info.port)?;
+    push_database(out, info.redis.db)?;
+    push_protocol(out, info.redis.protocol)
+}
+
 impl ConnectionInfo {
     /// The address as a URL, whether or not that is read as the same address.
     fn written(&self, alloc: Global) -> Result<Bytes, AllocError>
         ensures { IfOk result (λ text. text ≡ url_of self.now) }
     {
         let mut out = Bytes::from_slice(alloc, b"redis://")?;
-        push_user(alloc, &mut out, &self.redis)?;
-        push_host(&mut out, self.host.as_slice())?;
-        push_port(&mut out, self.port)?;
-        push_database(&mut out, self.redis.db)?;
-        push_protocol(&mut out, self.redis.protocol)?;
+        push_address(alloc, &mut out, self)?;
         Ok(out)
     }
 
