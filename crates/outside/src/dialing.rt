@@ -1,6 +1,6 @@
 use std::io;
 use std::io::ErrorKind;
-use std::net::{Net, OpenStream, SocketAddr, ToSocketAddrs};
+use std::net::{HostAddrs, Net, OpenStream, SocketAddr, ToSocketAddrs};
 use std::time::{Clock, Duration, Instant};
 
 /// Makes a stream's reads and writes return at once, and sends each write at once.
@@ -54,6 +54,25 @@ fn try_address<R: Net + Clock>(
     }
 }
 
+/// Tries addresses in order, until one answers or the time is over.
+fn connect_one_of<R: Net + Clock>(
+    rt: &R,
+    addresses: HostAddrs,
+    start: Instant,
+    limit: Duration,
+) -> io::Result<R::Stream> {
+    let mut waiting = addresses.size_hint().0;
+    let mut last = io::Error::from(ErrorKind::NotFound);
+    for address in addresses {
+        if let Some(ended) = try_address(rt, address, start, limit, waiting, &mut last) {
+            drop(last);
+            return ended;
+        }
+        waiting = waiting.saturating_sub(1);
+    }
+    Err(last)
+}
+
 /// Connects to a host within a limit of time: to each of its addresses in order, each within its share of the time that
 /// is left, until one answers. The error is the last address's, `TimedOut` where no time was left for it. Only the
 /// look-up of a name has no limit of its own: the system's resolver decides how long it takes.
@@ -65,14 +84,5 @@ pub(crate) fn connect<R: Net + Clock>(
 ) -> io::Result<R::Stream> {
     let addresses = (host, port).to_socket_addrs(rt)?;
     let start = Instant::now(rt)?;
-    let mut waiting = addresses.size_hint().0;
-    let mut last = io::Error::from(ErrorKind::NotFound);
-    for address in addresses {
-        if let Some(ended) = try_address(rt, address, start, limit, waiting, &mut last) {
-            drop(last);
-            return ended;
-        }
-        waiting = waiting.saturating_sub(1);
-    }
-    Err(last)
+    connect_one_of(rt, addresses, start, limit)
 }
