@@ -27,7 +27,7 @@ pub fn transaction<C: Calls, T, F: FnMut(&mut C, Pipeline) -> Result<Option<T>, 
     alloc: Global,
     conn: &mut C,
     keys: &Names,
-    mut func: F,
+    func: F,
     turns: u32,
 ) -> Result<T, CallError>
     requires callable { F.IsAlwaysCallable func }
@@ -36,13 +36,36 @@ pub fn transaction<C: Calls, T, F: FnMut(&mut C, Pipeline) -> Result<Option<T>, 
     ensures ends { keys.now ≢ [] → Ends C.told F.FnMut (watch_of keys.now) turns conn.old func result conn.new }
 {
     if keys.is_empty() {
-        let name = ConfigName::Keys;
-        return Err(CallError::Redis(RedisError::Config { name }));
+        return Err(without_keys());
     }
     let watch = watch_command(alloc, keys)?;
     let unwatch = cmd(alloc, b"UNWATCH")?;
+    all_turns(alloc, conn, &watch, &unwatch, func, turns)
+}
+
+/// The error of a transaction that watches no keys.
+fn without_keys() -> CallError
+    ensures { result ≡ error.Redis (redis.Config config.Keys) }
+{
+    let name = ConfigName::Keys;
+    CallError::Redis(RedisError::Config { name })
+}
+
+/// At most so many turns, with the command WATCH and the command UNWATCH, until one answers a value.
+fn all_turns<C: Calls, T, F: FnMut(&mut C, Pipeline) -> Result<Option<T>, CallError>>(
+    alloc: Global,
+    conn: &mut C,
+    watch: &Cmd,
+    unwatch: &Cmd,
+    mut func: F,
+    turns: u32,
+) -> Result<T, CallError>
+    requires callable { F.IsAlwaysCallable func }
+    requires unwatches { unwatch.now ≡ unwatch_all }
+    ensures { Ends C.told F.FnMut watch.now turns conn.old func result conn.new }
+{
     for _turn in 0..turns {
-        match one_turn(alloc, conn, &watch, &unwatch, &mut func) {
+        match one_turn(alloc, conn, watch, unwatch, &mut func) {
             Ok(Some(value)) => return Ok(value),
             Ok(None) => {}
             Err(error) => return Err(error),
