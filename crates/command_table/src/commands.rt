@@ -1,7 +1,8 @@
 use crate::routing::{ResponsePolicy, SlotAddr};
+use std::fmt;
 
 /// What decides where a command goes.
-#[derive(Clone, Copy, Debug, PartialEq, Eq)]
+#[derive(Clone, Copy, PartialEq, Eq)]
 pub enum Form {
     AllPrimaries(ResponsePolicy),
     AllNodes(ResponsePolicy),
@@ -18,6 +19,41 @@ pub enum Form {
     SecondKey(SlotAddr),
     /// The first argument is the key.
     FirstKey(SlotAddr),
+}
+
+impl fmt::Debug for Form {
+    fn fmt<W: fmt::Write>(&self, f: &mut fmt::Formatter<W>) -> fmt::Result {
+        match self {
+            Form::AllPrimaries(policy) => show(f, "AllPrimaries", policy),
+            Form::AllNodes(policy) => show(f, "AllNodes", policy),
+            Form::EachKey(addr, policy) => show_both(f, "EachKey", addr, policy),
+            Form::EachPair(addr, policy) => show_both(f, "EachPair", addr, policy),
+            Form::Random => f.write_str("Random"),
+            Form::CountedKey(addr) => show(f, "CountedKey", addr),
+            Form::AfterStreams(addr) => show(f, "AfterStreams", addr),
+            Form::SecondKey(addr) => show(f, "SecondKey", addr),
+            Form::FirstKey(addr) => show(f, "FirstKey", addr),
+        }
+    }
+}
+
+/// Shows a form of this name, with what it holds.
+fn show<W: fmt::Write, T: fmt::Debug>(
+    f: &mut fmt::Formatter<W>,
+    name: &str,
+    held: &T,
+) -> fmt::Result {
+    f.debug_tuple(name).field(held).finish()
+}
+
+/// Shows a form of this name, with the slot's address and the policy that it holds.
+fn show_both<W: fmt::Write>(
+    f: &mut fmt::Formatter<W>,
+    name: &str,
+    addr: &SlotAddr,
+    policy: &ResponsePolicy,
+) -> fmt::Result {
+    f.debug_tuple(name).field(addr).field(policy).finish()
 }
 
 /// The commands of two words.
