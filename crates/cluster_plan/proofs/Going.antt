@@ -90,9 +90,9 @@ first_over s passed whole left others rows more e w f h =
     ∙ sym (ap (λ rs. after_first whole rows more (until_good NotFound rs)) none)
 
 -- pass one
-pub goes_first_good : (s : State) (p : Pass) (rows new : List SlotRow) (es : List NodeEntry) (link : ℕ) (found : Answer) (more : List Answered) → rows_told p.here.address.host found ≡ Some new → es ≡ entries_of p
-    → ((m : List Answered) → plan_of s m ≡ renewed es new m) → plan_of s more ≡ first_from p rows link ((query First p.here.address link, found) ∷ more)
-goes_first_good s p rows new es link found more t e h = h more ∙ ap (λ l. renewed l new more) e ∙ sym (first_good p rows new link found more t)
+pub goes_first_good : (s : State) (p : Pass) (rows new : List SlotRow) (link : ℕ) (found : Answer) (more : List Answered) → rows_told p.here.address.host found ≡ Some new
+    → ((m : List Answered) → plan_of s m ≡ renewed (entries_of p) new m) → plan_of s more ≡ first_from p rows link ((query First p.here.address link, found) ∷ more)
+goes_first_good s p rows new link found more t h = h more ∙ sym (first_good p rows new link found more t)
 
 pub goes_past : (s : State) (p : Pass) (rows : List SlotRow) (front : List NodeEntry) (more : List Answered) → front ≡ p.passed ++ p.here ∷ []
     → ((m : List Answered) → plan_of s m ≡ after_first (front ++ p.rest) rows m (until_good NotFound (first_replies p.rest m)))
@@ -103,6 +103,10 @@ pub goes_first_bad : (s : State) (p : Pass) (rows : List SlotRow) (link : ℕ) (
     → ((m : List Answered) → plan_of s m ≡ after_first ((p.passed ++ p.here ∷ []) ++ p.rest) rows m (until_good NotFound (first_replies p.rest m)))
     → plan_of s more ≡ first_from p rows link ((query First p.here.address link, found) ∷ more)
 goes_first_bad s p rows link found more o t h = h more ∙ sym (first_bad p rows link found more o t)
+
+pub goes_renewed_by : (s : State) (p : Pass) (new : List SlotRow) (es : List NodeEntry) (more : List Answered) → es ≡ entries_of p
+    → ((m : List Answered) → plan_of s m ≡ renewed es new m) → plan_of s more ≡ renewed (entries_of p) new more
+goes_renewed_by s p new es more e h = h more ∙ ap (λ l. renewed l new more) e
 
 -- pass two
 pub goes_behind : (s : State) (p : Pass) (rows : List SlotRow) (front : List NodeEntry) (state : ConnState) (last : RedisError) (more : List Answered) → front ≡ p.passed ++ entry p.here.address state ∷ []

@@ -166,6 +166,25 @@ fn first_behind(alloc: Global, pass: Pass, slots: SlotMap) -> Result<State, Allo
     Ok(state)
 }
 
+/// A node of pass one told these slots.
+#[tactic(auto, using(crate::proofs::Going::goes_renewed_by))]
+fn renew_by(alloc: Global, pass: Pass, rows: SlotRows) -> Result<State, AllocError>
+    requires { are_rows rows ≡ true }
+    ensures is { IfOk result (λ s. (more : List Answered)
+        → plan_of s more ≡ renewed (entries_of pass) rows more) }
+    ensures sound { IfOk result IsSound }
+{
+    let entries = match pass.entries() {
+        Ok(entries) => entries,
+        Err(error) => {
+            drop(rows);
+            return Err(error);
+        }
+    };
+    let state = renew(alloc, entries, rows)?;
+    Ok(state)
+}
+
 /// The link of pass one answered.
 #[tactic(auto, using(crate::proofs::Going::goes_first_good, crate::proofs::Going::goes_first_bad, crate::proofs::Going::order_on))]
 pub fn after_first(
@@ -181,12 +200,18 @@ pub fn after_first(
         ((query part.First pass.here.address link, told.now) ∷ more)) }
     ensures sound { IfOk result IsSound }
 {
-    let rows = rows_told(alloc, pass.here.address.host.as_slice(), told)?;
+    let rows = match rows_told(alloc, pass.here.address.host.as_slice(), told) {
+        Ok(rows) => rows,
+        Err(error) => {
+            drop(pass);
+            drop(slots);
+            return Err(error);
+        }
+    };
     match rows {
         Some(rows) => {
             drop(slots);
-            let entries = pass.entries()?;
-            let state = renew(alloc, entries, rows)?;
+            let state = renew_by(alloc, pass, rows)?;
             Ok(state)
         }
         None => {
