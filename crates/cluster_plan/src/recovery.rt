@@ -80,7 +80,15 @@ fn go_on(
             slots,
         });
     }
-    match connects.finish(alloc)? {
+    let end = match connects.finish(alloc) {
+        Ok(end) => end,
+        Err(error) => {
+            drop(entries);
+            drop(slots);
+            return Err(error);
+        }
+    };
+    match end {
         InitialEnd::Connected(links) => {
             drop(entries);
             drop(slots);
