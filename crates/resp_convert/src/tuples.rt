@@ -124,9 +124,10 @@ fn read_six<
     let Some(a) = A::read_value(alloc, first)? else {
         return Ok(None);
     };
-    match read_five(alloc, rest)? {
-        Some((b, c, d, e, f)) => Ok(Some((a, b, c, d, e, f))),
-        None => Ok(None),
+    match read_five(alloc, rest) {
+        Ok(Some((b, c, d, e, f))) => Ok(Some((a, b, c, d, e, f))),
+        Ok(None) => Ok(None),
+        Err(error) => Err(error),
     }
 }
 
