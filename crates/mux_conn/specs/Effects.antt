@@ -406,6 +406,16 @@ IsWithin life unrepeated = Unit {0}
 IsWithin life dropped = Unit {0}
 IsWithin life shut = Unit {0}
 
+-- news of credentials
+abbrev pub is_of_credentials : News → Bool
+is_of_credentials (authorized c) = true
+is_of_credentials (denied text) = true
+is_of_credentials deserted = true
+is_of_credentials (renewed c) = true
+is_of_credentials unrenewed = true
+is_of_credentials (late k) = true
+is_of_credentials _ = false
+
 -- the effect of news
 abbrev pub applied : Work → News → Work
 applied w silence = w

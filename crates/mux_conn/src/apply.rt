@@ -19,7 +19,7 @@ impl MultiplexedConnection {
     ghost use Rattle.mux_conn.specs.Effects.{cut_short, parted, ended, opening_failed, refused_at, overdue_at};
     ghost use Rattle.mux_conn.specs.Effects.{connected_at, taken_at, failed_at, shut_at, comes_to_want};
     ghost use Rattle.mux_conn.specs.Effects.{with_credentials, authorized_at, unauthorized_at};
-    ghost use Rattle.mux_conn.specs.Effects.{applied, cancelled_in, left, timed_out};
+    ghost use Rattle.mux_conn.specs.Effects.{is_of_credentials, applied, cancelled_in, left, timed_out};
     ghost use Rattle.mux_conn.specs.Effects.{CanTake, IsWithin};
 
     /// What the link has settled is answered, in order, and the room of its list is kept.
@@ -538,6 +538,29 @@ impl MultiplexedConnection {
             }
             LinkNews::Came { piece } => self.read(alloc, piece, out),
             LinkNews::Failed { fault } => self.fail(alloc, fault, out),
+            LinkNews::Unrepeated => self.serve(alloc),
+            LinkNews::Dropped => self.drop_stream(alloc, out),
+            LinkNews::Shut => self.shut(alloc, out),
+            _ => self.hear_of_credentials(alloc, news, out),
+        }
+    }
+
+    /// The effect of news of credentials.
+    fn hear_of_credentials(
+        &mut self,
+        alloc: Global,
+        news: LinkNews<'_>,
+        out: &mut Vec<LinkAct>,
+    ) -> Result<(), AllocError>
+        requires { is_of_credentials (told news) ≡ true }
+        ensures work { OnOk result (
+            work_with self.new out.new.items
+            ≡ applied (work_with self.old out.old.items) (told news.entry)
+            ) }
+        ensures count { length self.new.requests ≡ length self.old.requests }
+        ensures failure { self.new.failure ≡ self.old.failure }
+    {
+        match news {
             LinkNews::Authorized { auth } => self.authorize(alloc, auth, out),
             LinkNews::Denied { text } => self.deny(alloc, text, out),
             LinkNews::Deserted => self.desert(alloc, out),
@@ -550,9 +573,7 @@ impl MultiplexedConnection {
                 self.renew_late(number);
                 Ok(())
             }
-            LinkNews::Unrepeated => self.serve(alloc),
-            LinkNews::Dropped => self.drop_stream(alloc, out),
-            LinkNews::Shut => self.shut(alloc, out),
+            _ => unreachable!(),
         }
     }
 

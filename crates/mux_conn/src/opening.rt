@@ -37,8 +37,9 @@ impl MultiplexedConnection {
         let info = self.address.clone(alloc)?;
         self.free = self.limit.unwrap_or(0);
         self.info = info;
-        self.renewal = Renewal::new(alloc, self.renewal.wanted, self.renewal.within);
-        self.again = Again::Nothing;
+        let renewal = Renewal::new(alloc, self.renewal.wanted, self.renewal.within);
+        drop(std::mem::replace(&mut self.renewal, renewal));
+        drop(std::mem::replace(&mut self.again, Again::Nothing));
         self.come_to(Life::Resting);
         self.opened = false;
         self.admitted = Queue::new(alloc);

@@ -17,7 +17,7 @@ use std::alloc::{AllocError, Global};
 impl MultiplexedConnection {
     ghost use Rattle.mux_conn.specs.Connection.{work_with, awaits_credentials, is_setting_up};
     ghost use Rattle.mux_conn.specs.Effects.{set_up_by, steps_of, answered_setup, read_setup, read_at};
-    ghost use Rattle.mux_conn.specs.Effects.{noticed_each, told_each, behind_first, heard_on};
+    ghost use Rattle.mux_conn.specs.Effects.{noticed_each, told_each, behind_first, heard_on, broken_at};
 
     /// This is told, in order.
     fn tell_each(
@@ -123,6 +123,30 @@ impl MultiplexedConnection {
         self.settle_rest(alloc, &mut settled, out)?;
         self.settled.give(settled.into_list());
         self.notices.give(notices.into_list());
+        Ok(())
+    }
+
+    /// What was read is answered and told, and what can't be read on ends the link.
+    fn tell_read(
+        &mut self,
+        alloc: Global,
+        settled: Vec<Settled>,
+        notices: Vec<NoticeAt>,
+        ended: bool,
+        out: &mut Vec<LinkAct>,
+    ) -> Result<(), AllocError>
+        ensures work { OnOk result (
+            work_with self.new out.new.items
+            ≡ broken_at ended
+            (told_each (work_with self.old out.old.items) 0 notices.items settled.items)
+            ) }
+        ensures count { length self.new.requests ≡ length self.old.requests }
+        ensures failure { self.new.failure ≡ self.old.failure }
+    {
+        self.tell(alloc, settled, notices, out)?;
+        if ended {
+            self.fail(alloc, LinkFault::Parse, out)?;
+        }
         Ok(())
     }
 
@@ -288,11 +312,7 @@ impl MultiplexedConnection {
         let mut settled = self.settled.take(alloc);
         let mut notices = self.notices.take(alloc);
         let ended = read_heard(alloc, link, piece, heard, &mut settled, &mut notices)?;
-        self.tell(alloc, settled, notices, out)?;
-        if ended {
-            self.fail(alloc, LinkFault::Parse, out)?;
-        }
-        Ok(())
+        self.tell_read(alloc, settled, notices, ended, out)
     }
 
     /// Bytes came: the messages that they fill are answered, what came is told, and what can't be read on ends the link.
