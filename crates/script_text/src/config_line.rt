@@ -1,4 +1,4 @@
-ghost use Rattle.std.specs.Prelude.{◌≡◌, ◌==◌, not, length, bytes_eq, MatchOption, Some, None, IfOk};
+ghost use Rattle.std.specs.Prelude.{◌≡◌, ◌==◌, not, drop, length, bytes_eq, MatchOption, Some, None, IfOk};
 ghost use Rattle.std.specs.List.{list_all, list_any};
 ghost use Rattle.script_text.specs.ConfigLine.{connection_keys, retry_keys, manager_keys, link_keys};
 ghost use Rattle.script_text.specs.ConfigLine.{keys, is_setting};
@@ -20,7 +20,7 @@ use containers::{Bytes, Seq};
 use driver_model::{AddressWords, Config, ConnectionWords, ManagerWords, SessionKind};
 use std::alloc::{AllocError, Global};
 
-/// Whether this is a key of a multiplexed connection.
+/// Whether this is a key of a multiplexed connection: of its address, of its times and its queue, or one behind those.
 fn is_connection_key(key: &[u8]) -> bool
     ensures { result ≡ list_any (bytes_eq key.now) connection_keys }
 {
@@ -28,7 +28,14 @@ fn is_connection_key(key: &[u8]) -> bool
         || key == b"connect".as_slice()
         || key == b"response".as_slice()
         || key == b"buffer".as_slice()
-        || key == b"limit".as_slice()
+        || is_later_connection_key(key)
+}
+
+/// Whether this is a key of its limits, or of what is on or off.
+fn is_later_connection_key(key: &[u8]) -> bool
+    ensures { result ≡ list_any (bytes_eq key.now) (drop 4 connection_keys) }
+{
+    key == b"limit".as_slice()
         || key == b"boundary".as_slice()
         || key == b"push".as_slice()
         || key == b"creds".as_slice()

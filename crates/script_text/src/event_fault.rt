@@ -1,4 +1,4 @@
-ghost use Rattle.std.specs.Prelude.{◌≡◌, ◌≤◌, ◌∷◌, [], ℕ, List, length, true, is_some};
+ghost use Rattle.std.specs.Prelude.{◌≡◌, ◌≤◌, ◌∷◌, [], ℕ, List, drop, length, true, is_some};
 ghost use Rattle.std.specs.Prelude.{MatchOption, MatchResult, Some, None};
 ghost use Rattle.driver_model.specs.declared.event.EventKind.{EventKind};
 ghost use Rattle.redis_error.specs.declared.fault_kind.FaultKind.{FaultKind};
@@ -253,7 +253,8 @@ fn submission_fault(kind: SessionKind, words: &[Word<'_>], more: &[Seq<Word<'_>>
     }
 }
 
-/// What is wrong with an event besides submissions, by the name and the words behind it.
+/// What is wrong with an event besides submissions, by the name and the words behind it: a caller goes, a connect or a write is
+/// answered, or something else.
 #[tactic(auto, unfolding(crate::specs::EventLine::others))]
 fn other_fault(name: &[u8], words: &[Word<'_>]) -> Option<Fault>
     ensures { FindsFault result (by_first others (name.now ∷ words.now) []) }
@@ -270,6 +271,14 @@ fn other_fault(name: &[u8], words: &[Word<'_>]) -> Option<Fault>
     if name == b"wrote".as_slice() {
         return wrote_fault(words);
     }
+    given_fault(name, words)
+}
+
+/// What is wrong with what a link gives, that it has ended, a fault on it, or what happens besides that.
+#[tactic(auto, unfolding(crate::specs::EventLine::others))]
+fn given_fault(name: &[u8], words: &[Word<'_>]) -> Option<Fault>
+    ensures { FindsFault result (by_first (drop 4 others) (name.now ∷ words.now) []) }
+{
     if name == b"bytes".as_slice() {
         return came_fault(words);
     }
@@ -282,6 +291,14 @@ fn other_fault(name: &[u8], words: &[Word<'_>]) -> Option<Fault>
     if name == b"write-fault".as_slice() {
         return failed_fault(words, Form::WriteFault);
     }
+    timer_or_source_fault(name, words)
+}
+
+/// What is wrong with a timer that fires, with what a source of credentials says, or with what happens besides that.
+#[tactic(auto, unfolding(crate::specs::EventLine::others))]
+fn timer_or_source_fault(name: &[u8], words: &[Word<'_>]) -> Option<Fault>
+    ensures { FindsFault result (by_first (drop 8 others) (name.now ∷ words.now) []) }
+{
     if name == b"fired".as_slice() {
         return numbered_fault(words, Form::Fired);
     }
@@ -294,6 +311,14 @@ fn other_fault(name: &[u8], words: &[Word<'_>]) -> Option<Fault>
     if name == b"creds-end".as_slice() {
         return numbered_fault(words, Form::CredsEnd);
     }
+    told_to_session_fault(name, words)
+}
+
+/// What is wrong with what the session itself is told.
+#[tactic(auto, unfolding(crate::specs::EventLine::others))]
+fn told_to_session_fault(name: &[u8], words: &[Word<'_>]) -> Option<Fault>
+    ensures { FindsFault result (by_first (drop 12 others) (name.now ∷ words.now) []) }
+{
     if name == b"timeout".as_slice() {
         return timeout_fault(words);
     }

@@ -1,10 +1,10 @@
-ghost use Rattle.std.specs.Prelude.{◌≡◌, ◌≤◌, ◌∷◌, [], ℕ, List, drop, length, option_map, MatchOption, IfOk, IfSome, Some, None};
+ghost use Rattle.std.specs.Prelude.{◌≡◌, ◌≤◌, ◌∷◌, ◌++◌, [], ℕ, List, drop, length, option_map, MatchOption, OnOk, IfOk, IfSome, Some, None};
 ghost use Rattle.driver_model.specs.declared.event.EventKind.TheVariants.{Submit, Cancel, Connected};
 ghost use Rattle.driver_model.specs.declared.event.EventKind.TheVariants.{Ended, CredsEnd, DropStream, Shutdown};
 ghost use Rattle.driver_model.specs.declared.event.EventKind.TheVariants.{Refused, ReadFault, WriteFault, Fired};
 ghost use Rattle.driver_model.specs.declared.event.EventKind.{EventKind};
 ghost use Rattle.redis_error.specs.declared.fault_kind.FaultKind.{FaultKind};
-ghost use Rattle.driver_model.specs.declared.event.Submission.TheVariants.{Cmd, NoReply, Packed};
+ghost use Rattle.driver_model.specs.declared.event.Submission.TheVariants.{Cmd, NoReply, Pipe, Multi, Packed};
 ghost use Rattle.script_text.specs.EventLine.{by_first, whole, numbered, wrote, came, alone, faults};
 ghost use Rattle.script_text.specs.EventLine.{authorized, denied, timed, call, calls};
 ghost use Rattle.script_text.specs.EventLine.{fault_among, failed, commands, packed, pinged};
@@ -20,6 +20,7 @@ use driver_model::{Commands, Event, EventKind, SessionKind, Submission};
 use redis_error::FaultKind;
 use resp_write::SubscriptionAction;
 use std::alloc::{AllocError, Global};
+use std::mem;
 
 /// The kinds of faults.
 const FAULTS: [FaultKind; 10] = [
@@ -152,23 +153,48 @@ fn write_fault(words: &[Word<'_>]) -> Option<EventKind>
     Some(EventKind::WriteFault { link, fault })
 }
 
+/// One more command, of all these words.
+fn push_command(
+    alloc: Global,
+    commands: &mut Commands,
+    words: &mut [Word<'_>],
+) -> Result<(), AllocError>
+    ensures { OnOk result (commands.new ≡ commands.old ++ words.old ∷ []) }
+{
+    let command = take_all(alloc, words)?;
+    commands.push(command)
+}
+
+/// More commands, each of the words behind a separator.
+fn push_commands(
+    alloc: Global,
+    commands: &mut Commands,
+    more: Vec<Seq<Word<'_>>>,
+) -> Result<(), AllocError>
+    ensures { OnOk result (commands.new ≡ commands.old ++ more.entry.items) }
+{
+    for command in more {
+        let mut words = command.into_vec();
+        push_command(alloc, commands, words.as_mut_slice())?;
+    }
+    Ok(())
+}
+
 /// The commands between separators.
 fn commands_between(
     alloc: Global,
     first: &mut [Word<'_>],
-    more: Vec<Seq<Word<'_>>>,
+    more: &mut Vec<Seq<Word<'_>>>,
 ) -> Result<Commands, AllocError>
-    ensures { IfOk result (λ cs. cs ≡ commands first.old more.entry.items) }
+    ensures { IfOk result (λ cs. cs ≡ commands first.old more.old.items) }
 {
     let mut commands = Commands::new(alloc);
     if first.is_empty() && more.is_empty() {
         return Ok(commands);
     }
-    commands.push(take_all(alloc, first)?)?;
-    for command in more {
-        let mut words = command.into_vec();
-        commands.push(take_all(alloc, words.as_mut_slice())?)?;
-    }
+    push_command(alloc, &mut commands, first)?;
+    let rest = mem::replace(more, Vec::new(alloc));
+    push_commands(alloc, &mut commands, rest)?;
     Ok(commands)
 }
 
@@ -212,6 +238,28 @@ fn no_reply(
     }
 }
 
+fn pipe(
+    alloc: Global,
+    words: &mut [Word<'_>],
+    more: &mut Vec<Seq<Word<'_>>>,
+) -> Result<Option<Submission>, AllocError>
+    ensures { IfOk result (λ s. s ≡ Some (Pipe (commands words.old more.old.items))) }
+{
+    let commands = commands_between(alloc, words, more)?;
+    Ok(Some(Submission::Pipe { commands }))
+}
+
+fn multi(
+    alloc: Global,
+    words: &mut [Word<'_>],
+    more: &mut Vec<Seq<Word<'_>>>,
+) -> Result<Option<Submission>, AllocError>
+    ensures { IfOk result (λ s. s ≡ Some (Multi (commands words.old more.old.items))) }
+{
+    let commands = commands_between(alloc, words, more)?;
+    Ok(Some(Submission::Multi { commands }))
+}
+
 /// How many replies are skipped and how many are kept, by the first two words.
 fn numbers(words: &[Word<'_>]) -> Option<(u32, u32)>
     ensures read { MatchOption result
@@ -231,9 +279,9 @@ fn numbers(words: &[Word<'_>]) -> Option<(u32, u32)>
 fn read_packed(
     alloc: Global,
     words: &mut [Word<'_>],
-    more: Vec<Seq<Word<'_>>>,
+    more: &mut Vec<Seq<Word<'_>>>,
 ) -> Result<Option<Submission>, AllocError>
-    ensures { IfOk result (λ s. s ≡ packed words.old more.entry.items) }
+    ensures { IfOk result (λ s. s ≡ packed words.old more.old.items) }
 {
     let Some((offset, count)) = numbers(words) else {
         return Ok(None);
@@ -290,9 +338,9 @@ fn call(
 fn request(
     alloc: Global,
     words: &mut [Word<'_>],
-    more: Vec<Seq<Word<'_>>>,
+    more: &mut Vec<Seq<Word<'_>>>,
 ) -> Result<Option<Submission>, AllocError>
-    ensures { IfOk result (λ s. s ≡ by_first requests words.old more.entry.items) }
+    ensures { IfOk result (λ s. s ≡ by_first requests words.old more.old.items) }
 {
     let Some((name, words)) = words.split_first_mut() else {
         return Ok(None);
@@ -305,12 +353,10 @@ fn request(
         return no_reply(alloc, words, more.as_slice());
     }
     if name == b"pipe".as_slice() {
-        let commands = commands_between(alloc, words, more)?;
-        return Ok(Some(Submission::Pipe { commands }));
+        return pipe(alloc, words, more);
     }
     if name == b"multi".as_slice() {
-        let commands = commands_between(alloc, words, more)?;
-        return Ok(Some(Submission::Multi { commands }));
+        return multi(alloc, words, more);
     }
     if name == b"packed".as_slice() {
         return read_packed(alloc, words, more);
@@ -361,9 +407,9 @@ fn submission(
     alloc: Global,
     kind: SessionKind,
     words: &mut [Word<'_>],
-    more: Vec<Seq<Word<'_>>>,
+    more: &mut Vec<Seq<Word<'_>>>,
 ) -> Result<Option<Submission>, AllocError>
-    ensures { IfOk result (λ s. s ≡ by_first (submissions kind) words.old more.entry.items) }
+    ensures { IfOk result (λ s. s ≡ by_first (submissions kind) words.old more.old.items) }
 {
     match kind {
         SessionKind::Single => request(alloc, words, more),
@@ -377,10 +423,10 @@ fn submit(
     alloc: Global,
     kind: SessionKind,
     words: &mut [Word<'_>],
-    more: Vec<Seq<Word<'_>>>,
+    more: &mut Vec<Seq<Word<'_>>>,
 ) -> Result<Option<EventKind>, AllocError>
     ensures { IfOk result (λ k.
-        k ≡ option_map Submit (by_first (submissions kind) words.old more.entry.items)) }
+        k ≡ option_map Submit (by_first (submissions kind) words.old more.old.items)) }
 {
     match submission(alloc, kind, words, more)? {
         Some(submission) => Ok(Some(EventKind::Submit { submission })),
@@ -551,9 +597,9 @@ fn happening(
     alloc: Global,
     kind: SessionKind,
     words: &mut [Word<'_>],
-    more: Vec<Seq<Word<'_>>>,
+    more: &mut Vec<Seq<Word<'_>>>,
 ) -> Result<Option<EventKind>, AllocError>
-    ensures { IfOk result (λ k. k ≡ by_first (events kind) words.old more.entry.items) }
+    ensures { IfOk result (λ k. k ≡ by_first (events kind) words.old more.old.items) }
 {
     let Some((name, words)) = words.split_first_mut() else {
         return Ok(None);
@@ -581,9 +627,9 @@ pub fn event(
     let Some((word, before)) = drawn(line.words()) else {
         return Ok(None);
     };
-    let more = line.take_more(alloc);
+    let mut more = line.take_more(alloc);
     let words = line.words_mut();
-    match happening(alloc, kind, &mut words[before..], more)? {
+    match happening(alloc, kind, &mut words[before..], &mut more)? {
         Some(happened) => Ok(Some(Event {
             word,
             kind: happened,

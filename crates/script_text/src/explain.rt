@@ -185,15 +185,23 @@ fn place_reason(
     }
 }
 
+/// The kind of the session that these words open; where they open none, one connection.
+fn kind_opened(alloc: Global, words: &Line<'_>) -> Result<SessionKind, AllocError> {
+    let Some((config, _)) = opening(alloc, words)? else {
+        return Ok(SessionKind::Single);
+    };
+    let kind = config.kind();
+    drop(config);
+    Ok(kind)
+}
+
 /// The kind of the session that a text is of, by its first line; of a text whose first line is none, one connection.
 fn kind_of(alloc: Global, text: &[u8]) -> Result<SessionKind, AllocError> {
     let mut words = Line::new(alloc);
-    if !words.read(alloc, place_of(text, 1).line)? {
-        return Ok(SessionKind::Single);
-    }
-    match opening(alloc, &words)? {
-        Some((config, _)) => Ok(config.kind()),
-        None => Ok(SessionKind::Single),
+    if words.read(alloc, place_of(text, 1).line)? {
+        kind_opened(alloc, &words)
+    } else {
+        Ok(SessionKind::Single)
     }
 }
 

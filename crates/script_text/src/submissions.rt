@@ -1,4 +1,4 @@
-ghost use Rattle.std.specs.Prelude.{◌≡◌, ◌<◌, length, Ok, IfOk, IfErr};
+ghost use Rattle.std.specs.Prelude.{◌≡◌, ◌<◌, [], length, Ok, IfOk, IfErr};
 ghost use Rattle.script_text.specs.Cursor.{Tells};
 ghost use Rattle.script_text.specs.Lines.{submitted, submissions_left, lines_of, PutsBefore};
 ghost use Rattle.script_text.specs.Lines.{config_of_parts, texts};
@@ -96,11 +96,15 @@ pub fn read_lines(
     }
 }
 
-/// The configuration that a line with the word `config` and these words behind it is.
-pub fn read_config(alloc: Global, words: &[String]) -> Result<Option<Config>, AllocError>
+/// The configuration that a line with the word `config` and these words behind it is. They come into this line.
+fn read_config_into<'a>(
+    alloc: Global,
+    words: &'a [String],
+    line: &mut Line<'a>,
+) -> Result<Option<Config>, AllocError>
+    requires { line.old ≡ record { words = []; more = [] } }
     ensures { IfOk result (λ config. config ≡ config_of_parts (texts words.now)) }
 {
-    let mut line = Line::new(alloc);
     if !line.put(alloc, b"config")? {
         return Ok(None);
     }
@@ -110,4 +114,12 @@ pub fn read_config(alloc: Global, words: &[String]) -> Result<Option<Config>, Al
         }
     }
     config(alloc, line.words(), line.more())
+}
+
+/// The configuration that a line with the word `config` and these words behind it is.
+pub fn read_config(alloc: Global, words: &[String]) -> Result<Option<Config>, AllocError>
+    ensures { IfOk result (λ config. config ≡ config_of_parts (texts words.now)) }
+{
+    let mut line = Line::new(alloc);
+    read_config_into(alloc, words, &mut line)
 }

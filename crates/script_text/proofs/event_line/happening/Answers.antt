@@ -8,7 +8,7 @@ pub returns-then-not-is_empty : goal.returns-then-not-is_empty
 returns-then-not-is_empty c =
     let name = c.in-Some.name.now in
     let rest = c.in-Some.words.now in
-    let more = c.args.more.items in
+    let more = c.args.more.now.items in
     let words : c.args.words.now ≡ name ∷ rest = search rules in
     let other : bytes_eq name (codes "submit") ≡ false =
     ap (λ t. bytes_eq t (codes "submit")) (sym c.as_slice-name.ensures) ∙ ap (bytes_eq c.as_slice-name.result.now) (sym c.as_slice.ensures) ∙ sym c.eq.ensures ∙ c.if-eq.false in

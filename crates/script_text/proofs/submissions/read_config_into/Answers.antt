@@ -8,7 +8,7 @@ use Rattle.script_text.specs.Lines.{texts}
 use Rattle.script_text.specs.Pieces.{joined, piece_of}
 use Rattle.script_text.specs.Words.{LineWords, words_of_parts}
 use Rattle.script_text.proofs.Cutting.{piece_read, pieces_read}
-use Rattle.script_text.proofs.submissions.read_config.Goals as goal
+use Rattle.script_text.proofs.submissions.read_config_into.Goals as goal
 
 behind_nothing : (o : Option LineWords) → o ≡ option_map (joined (record { words = []; more = [] })) o
 behind_nothing None = refl
@@ -24,7 +24,7 @@ loop-word-init c =
     let name = codes "config" in
     let rest = texts c.args.words.now in
     piece_read (words_of_parts (name ∷ rest)) (record { words = []; more = [] }) name rest (Some c.put.new.self) (behind_nothing (words_of_parts (name ∷ rest)))
-    (sym (taken_if _ (Some c.put.new.self) None c.if-not-branch.false) ∙ c.in_ok-put.ensures ∙ ap (λ l. option_map (joined l) (piece_of name)) c.new-line.ensures)
+    (sym (taken_if _ (Some c.put.new.self) None c.if-not-branch.false) ∙ c.in_ok-put.ensures ∙ ap (λ l. option_map (joined l) (piece_of name)) c.requires)
 
 pub returns-then-not-branch-2 : goal.returns-then-not-branch-2
 returns-then-not-branch-2 c =

@@ -1,5 +1,0 @@
-use Rattle.std.proofs.Common.{◌≡◌, ◌∷◌, ◌++◌}
-use Rattle.script_text.proofs.event_line.commands_between.Given as goal
-
-abbrev pub invariant-loop-command : goal.invariant-loop-command
-invariant-loop-command l = l.fn.first ∷ l.fn.more.items ≡ l.commands ++ l.command-iterator.rest.items
