@@ -9,3 +9,4 @@ pub mod Stays
 pub mod Plain
 pub mod Threads
 pub mod Tracked
+pub mod Ended

@@ -9,7 +9,7 @@ use Rattle.driver_model.specs.declared.event.Event.{Event}
 use Rattle.driver_model.specs.declared.outcome.Outcome.{Outcome}
 use Rattle.shared_session.specs.declared.showing.Done.{Done}
 use Rattle.shared_session.specs.declared.core_state.Core.{Core}
-use Rattle.containers.proofs.Choices.{chosen}
+use Rattle.containers.proofs.Choices.{chosen, not_le_test}
 use Rattle.driver_model.specs.declared.event.EventKind.{EventKind}
 use Rattle.driver_model.specs.declared.event.EventKind.TheVariants as event
 use Rattle.driver_model.specs.declared.event.Submission.{Submission}
@@ -270,6 +270,22 @@ pub few_kept : (before : Core) (config : Config) (word : ℕ) (es fs : List Even
 few_kept before config word es fs e b t f =
     let n : before.turns ≡ 1 + length es = ap (λ (c : Core). c.turns) b ∙ turns_after config word es in
     omega (arith, n, ap length f, length-append es (e ∷ []))
+
+-- a number for the next turn is one for the events with it
+pub few_turns : (core : Core) (config : Config) (word : ℕ) (es : List Event) → core ≡ state_after config word es → length es + 1 < 2 ^ 32 → core.turns < 2 ^ 32
+few_turns core config word es c few = omega (arith, few, ap (λ (x : Core). x.turns) c, turns_after config word es)
+
+pub turns_few : (core : Core) (config : Config) (word : ℕ) (es : List Event) → core ≡ state_after config word es → core.turns < 2 ^ 32 → length es + 1 < 2 ^ 32
+turns_few core config word es c few = omega (arith, few, ap (λ (x : Core). x.turns) c, turns_after config word es)
+
+-- nor is the step spent of a turn that has a number, behind which no number has run out
+pub unspent_step : (before after : Core) (config : Config) (word : ℕ) (es : List Event) (e : Event) → before ≡ state_after config word es → before.turns < 2 ^ 32 → after ≡ (next_turn before e.kind).core → has_run_out after ≡ false
+    → is_spent_after config word es e ≡ false
+unfolding spends
+unspent_step before after config word es e b few a free =
+    let low : nat_le (2 ^ 32) before.turns ≡ false = not_le_test (2 ^ 32) before.turns few in
+    let left : has_run_out (next_turn before e.kind).core ≡ false = ap has_run_out (sym a) ∙ free in
+    subst (λ (c : Core). spends c e ≡ false) b (λ j. low j || left j)
 
 good_on-more : (c : Core) (es : List Event) (e : Event) → AreGoodOn c es → is_bad (run_on c es) e.kind ≡ false → AreGoodOn c (es ++ e ∷ [])
 good_on-more c [] e all good = (good, tt)

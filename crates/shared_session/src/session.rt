@@ -316,7 +316,6 @@ impl Session {
         ensures kept { OnErr result (self.new ≡ record self.old { failure = self.new.failure }) }
     {
         let events = self.events.len() as u32;
-        let before = out.len();
         match self.failure {
             Failure::Sound => {}
             Failure::Spent => {
@@ -337,6 +336,44 @@ impl Session {
             self.failure = Failure::Spent;
             return Err(StepError::Spent { events });
         }
+        self.make(alloc, event, out)
+    }
+
+    /// A `take` of an event that isn't bad, by a session that hasn't failed and whose next turn has a number.
+    #[tactic(auto, unfolding(crate::specs::Turn::spends))]
+    fn make(&mut self, alloc: Global, event: Event, out: &mut Vec<Action>) -> Result<(), StepError>
+        requires sound { self.old.failure ≡ Failure.Sound }
+        requires good { is_bad_after self.old.config self.old.word self.old.events event ≡ false }
+        requires few { length self.old.events + 1 < 2 ^ 32 }
+        ensures ok { OnOk result (
+            self.new ≡ record self.old { events = self.old.events ++ event ∷ [] }
+            ) }
+        ensures actions { OnOk result (
+            out.new.items
+            ≡ out.old.items
+            ++ effects_of (state_after self.old.config self.old.word self.old.events) event
+            ) }
+        ensures turn { OnOk result (
+            actions_of (state_after self.old.config self.old.word self.old.events) event
+            ≡ Action.Turn (length self.new.events) (Cause.Event event)
+            ∷ effects_of (state_after self.old.config self.old.word self.old.events) event
+            ) }
+        ensures unbad { IsErrOf result StepError.BadEvent → ⊥ }
+        ensures spent { (n : ℕ) → IsErrOf result (StepError.Spent n) → IsSpentBy self.old event }
+        ensures count { (n : ℕ) → IsErrOf result (StepError.Spent n)
+            → n ≡ length self.old.events }
+        ensures unspent { OnOk result (
+            is_spent_after self.old.config self.old.word self.old.events event ≡ false
+            ) }
+        ensures fails_spent { (n : ℕ) → IsErrOf result (StepError.Spent n)
+            → self.new.failure ≡ Failure.Spent }
+        ensures fails { IsErrOf result StepError.NoMemory
+            → self.new.failure ≡ Failure.NoMemory }
+        ensures err { OnErr result (out.new.items ≡ out.old.items) }
+        ensures kept { OnErr result (self.new ≡ record self.old { failure = self.new.failure }) }
+    {
+        let events = self.events.len() as u32;
+        let before = out.len();
         self.failure = Failure::NoMemory;
         let mut done = self.done.take(alloc);
         match make_turn(
@@ -455,7 +492,13 @@ fn keep(
     ensures err { OnErr result ((outcomes.new ≡ outcomes.old) × (events.new ≡ events.old)) }
 {
     let places = outcomes.len();
-    make_room(outcomes, &event.kind)?;
+    match make_room(outcomes, &event.kind) {
+        Ok(()) => {}
+        Err(error) => {
+            drop(event);
+            return Err(error);
+        }
+    }
     match events.push(event) {
         Ok(()) => Ok(()),
         Err(error) => {

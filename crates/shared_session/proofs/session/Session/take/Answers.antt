@@ -1,48 +1,9 @@
-use Rattle.std.proofs.Common.{◌≡◌, ◌-◌, ◌^◌, ◌≤◌, ◌++◌, ◌∷◌, List, ap, subst, ◌∙◌, arith}
-use Rattle.std.specs.Prelude.{Option, length}
-use Rattle.driver_model.specs.declared.action.Action.TheVariants as action
-use Rattle.driver_model.specs.declared.action.Cause.TheVariants as cause
-use Rattle.driver_model.specs.declared.outcome.Outcome.{Outcome}
+use Rattle.std.proofs.Common.{◌+◌, ◌^◌, ◌<◌, length, subst, arith}
 use Rattle.shared_session.specs.History.{History}
-use Rattle.shared_session.specs.Turn.{next_turn, effects_of, actions_of}
-use Rattle.shared_session.specs.Replay.{state_after}
-use Rattle.shared_session.specs.Done.{put_each, done_each}
-use Rattle.shared_session.proofs.Replays.{state_kept, outcomes_kept, few_kept, shown_kept, turn_numbered, fraction_kept}
+use Rattle.shared_session.proofs.Replays.{turns_few}
 use Rattle.shared_session.proofs.session.Session.take.Goals as goal
 
-pub make_turn-requires-clause-grows : goal.make_turn-requires-clause-grows
-make_turn-requires-clause-grows c = fraction_kept c.self.inside.core c.self.inside.config c.self.inside.word c.self.inside.events (c.self.invariant.core c.in-Sound.is) c.self.invariant.configured
-
-pub returns-clause-actions : goal.returns-clause-actions
-returns-clause-actions c =
-    subst (λ (h : History). c.make_turn.new.out.items ≡ c.args.out.now.items ++ effects_of (state_after h.config h.word h.events) c.args.event) c.self.view_is
-    (shown_kept c.self.inside.core c.self.inside.config c.self.inside.word c.self.inside.events c.args.event c.args.out.now.items c.make_turn.new.out.items (c.self.invariant.core c.in-Sound.is) c.in-Ok.ensures.actions)
-
-pub returns-clause-turn : goal.returns-clause-turn
-returns-clause-turn c =
-    subst (λ (h : History). actions_of (state_after h.config h.word h.events) c.args.event ≡ action.Turn (length c.keep.new.events) (cause.Event c.args.event) ∷ effects_of (state_after h.config h.word h.events) c.args.event) c.self.view_is
-    (turn_numbered c.self.inside.config c.self.inside.word c.self.inside.events c.keep.new.events c.args.event c.in-Ok-keep.ensures.ok.1)
-
-pub invariant_of-self-2 : goal.invariant_of-self-2
-invariant_of-self-2 c =
-    let before = c.self.inside.core in
-    let after = c.make_turn.new.core in
-    let config = c.self.inside.config in
-    let word = c.self.inside.word in
-    let es = c.self.inside.events in
-    let b = c.self.invariant.core c.in-Sound.is in
-    let kept = c.in-Ok-keep.ensures.ok in
-    let acts = (next_turn before c.args.event.kind).acts in
-    let put = c.commit.ensures.outcomes ∙ ap (λ (os : List (Option Outcome)). put_each os c.make_turn.new.done.items) kept.0 in
-    let low : before.turns ≤ 2 ^ 32 - 1 = omega (arith, c.if-self-from.false, c.from.ensures) in
-    let done : c.make_turn.new.done.items ≡ done_each acts = c.in-Ok.ensures.done ∙ ap (λ ds. ds ++ done_each acts) c.take-done.ensures in
-    record {
-      configured = c.self.invariant.configured;
-      core = λ _. state_kept before after config word es c.keep.new.events c.args.event b c.in-Ok.ensures.core kept.1;
-      outcomes = outcomes_kept before config word es c.keep.new.events c.args.event c.self.inside.outcomes c.commit.new.outcomes c.make_turn.new.done.items b c.self.invariant.outcomes kept.1 done put;
-      few = few_kept before config word es c.keep.new.events c.args.event b low kept.1;
-      unspent = λ _. c.in-Ok.ensures.unspent;
-      fewer = λ _. c.in-Ok.ensures.fewer;
-      counted = λ _. c.in-Ok.ensures.counted;
-      sound = λ _. c.in-Ok.ensures.sound;
-    }
+pub make-requires-clause-few : goal.make-requires-clause-few
+make-requires-clause-few c =
+    subst (λ (h : History). length h.events + 1 < 2 ^ 32) c.self.view_is
+    (turns_few c.self.inside.core c.self.inside.config c.self.inside.word c.self.inside.events (c.self.invariant.core c.in-Sound.is) (omega (arith, c.if-self-from.false, c.from.ensures)))
