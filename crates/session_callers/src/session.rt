@@ -70,6 +70,41 @@ fn seated(
     }
 }
 
+/// A session that is made from this, and has made its opening, whose actions `out` gains, and its first caller. After an error
+/// `out` is as it was.
+fn opened(
+    alloc: Global,
+    origin: &Origin,
+    config: Config,
+    out: &mut Vec<Action>,
+) -> Result<(SharedSession, Caller), MakeError>
+    requires { config ≡ origin.now.config }
+    ensures caller { IfOk result (λ made.
+        (made.1.table ≡ made.0.table.shared.table_id)
+        × (made.1.view ≡ newcomer origin.now.config origin.now.word 0 [] 0)
+        ) }
+    ensures actions { OnOk result (
+        out.new.items ≡ out.old.items ++ opening_actions origin.now.config origin.now.word
+        ) }
+    ensures sound { OnOk result (IsSound origin.now.config) }
+    ensures refused { (name : ConfigName) → IsErrOf result (MakeError.Config name)
+        → first_fault origin.now.config ≡ Some name }
+    ensures err { OnErr result (out.new.items ≡ out.old.items) }
+{
+    let before = out.len();
+    let session = match Session::new(alloc, config, origin.word, out) {
+        Ok(session) => session,
+        Err(error) => return Err(error),
+    };
+    match seated(alloc, origin, session) {
+        Ok(made) => Ok(made),
+        Err(_) => {
+            out.truncate(before);
+            Err(MakeError::NoMemory)
+        }
+    }
+}
+
 impl SharedSession {
     /// A session that has made its opening, whose actions `out` gains, and its first caller. A configuration of which
     /// something is refused makes none: `Config` tells what is refused first. After an error `out` is as it was.
@@ -91,20 +126,17 @@ impl SharedSession {
             → first_fault config ≡ Some name }
         ensures err { OnErr result (out.new.items ≡ out.old.items) }
     {
-        let before = out.len();
-        let copy = config.clone(alloc)?;
-        let origin = Origin { config: copy, word };
-        let session = match Session::new(alloc, config, word, out) {
-            Ok(session) => session,
-            Err(error) => return Err(error),
-        };
-        match seated(alloc, &origin, session) {
-            Ok(made) => Ok(made),
+        let copy = match config.clone(alloc) {
+            Ok(copy) => copy,
             Err(_) => {
-                out.truncate(before);
-                Err(MakeError::NoMemory)
+                drop(config);
+                return Err(MakeError::NoMemory);
             }
-        }
+        };
+        let origin = Origin { config: copy, word };
+        let made = opened(alloc, &origin, config, out);
+        drop(origin);
+        made
     }
 
     /// One turn of the caller, in which the session takes the event, and how many submissions stood before it.
