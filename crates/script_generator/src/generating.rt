@@ -83,8 +83,15 @@ fn take_submit(
     ensures len { IfOk result (λ len. len ≡ length (pack (command round))) }
 {
     let submission = command_of(alloc, round)?;
-    let packed = submission.packed(alloc)?;
+    let packed = match submission.packed(alloc) {
+        Ok(packed) => packed,
+        Err(error) => {
+            drop(submission);
+            return Err(error);
+        }
+    };
     let len = packed.len() as u64;
+    drop(packed);
     let event = Event::submit(submission);
     take(alloc, session, event, actions, counts)?;
     Ok(len)
@@ -105,7 +112,13 @@ fn take_reply(
     let event = reply(alloc)?;
     if is_cancelled(round) {
         let cancel = Event::cancel(round);
-        take(alloc, session, cancel, actions, counts)?;
+        match take(alloc, session, cancel, actions, counts) {
+            Ok(()) => {}
+            Err(error) => {
+                drop(event);
+                return Err(error);
+            }
+        }
         return take(alloc, session, event, actions, counts);
     }
     take(alloc, session, event, actions, counts)
@@ -129,6 +142,31 @@ fn take_round(
     take_reply(alloc, session, round, actions, counts)
 }
 
+/// The lines of so many rounds, with the first and the last: the session takes their events, one after another.
+fn take_all(
+    alloc: Global,
+    session: &mut Session,
+    rounds: u32,
+    actions: &mut Vec<Action>,
+    counts: &mut Summary,
+) -> Result<(), AllocError>
+    requires few { rounds ≤ 200000 }
+    requires at { IsAt [] session.old counts.old }
+    ensures { OnOk result (
+        counts.new
+        ≡ summary_of (trace_of generated_config generated_word (generated_events rounds))
+        ) }
+{
+    let connected = Event::connected(0);
+    take(alloc, session, connected, actions, counts)?;
+    for round in 0..rounds {
+        take_round(alloc, session, round, actions, counts)?;
+    }
+    let shutdown = Event::shutdown();
+    take(alloc, session, shutdown, actions, counts)?;
+    Ok(())
+}
+
 /// Makes the script of so many rounds, at most 200,000: one session takes its events, line by line. It answers the line of
 /// what is counted in the script's trace, of which nothing is kept. An error is want of memory.
 pub fn generate(alloc: Global, rounds: u32) -> Result<Bytes, AllocError>
@@ -139,12 +177,6 @@ pub fn generate(alloc: Global, rounds: u32) -> Result<Bytes, AllocError>
     let mut actions = Vec::new(alloc);
     let mut counts = Summary::new();
     let mut session = open(alloc, &mut actions, &mut counts)?;
-    let connected = Event::connected(0);
-    take(alloc, &mut session, connected, &mut actions, &mut counts)?;
-    for round in 0..rounds {
-        take_round(alloc, &mut session, round, &mut actions, &mut counts)?;
-    }
-    let shutdown = Event::shutdown();
-    take(alloc, &mut session, shutdown, &mut actions, &mut counts)?;
+    take_all(alloc, &mut session, rounds, &mut actions, &mut counts)?;
     counts.line(alloc)
 }

@@ -19,21 +19,21 @@ pub take-requires-then-is_cancelled-clause-good : goal.take-requires-then-is_can
 take-requires-then-is_cancelled-clause-good c =
     let i = c.args.round in
     let left : IsAt (cancelled i) c.take.new.session c.take.new.counts =
-    at_for (written i) c.cancel-cancel.result (cancels i) c.args.session.now c.take.new.session c.args.counts.now c.take.new.counts c.requires.at c.cancel-cancel.ensures c.in_ok-take.ensures.taken c.in_ok-take.ensures.counted in
+    at_for (written i) c.cancel-cancel.result (cancels i) c.args.session.now c.take.new.session c.args.counts.now c.take.new.counts c.requires.at c.cancel-cancel.ensures c.in-Ok.ensures.taken c.in-Ok.ensures.counted in
     good_for (cancelled i) c.in_ok-event.event replies c.take.new.session c.take.new.counts left c.in_ok-event.ensures (reply_next_gone i c.requires.few)
 
 pub take-requires-then-is_cancelled-clause-unspent : goal.take-requires-then-is_cancelled-clause-unspent
 take-requires-then-is_cancelled-clause-unspent c =
     let i = c.args.round in
     let left : IsAt (cancelled i) c.take.new.session c.take.new.counts =
-    at_for (written i) c.cancel-cancel.result (cancels i) c.args.session.now c.take.new.session c.args.counts.now c.take.new.counts c.requires.at c.cancel-cancel.ensures c.in_ok-take.ensures.taken c.in_ok-take.ensures.counted in
+    at_for (written i) c.cancel-cancel.result (cancels i) c.args.session.now c.take.new.session c.args.counts.now c.take.new.counts c.requires.at c.cancel-cancel.ensures c.in-Ok.ensures.taken c.in-Ok.ensures.counted in
     unspent_for (cancelled i) c.in_ok-event.event replies c.take.new.session c.take.new.counts left c.in_ok-event.ensures (reply_next_gone i c.requires.few)
 
 pub returns-then-is_cancelled : goal.returns-then-is_cancelled
 returns-then-is_cancelled c =
     let i = c.args.round in
     let left : IsAt (cancelled i) c.take.new.session c.take.new.counts =
-    at_for (written i) c.cancel-cancel.result (cancels i) c.args.session.now c.take.new.session c.args.counts.now c.take.new.counts c.requires.at c.cancel-cancel.ensures c.in_ok-take.ensures.taken c.in_ok-take.ensures.counted in
+    at_for (written i) c.cancel-cancel.result (cancels i) c.args.session.now c.take.new.session c.args.counts.now c.take.new.counts c.requires.at c.cancel-cancel.ensures c.in-Ok.ensures.taken c.in-Ok.ensures.counted in
     record {
       at = if_done c.take-then-is_cancelled.result _ _ (IsAt (front (i + 1)) c.take-then-is_cancelled.new.session c.take-then-is_cancelled.new.counts) c.take-then-is_cancelled.ensures.taken c.take-then-is_cancelled.ensures.counted
           (λ taken counted. round_over_gone i c.take-then-is_cancelled.new.session c.take-then-is_cancelled.new.counts (sym c.is_cancelled.ensures ∙ c.if-is_cancelled.true)
