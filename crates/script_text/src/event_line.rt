@@ -334,6 +334,46 @@ fn call(
     Ok(None)
 }
 
+/// What is submitted to one multiplexed connection, by the name and the words behind it: a command, a pipeline, or something else.
+fn named_request(
+    alloc: Global,
+    name: &[u8],
+    words: &mut [Word<'_>],
+    more: &mut Vec<Seq<Word<'_>>>,
+) -> Result<Option<Submission>, AllocError>
+    ensures { IfOk result (λ s. s ≡ by_first requests (name.now ∷ words.old) more.old.items) }
+{
+    if name == b"cmd".as_slice() {
+        return cmd(alloc, words, more.as_slice());
+    }
+    if name == b"noreply".as_slice() {
+        return no_reply(alloc, words, more.as_slice());
+    }
+    if name == b"pipe".as_slice() {
+        return pipe(alloc, words, more);
+    }
+    whole_request(alloc, name, words, more)
+}
+
+/// A transaction, a packed request, or a subscription call.
+fn whole_request(
+    alloc: Global,
+    name: &[u8],
+    words: &mut [Word<'_>],
+    more: &mut Vec<Seq<Word<'_>>>,
+) -> Result<Option<Submission>, AllocError>
+    ensures { IfOk result (λ s.
+        s ≡ by_first (drop 3 requests) (name.now ∷ words.old) more.old.items) }
+{
+    if name == b"multi".as_slice() {
+        return multi(alloc, words, more);
+    }
+    if name == b"packed".as_slice() {
+        return read_packed(alloc, words, more);
+    }
+    call(alloc, name, words, more.as_slice())
+}
+
 /// What is submitted to one multiplexed connection.
 fn request(
     alloc: Global,
@@ -345,23 +385,7 @@ fn request(
     let Some((name, words)) = words.split_first_mut() else {
         return Ok(None);
     };
-    let name = name.as_slice();
-    if name == b"cmd".as_slice() {
-        return cmd(alloc, words, more.as_slice());
-    }
-    if name == b"noreply".as_slice() {
-        return no_reply(alloc, words, more.as_slice());
-    }
-    if name == b"pipe".as_slice() {
-        return pipe(alloc, words, more);
-    }
-    if name == b"multi".as_slice() {
-        return multi(alloc, words, more);
-    }
-    if name == b"packed".as_slice() {
-        return read_packed(alloc, words, more);
-    }
-    call(alloc, name, words, more.as_slice())
+    named_request(alloc, name.as_slice(), words, more)
 }
 
 /// PING, with the message that the words are, if they are one.
