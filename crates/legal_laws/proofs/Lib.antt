@@ -4,3 +4,4 @@ pub mod Internal
 pub mod Submissions
 pub mod Generations
 pub mod Traces
+pub mod Waits

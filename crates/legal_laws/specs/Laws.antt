@@ -16,6 +16,7 @@ use Rattle.legal_laws.specs.Drops.{EndsWhereDropped}
 use Rattle.legal_laws.specs.Pushes.{TellsEnds}
 use Rattle.legal_laws.specs.Sources.{StartsAuthorized}
 use Rattle.legal_laws.specs.Renewals.{TimesRenewals}
+use Rattle.legal_laws.specs.Waits.{WaitsAreTrue}
 
 -- it is so of each legal trace
 abbrev pub OfEachLegal : (List Action → Type 0) → Type 0
@@ -97,3 +98,9 @@ abbrev pub EachTimesRenewals : Type 0
 EachTimesRenewals =
     (config : Config) (word : ℕ) (events : List Event) (trace : List Action) → Legal config word events trace
     → TimesRenewals config trace
+
+-- the waits that each legal trace shows are true
+abbrev pub EachWaitsTruly : Type 0
+EachWaitsTruly =
+    (config : Config) (word : ℕ) (events : List Event) (trace : List Action) → Legal config word events trace
+    → WaitsAreTrue config trace

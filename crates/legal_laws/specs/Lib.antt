@@ -17,4 +17,5 @@ pub mod Generations
 pub mod Rounds
 pub mod Resubscription
 pub mod Late
+pub mod Waits
 pub mod Laws

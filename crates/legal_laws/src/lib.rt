@@ -19,7 +19,7 @@ ghost use Rattle.legal_laws.specs.Laws.{EachStaysWithin, EachKeepsPermits, EachA
 ghost use Rattle.legal_laws.specs.Laws.{EachTellsNotices, EachTellsEnds, EachStartsAuthorized};
 ghost use Rattle.legal_laws.specs.Laws.{EachTellsMessages, EachTellsReports, EachEndsDropped};
 ghost use Rattle.legal_laws.specs.Values.{ConfirmationsAreNone};
-ghost use Rattle.legal_laws.specs.Laws.{EachTimesRenewals};
+ghost use Rattle.legal_laws.specs.Laws.{EachTimesRenewals, EachWaitsTruly};
 ghost use Rattle.legal_laws.specs.Generations.{ComesBack};
 ghost use Rattle.legal_laws.specs.Rounds.{KeepsRounds};
 ghost use Rattle.legal_laws.specs.Resubscription.{SubscribesAsItWas};
@@ -141,6 +141,19 @@ pub fn whoever_left_never_starts()
 /// taken.
 pub fn permits_never_exceed_the_limit()
     ensures { EachKeepsPermits }
+{}
+
+/// Does nothing. Its contract: each wait that a legal trace shows is true there; and as the turn of
+/// each event begins, and behind the last one, each open submission whose message has not started is
+/// in the wait that was shown for it last, which is true then. Who waits for the connect has a link
+/// whose connect was asked for and is neither answered nor closed; for credentials, one that is up,
+/// whose first source was asked for and gave none; for the setup or the resubscription, one that is up,
+/// where that isn't answered, or can't start; for the next attempt, a timer that has not fired. Who
+/// waits for a permit finds as many held as the configuration has; for a place, as many before it in
+/// the queue as that holds, on a link that is held back; for room, its link held back. A link is held
+/// back where as many bytes of its messages as the boundary, and at least one, were not taken.
+pub fn each_wait_is_true()
+    ensures { EachWaitsTruly }
 {}
 
 /// Does nothing. Its contract: in a legal trace the timer of a submission is asked for once at

@@ -1,0 +1,9 @@
+pub mod Found
+pub mod Sizes
+pub mod Judged
+pub mod Links
+pub mod Counts
+pub mod Firsts
+pub mod Resting
+pub mod Sized
+pub mod True
