@@ -4,6 +4,7 @@ pub mod Messages
 pub mod Owes
 pub mod Tales
 pub mod Answers
+pub mod HandedIn
 pub mod InLine
 pub mod Overdue
 pub mod Seated

@@ -6,6 +6,7 @@ ghost use Rattle.driver_model.specs.declared.action.Action.{Action};
 ghost use Rattle.legal_trace.specs.Ledger.{Line, LinkLegal};
 ghost use Rattle.legal_laws.specs.Links.{LinksAreLegal, LedgersAreTold, TakesInOrder};
 ghost use Rattle.legal_laws.specs.Answers.{AnswersOnce, AnswersAll, AnswersOver, RefusesUnspoken};
+ghost use Rattle.legal_laws.specs.Answers.{AnswersEach};
 ghost use Rattle.legal_laws.specs.Next.{OneIsNextBehind};
 ghost use Rattle.legal_laws.specs.Creation.{TellsOfOpening};
 ghost use Rattle.legal_laws.specs.Starts.{StartsRise, LeftStartNoMore};
@@ -49,6 +50,12 @@ pub fn a_legal_trace_answers_once()
 /// cancelled has one outcome.
 pub fn after_a_shutdown_all_are_answered()
     ensures { OfEachLegal AnswersAll }
+{}
+
+/// Does nothing. Its contract, of a legal trace: where no event cancels a submission and one is a shutdown, each submission that
+/// the events hand in has exactly one outcome.
+pub fn where_nobody_cancels_each_is_answered()
+    ensures { AnswersEach }
 {}
 
 /// Does nothing. Its contract: in a legal trace each submission that was not cancelled has one
