@@ -32,4 +32,4 @@ Records h s sink sink' =
 abbrev pub DoesRecord : List (List ℕ) → Status → Side → Side → Side → Side → Option (List Call) → Option (List Call) → Type 0
 DoesRecord words s source source' sink sink' old new =
     ((f : Flight) × IsPlan words × IfTold source (λ bytes. IsLive words bytes source'.bytes old new f) × Records f.session s sink sink')
-    ⊎ ((r : Refusal) × IsRefused r words source source' × Writes (refusal_status r) (refusal_line usage_line r) s sink sink')
+    ⊎ ((r : Refusal) × IsRefused r words source source' old new × Writes (refusal_status r) (refusal_line usage_line r) s sink sink')

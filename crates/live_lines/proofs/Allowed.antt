@@ -1,5 +1,5 @@
 -- The submissions that lines are have forms in their session.
-use Rattle.std.proofs.Common.{◌≡◌, ℕ, ◌+◌, ◌-◌, Bool, true, false, cond, List, [], ◌∷◌, All, length, Option, Some, None, IfSome, IfOk, Result, Ok, Err}
+use Rattle.std.proofs.Common.{◌≡◌, refl, inl, ℕ, ◌+◌, ◌-◌, Bool, true, false, cond, List, [], ◌∷◌, All, length, Option, Some, None, IfSome, IfOk, Result, Ok, Err}
 use Rattle.driver_model.specs.Config.{kind_of}
 use Rattle.driver_model.specs.declared.kind.SessionKind.{SessionKind}
 use Rattle.driver_model.specs.declared.event.EventKind.{EventKind}
@@ -12,6 +12,7 @@ use Rattle.session_callers.specs.Rule.{Each}
 use Rattle.caller_threads.specs.Submits.{Line, IsAllowed}
 use Rattle.containers.proofs.Choices.{chosen}
 use Rattle.program_ends.specs.Sides.{Side}
+use Rattle.outside.specs.declared.world.Call.{Call}
 use Rattle.live_lines.specs.Live.{HasNoLines, IsRefused}
 use Rattle.live_lines.specs.Plans.{plan_of}
 use Rattle.live_lines.specs.declared.planning.Plan.{Plan}
@@ -76,12 +77,12 @@ module _ (session : SessionKind) where
   unfolding lines_of
   all_allowed text bytes = lines_allowed 1 max_text (parts 10 text) (parts_bytes 10 text bytes)
 
--- a source without lines for a plan is why there is no live run of it
-pub refused_lines : (refusal : Refusal) (words : List (List ℕ)) (plan : Plan) (source source' : Side) → plan_of words ≡ Some plan → HasNoLines (kind_of plan.config) refusal source source' → IsRefused refusal words source source'
-refused_lines refusal.ReadFault words plan source source' plans why = (record { plan = plan; plans = plans }, why)
-refused_lines (refusal.Line n) words plan source source' plans why =
-    (record { plan = plan; plans = plans }, λ bytes told. record { plan = plan; plans = plans; fault = why bytes told })
-refused_lines refusal.NoMemory words plan source source' plans why = why
-refused_lines refusal.Usage words plan source source' plans why = absurd why
-refused_lines (refusal.Config name) words plan source source' plans why = absurd why
-refused_lines (refusal.Spent events) words plan source source' plans why = absurd why
+-- a source without lines for a plan is why there is no live run of it, and the world had no call
+pub refused_lines : (calls : Option (List Call)) (refusal : Refusal) (words : List (List ℕ)) (plan : Plan) (source source' : Side) → plan_of words ≡ Some plan → HasNoLines (kind_of plan.config) refusal source source' → IsRefused refusal words source source' calls calls
+refused_lines calls refusal.ReadFault words plan source source' plans why = (record { plan = plan; plans = plans }, why, refl)
+refused_lines calls (refusal.Line n) words plan source source' plans why =
+    (record { plan = plan; plans = plans }, (λ bytes told. record { plan = plan; plans = plans; fault = why bytes told }), refl)
+refused_lines calls refusal.NoMemory words plan source source' plans why = inl refl
+refused_lines calls refusal.Usage words plan source source' plans why = absurd why
+refused_lines calls (refusal.Config name) words plan source source' plans why = absurd why
+refused_lines calls (refusal.Spent events) words plan source source' plans why = absurd why

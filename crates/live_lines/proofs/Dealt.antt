@@ -60,7 +60,7 @@ sum_same : (g h : ℕ → ℕ) → ((c : ℕ) → g c ≡ h c) → (c m : ℕ) �
 sum_same g h is c zero = refl
 sum_same g h is c (suc m) = let a = is c in let r = sum_same g h is (c + 1) m in omega arith
 
-sum_add : (g h : ℕ → ℕ) (c m : ℕ) → sum_from (λ i. g i + h i) c m ≡ sum_from g c m + sum_from h c m
+pub sum_add : (g h : ℕ → ℕ) (c m : ℕ) → sum_from (λ i. g i + h i) c m ≡ sum_from g c m + sum_from h c m
 sum_add g h c zero = refl
 sum_add g h c (suc m) = let r = sum_add g h (c + 1) m in omega arith
 

@@ -15,9 +15,12 @@ use Rattle.program_ends.specs.Sides.{Side, Fails, IfTold}
 use Rattle.program_ends.specs.declared.status.Status.{Status}
 use Rattle.program_ends.specs.declared.status.Status.TheVariants as status
 use Rattle.script_text.specs.Lines.{lines_of}
-use Rattle.live_lines.specs.Does.{IsLineRun, IsConfigRun, IsSpentRun, DoesLive}
-use Rattle.live_lines.specs.Live.{IsAsked, IsLive, IsPlan, IsRefused, Writes, flight_text, refusal_line, refusal_status}
+use Rattle.live_lines.specs.Does.{IsLineRun, IsConfigRun, IsRefusedPlan, IsSpentRun, DoesLive}
+use Rattle.live_lines.specs.Flights.{AskedWord}
+use Rattle.live_lines.specs.Live.{IsAsked, IsAtFault, IsLive, IsPlan, IsRefused, Writes, flight_text, refusal_line, refusal_status}
 use Rattle.live_lines.specs.Plans.{plan_of, refused_of}
+use Rattle.live_lines.proofs.Answered.{each_outcome}
+use Rattle.live_lines.proofs.Planned.{none_refused}
 use Rattle.live_lines.specs.declared.flying.Flight.{Flight}
 use Rattle.live_lines.specs.declared.planning.Plan.{Plan}
 use Rattle.live_lines.specs.declared.reading.Refusal.{Refusal}
@@ -27,6 +30,12 @@ use Rattle.driver_model.specs.Config.{kind_of}
 -- two statuses of other numbers
 apart : (a b : Status) → (number a == number b) ≡ false → a ≡ b → ⊥
 apart a b differ e = let same : number a ≡ number b = ap number e in grind (arith, nat_tests)
+
+-- one that is none of three
+no_way : (its a b c : Status) → (number its == number a) ≡ false → (number its == number b) ≡ false → (number its == number c) ≡ false → (its ≡ a) ⊎ (its ≡ b) ⊎ (its ≡ c) → ⊥
+no_way its a b c x y z (inl e) = apart its a x e
+no_way its a b c x y z (inr (inl e)) = apart its b y e
+no_way its a b c x y z (inr (inr e)) = apart its c z e
 
 -- a status that some text may be cut short with
 abbrev is_cut : Status → Bool
@@ -78,6 +87,13 @@ well_by its s text sink sink' well (inl w) = inl w.0
 well_by its s text sink sink' well (inr (inl w)) = absurd (well w.2)
 well_by its s text sink sink' well (inr (inr w)) = inr w.0
 
+-- words are one plan
+one_plan : (a b : Plan) → Some a ≡ Some b → a ≡ b
+one_plan a b e = cc
+
+none_some : (name : ConfigName) → None ≡ Some name → ⊥
+none_some name e = cc
+
 -- a live run that came to its end
 module _ (usage : List ℕ) (words : List (List ℕ)) (s : Status) (source source' sink sink' : Side) (old new : Option (List Call)) where
   pub flown : (f : Flight) → IfTold source (λ bytes. IsLive words bytes source'.bytes old new f) → IsPlan words → Writes status.Done (flight_text f) s sink sink'
@@ -86,35 +102,48 @@ module _ (usage : List ℕ) (words : List (List ℕ)) (s : Status) (source sourc
       let text = flight_text f in
       let other : (t : Status) → is_cut t ≡ false → (number status.Done == number t) ≡ false → s ≡ t → ⊥ = λ t whole differ is. apart status.Done t differ (wrote status.Done t s text sink sink' whole w is).0 in
       record {
-        done = λ is bytes told. record { flight = f; live = live bytes told; output = (wrote status.Done status.Done s text sink sink' refl w is).1 };
+        done = λ is bytes told. record { flight = f; live = live bytes told; answered = each_outcome (live bytes told).asked.plan (live bytes told).asked.lines f (live bytes told).flight; output = (wrote status.Done status.Done s text sink sink' refl w is).1 };
         no_plan = λ is. absurd (other status.Usage refl refl is);
         unknown = λ none. absurd (plan_not_none words plan none);
         told = λ is. absurd (other status.Usage refl refl is);
+        uncalled = λ is. absurd (none_of is);
         lines = λ is bytes told. absurd (other status.Script refl refl is);
         refused = λ is bytes told. absurd (other status.Config refl refl is);
+        undialled = λ is. absurd (other status.Config refl refl is);
         bad = λ is. other status.BadEvent refl refl is;
         cut = λ why bytes told. record { text = text; output = inl (f, live bytes told, refl); part = part_of status.Done s text sink sink' w };
         write = λ is. failed status.Done s text sink sink' (λ e. apart status.Done status.WriteFault refl e) w is;
         read = λ is. absurd (other status.ReadFault refl refl is);
         fault = λ is. absurd (other status.ReadFault refl refl is);
         spent = λ is bytes told. absurd (other status.Spent refl refl is);
+        exact = λ bytes told plan reads writes. absurd (not_refused bytes (live bytes told) plan);
         complete = λ bytes told asked sound reads writes. well_done (well_by status.Done s text sink sink' writes w);
       }
     where
+      none_of : (s ≡ status.Usage) ⊎ (s ≡ status.Script) ⊎ (s ≡ status.ReadFault) → ⊥
+      none_of (inl is) = apart status.Done status.Usage refl (wrote status.Done status.Usage s (flight_text f) sink sink' refl w is).0
+      none_of (inr (inl is)) = apart status.Done status.Script refl (wrote status.Done status.Script s (flight_text f) sink sink' refl w is).0
+      none_of (inr (inr is)) = apart status.Done status.ReadFault refl (wrote status.Done status.ReadFault s (flight_text f) sink sink' refl w is).0
+
+      not_refused : (bytes : List ℕ) → IsLive words bytes source'.bytes old new f → IsRefusedPlan words bytes → ⊥
+      not_refused bytes live plan =
+          let same : plan.config.asked.plan ≡ live.asked.plan = one_plan plan.config.asked.plan live.asked.plan (sym plan.config.asked.plans ∙ live.asked.plans) in
+          none_some plan.name (sym (none_refused live.asked.plan live.flight.sound live.flight.bare) ∙ ap refused_of (sym same) ∙ plan.config.refused)
+
       well_done : (s ≡ status.Done) ⊎ (s ≡ status.NoMemory) → (s ≡ status.Done) ⊎ (s ≡ status.NoMemory) ⊎ (s ≡ status.Spent)
       well_done (inl is) = inl is
       well_done (inr is) = inr (inl is)
 
   -- what a refusal of some status is
-  usage_by : (r : Refusal) → IsRefused r words source source' → refusal_status r ≡ status.Usage → (plan_of words ≡ None) × (refusal_line usage r ≡ usage)
-  usage_by refusal.Usage h e = (h, refl)
+  usage_by : (r : Refusal) → IsRefused r words source source' old new → refusal_status r ≡ status.Usage → (plan_of words ≡ None) × (refusal_line usage r ≡ usage)
+  usage_by refusal.Usage h e = (h.0, refl)
   usage_by (refusal.Line n) h e = absurd (apart status.Script status.Usage refl e)
   usage_by (refusal.Config name) h e = absurd (apart status.Config status.Usage refl e)
   usage_by (refusal.Spent events) h e = absurd (apart status.Spent status.Usage refl e)
   usage_by refusal.ReadFault h e = absurd (apart status.ReadFault status.Usage refl e)
   usage_by refusal.NoMemory h e = absurd (apart status.NoMemory status.Usage refl e)
 
-  line_by : (r : Refusal) → IsRefused r words source source' → refusal_status r ≡ status.Script → Gained sink.bytes sink'.bytes (refusal_line usage r) → IfTold source (λ bytes. IsLineRun words bytes sink sink')
+  line_by : (r : Refusal) → IsRefused r words source source' old new → refusal_status r ≡ status.Script → Gained sink.bytes sink'.bytes (refusal_line usage r) → IfTold source (λ bytes. IsLineRun words bytes sink sink')
   line_by refusal.Usage h e gained = absurd (apart status.Usage status.Script refl e)
   line_by (refusal.Line n) h e gained = λ bytes told. record { line = n; fault = h.1 bytes told; told = gained }
   line_by (refusal.Config name) h e gained = absurd (apart status.Config status.Script refl e)
@@ -122,7 +151,7 @@ module _ (usage : List ℕ) (words : List (List ℕ)) (s : Status) (source sourc
   line_by refusal.ReadFault h e gained = absurd (apart status.ReadFault status.Script refl e)
   line_by refusal.NoMemory h e gained = absurd (apart status.NoMemory status.Script refl e)
 
-  config_by : (r : Refusal) → IsRefused r words source source' → refusal_status r ≡ status.Config → Gained sink.bytes sink'.bytes (refusal_line usage r) → IfTold source (λ bytes. IsConfigRun words bytes sink sink')
+  config_by : (r : Refusal) → IsRefused r words source source' old new → refusal_status r ≡ status.Config → Gained sink.bytes sink'.bytes (refusal_line usage r) → IfTold source (λ bytes. IsConfigRun words bytes sink sink')
   config_by refusal.Usage h e gained = absurd (apart status.Usage status.Config refl e)
   config_by (refusal.Line n) h e gained = absurd (apart status.Script status.Config refl e)
   config_by (refusal.Config name) h e gained = λ bytes told. record { name = name; refused = h.1 bytes told; told = gained }
@@ -130,7 +159,7 @@ module _ (usage : List ℕ) (words : List (List ℕ)) (s : Status) (source sourc
   config_by refusal.ReadFault h e gained = absurd (apart status.ReadFault status.Config refl e)
   config_by refusal.NoMemory h e gained = absurd (apart status.NoMemory status.Config refl e)
 
-  fault_by : (r : Refusal) → IsRefused r words source source' → refusal_status r ≡ status.ReadFault → Fails source source' × (refusal_line usage r ≡ read_fault_line)
+  fault_by : (r : Refusal) → IsRefused r words source source' old new → refusal_status r ≡ status.ReadFault → Fails source source' × (refusal_line usage r ≡ read_fault_line)
   fault_by refusal.Usage h e = absurd (apart status.Usage status.ReadFault refl e)
   fault_by (refusal.Line n) h e = absurd (apart status.Script status.ReadFault refl e)
   fault_by (refusal.Config name) h e = absurd (apart status.Config status.ReadFault refl e)
@@ -138,7 +167,7 @@ module _ (usage : List ℕ) (words : List (List ℕ)) (s : Status) (source sourc
   fault_by refusal.ReadFault h e = (h.1, refl)
   fault_by refusal.NoMemory h e = absurd (apart status.NoMemory status.ReadFault refl e)
 
-  spent_by : (r : Refusal) → IsRefused r words source source' → refusal_status r ≡ status.Spent → Gained sink.bytes sink'.bytes (refusal_line usage r) → IfTold source (λ bytes. IsSpentRun words bytes sink sink')
+  spent_by : (r : Refusal) → IsRefused r words source source' old new → refusal_status r ≡ status.Spent → Gained sink.bytes sink'.bytes (refusal_line usage r) → IfTold source (λ bytes. IsSpentRun words bytes old new sink sink')
   spent_by refusal.Usage h e gained = absurd (apart status.Usage status.Spent refl e)
   spent_by (refusal.Line n) h e gained = absurd (apart status.Script status.Spent refl e)
   spent_by (refusal.Config name) h e gained = absurd (apart status.Config status.Spent refl e)
@@ -156,7 +185,7 @@ module _ (usage : List ℕ) (words : List (List ℕ)) (s : Status) (source sourc
   never refusal.NoMemory = (apart status.NoMemory status.Done refl, apart status.NoMemory status.BadEvent refl, apart status.NoMemory status.WriteFault refl)
 
   -- words that are no plan are refused for that
-  unknown_by : (r : Refusal) → IsRefused r words source source' → plan_of words ≡ None → (refusal_status r ≡ status.Usage) ⊎ (refusal_status r ≡ status.NoMemory)
+  unknown_by : (r : Refusal) → IsRefused r words source source' old new → plan_of words ≡ None → (refusal_status r ≡ status.Usage) ⊎ (refusal_status r ≡ status.NoMemory)
   unknown_by refusal.Usage h none = inl refl
   unknown_by (refusal.Line n) h none = absurd (plan_not_none words h.0 none)
   unknown_by (refusal.Config name) h none = absurd (plan_not_none words h.0 none)
@@ -164,34 +193,61 @@ module _ (usage : List ℕ) (words : List (List ℕ)) (s : Status) (source sourc
   unknown_by refusal.ReadFault h none = absurd (plan_not_none words h.0 none)
   unknown_by refusal.NoMemory h none = inr refl
 
-  -- words are one plan
-  same_plan : (a b : Plan) → Some a ≡ Some b → a ≡ b
-  same_plan a b e = cc
-
-  -- where all is well but numbers or memory, it is refused for one of these
-  well_refused : (r : Refusal) (bytes : List ℕ) → IsRefused r words source source' → source.bytes ≡ Some bytes → (asked : IsAsked words bytes) → refused_of asked.plan ≡ None → (Fails source source' → ⊥)
-      → (refusal_status r ≡ status.Spent) ⊎ (refusal_status r ≡ status.NoMemory)
-  well_refused refusal.Usage bytes h told asked sound reads = absurd (plan_not_none words (record { plan = asked.plan; plans = asked.plans }) h)
-  well_refused (refusal.Line n) bytes h told asked sound reads =
-      let r = h.1 bytes told in
-      let same : asked.plan ≡ r.plan = same_plan asked.plan r.plan (sym asked.plans ∙ r.plans) in
-      absurd (ok_not_err (lines_of (kind_of r.plan.config) bytes) asked.lines n (ap (λ (plan : Plan). lines_of (kind_of plan.config) bytes) (sym same) ∙ asked.reads) r.fault)
+  -- lines are not at fault
+  not_at_fault : (n : ℕ) (bytes : List ℕ) → IsAtFault words bytes n → IsAsked words bytes → ⊥
+  not_at_fault n bytes r asked =
+      let same : asked.plan ≡ r.plan = one_plan asked.plan r.plan (sym asked.plans ∙ r.plans) in
+      ok_not_err (lines_of (kind_of r.plan.config) bytes) asked.lines n (ap (λ (plan : Plan). lines_of (kind_of plan.config) bytes) (sym same) ∙ asked.reads) r.fault
     where
       ok_not_err : (r : Result (List Line) ℕ) (lines : List Line) (n : ℕ) → r ≡ Ok lines → r ≡ Err n → ⊥
       ok_not_err r lines n is not = cc
+
+  -- before the lines were read the world had no call
+  uncalled_by : (r : Refusal) → IsRefused r words source source' old new → (refusal_status r ≡ status.Usage) ⊎ (refusal_status r ≡ status.Script) ⊎ (refusal_status r ≡ status.ReadFault) → new ≡ old
+  uncalled_by refusal.Usage h e = h.1
+  uncalled_by (refusal.Line n) h e = h.2
+  uncalled_by (refusal.Config name) h e = absurd (no_way status.Config status.Usage status.Script status.ReadFault refl refl refl e)
+  uncalled_by (refusal.Spent events) h e = absurd (no_way status.Spent status.Usage status.Script status.ReadFault refl refl refl e)
+  uncalled_by refusal.ReadFault h e = h.2
+  uncalled_by refusal.NoMemory h e = absurd (no_way status.NoMemory status.Usage status.Script status.ReadFault refl refl refl e)
+
+  -- and where the configuration is refused its word was asked for
+  undialled_by : (r : Refusal) → IsRefused r words source source' old new → refusal_status r ≡ status.Config → AskedWord old new
+  undialled_by refusal.Usage h e = absurd (apart status.Usage status.Config refl e)
+  undialled_by (refusal.Line n) h e = absurd (apart status.Script status.Config refl e)
+  undialled_by (refusal.Config name) h e = h.2
+  undialled_by (refusal.Spent events) h e = absurd (apart status.Spent status.Config refl e)
+  undialled_by refusal.ReadFault h e = absurd (apart status.ReadFault status.Config refl e)
+  undialled_by refusal.NoMemory h e = absurd (apart status.NoMemory status.Config refl e)
+
+  -- a plan of which something is refused is refused for that
+  refused_by : (r : Refusal) (bytes : List ℕ) → IsRefused r words source source' old new → source.bytes ≡ Some bytes → IsRefusedPlan words bytes → (Fails source source' → ⊥)
+      → (refusal_status r ≡ status.Config) ⊎ (refusal_status r ≡ status.NoMemory)
+  refused_by refusal.Usage bytes h told plan reads = absurd (plan_not_none words (record { plan = plan.config.asked.plan; plans = plan.config.asked.plans }) h.0)
+  refused_by (refusal.Line n) bytes h told plan reads = absurd (not_at_fault n bytes (h.1 bytes told) plan.config.asked)
+  refused_by (refusal.Config name) bytes h told plan reads = inl refl
+  refused_by (refusal.Spent events) bytes h told plan reads =
+      let r = h.1 bytes told in
+      let same : r.asked.plan ≡ plan.config.asked.plan = one_plan r.asked.plan plan.config.asked.plan (sym r.asked.plans ∙ plan.config.asked.plans) in
+      absurd (none_some plan.name (sym r.sound ∙ ap refused_of same ∙ plan.config.refused))
+  refused_by refusal.ReadFault bytes h told plan reads = absurd (reads h.1)
+  refused_by refusal.NoMemory bytes h told plan reads = inr refl
+
+  -- where all is well but numbers or memory, it is refused for one of these
+  well_refused : (r : Refusal) (bytes : List ℕ) → IsRefused r words source source' old new → source.bytes ≡ Some bytes → (asked : IsAsked words bytes) → refused_of asked.plan ≡ None → (Fails source source' → ⊥)
+      → (refusal_status r ≡ status.Spent) ⊎ (refusal_status r ≡ status.NoMemory)
+  well_refused refusal.Usage bytes h told asked sound reads = absurd (plan_not_none words (record { plan = asked.plan; plans = asked.plans }) h.0)
+  well_refused (refusal.Line n) bytes h told asked sound reads = absurd (not_at_fault n bytes (h.1 bytes told) asked)
   well_refused (refusal.Config name) bytes h told asked sound reads =
       let r = h.1 bytes told in
-      let same : asked.plan ≡ r.asked.plan = same_plan asked.plan r.asked.plan (sym asked.plans ∙ r.asked.plans) in
+      let same : asked.plan ≡ r.asked.plan = one_plan asked.plan r.asked.plan (sym asked.plans ∙ r.asked.plans) in
       absurd (none_some name (sym sound ∙ ap refused_of same ∙ r.refused))
-    where
-      none_some : (name : ConfigName) → None ≡ Some name → ⊥
-      none_some name e = cc
   well_refused (refusal.Spent events) bytes h told asked sound reads = inl refl
   well_refused refusal.ReadFault bytes h told asked sound reads = absurd (reads h.1)
   well_refused refusal.NoMemory bytes h told asked sound reads = inr refl
 
   -- a live run that was refused
-  pub not_flown : (r : Refusal) → IsRefused r words source source' → Writes (refusal_status r) (refusal_line usage r) s sink sink' → DoesLive usage words s source source' sink sink' old new
+  pub not_flown : (r : Refusal) → IsRefused r words source source' old new → Writes (refusal_status r) (refusal_line usage r) s sink sink' → DoesLive usage words s source source' sink sink' old new
   not_flown r h w =
       let its = refusal_status r in
       let text = refusal_line usage r in
@@ -199,18 +255,31 @@ module _ (usage : List ℕ) (words : List (List ℕ)) (s : Status) (source sourc
         done = λ is bytes told. absurd ((never r).0 (wrote its status.Done s text sink sink' refl w is).0);
         no_plan = λ is. (usage_by r h (wrote its status.Usage s text sink sink' refl w is).0).0;
         unknown = λ none. unknown_then (unknown_by r h none) (ended its s text sink sink' w);
+        uncalled = λ is. uncalled_by r h (wrote_one is);
         told = λ is. let t = wrote its status.Usage s text sink sink' refl w is in subst (λ (xs : List ℕ). Gained sink.bytes sink'.bytes xs) (usage_by r h t.0).1 t.1;
         lines = λ is. let t = wrote its status.Script s text sink sink' refl w is in line_by r h t.0 t.1;
         refused = λ is. let t = wrote its status.Config s text sink sink' refl w is in config_by r h t.0 t.1;
+        undialled = λ is. undialled_by r h (wrote its status.Config s text sink sink' refl w is).0;
         bad = λ is. (never r).1 (wrote its status.BadEvent s text sink sink' refl w is).0;
         cut = λ why bytes told. record { text = text; output = inr (r, h, refl); part = part_of its s text sink sink' w };
         write = λ is. failed its s text sink sink' (never r).2 w is;
         read = λ is. (fault_by r h (wrote its status.ReadFault s text sink sink' refl w is).0).0;
         fault = λ is. let t = wrote its status.ReadFault s text sink sink' refl w is in subst (λ (xs : List ℕ). Gained sink.bytes sink'.bytes xs) (fault_by r h t.0).1 t.1;
         spent = λ is. let t = wrote its status.Spent s text sink sink' refl w is in spent_by r h t.0 t.1;
+        exact = λ bytes told plan reads writes. refused_then (refused_by r bytes h told plan reads) (well_by its s text sink sink' writes w);
         complete = λ bytes told asked sound reads writes. well_then (well_refused r bytes h told asked sound reads) (well_by its s text sink sink' writes w);
       }
     where
+      wrote_one : (s ≡ status.Usage) ⊎ (s ≡ status.Script) ⊎ (s ≡ status.ReadFault) → (refusal_status r ≡ status.Usage) ⊎ (refusal_status r ≡ status.Script) ⊎ (refusal_status r ≡ status.ReadFault)
+      wrote_one (inl is) = inl (wrote (refusal_status r) status.Usage s (refusal_line usage r) sink sink' refl w is).0
+      wrote_one (inr (inl is)) = inr (inl (wrote (refusal_status r) status.Script s (refusal_line usage r) sink sink' refl w is).0)
+      wrote_one (inr (inr is)) = inr (inr (wrote (refusal_status r) status.ReadFault s (refusal_line usage r) sink sink' refl w is).0)
+
+      refused_then : (refusal_status r ≡ status.Config) ⊎ (refusal_status r ≡ status.NoMemory) → (s ≡ refusal_status r) ⊎ (s ≡ status.NoMemory) → (s ≡ status.Config) ⊎ (s ≡ status.NoMemory)
+      refused_then (inl u) (inl is) = inl (is ∙ u)
+      refused_then (inr n) (inl is) = inr (is ∙ n)
+      refused_then any (inr none) = inr none
+
       unknown_then : (refusal_status r ≡ status.Usage) ⊎ (refusal_status r ≡ status.NoMemory) → (s ≡ refusal_status r) ⊎ (s ≡ status.WriteFault) ⊎ (s ≡ status.NoMemory)
           → (s ≡ status.Usage) ⊎ (s ≡ status.WriteFault) ⊎ (s ≡ status.NoMemory)
       unknown_then (inl u) (inl is) = inl (is ∙ u)

@@ -1,10 +1,13 @@
 mod Allowed
+mod Answered
 mod Dealt
 mod Does
 mod Flown
 mod Orders
+mod Planned
 mod RunningOut
 mod Sources
+mod Stopped
 mod Submitted
 mod Unbroken
 mod Writing

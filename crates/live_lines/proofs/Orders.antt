@@ -41,19 +41,19 @@ times_ordered p turns order same_turns =
     sums order ∙ sum_by-IsPermutation f turns order same_turns ∙ sym (sums turns)
 
 -- the place is that of a turn among these
-abbrev Occurs : ℕ → List Turn → Type 0
+abbrev pub Occurs : ℕ → List Turn → Type 0
 Occurs p ts = (i : ℕ) × (i < length ts) × ((d : Turn) → (slice_index_or ts i d).place ≡ p)
 
 first_or_later : (p : ℕ) (t : Turn) (ts : List Turn) (n : ℕ) → same p t.place ≡ n → 0 < times p (places_of (t ∷ ts)) → (0 < times p (places_of ts) → Occurs p ts) → Occurs p (t ∷ ts)
 first_or_later p t ts zero other some rest = let r = rest (omega (arith, some, other)) in (suc r.0, omega (arith, r.1), r.2)
 first_or_later p t ts (suc n) here some rest = (0, omega arith, λ d. let e : t.place ≡ p = omega (arith, here) in e)
 
-occurs : (p : ℕ) (ts : List Turn) → 0 < times p (places_of ts) → Occurs p ts
+pub occurs : (p : ℕ) (ts : List Turn) → 0 < times p (places_of ts) → Occurs p ts
 occurs p [] some = absurd (omega (arith, some))
 occurs p (t ∷ ts) some = first_or_later p t ts (same p t.place) refl some (λ later. occurs p ts later)
 
 -- two histories that are one, cut at the same place
-same_cut : {A : Type 0} (xs ys : List A) (a b : A) (more rest : List A) → length xs ≡ length ys → xs ++ a ∷ more ≡ ys ++ b ∷ rest → (xs ≡ ys) × (a ≡ b)
+pub same_cut : {A : Type 0} (xs ys : List A) (a b : A) (more rest : List A) → length xs ≡ length ys → xs ++ a ∷ more ≡ ys ++ b ∷ rest → (xs ≡ ys) × (a ≡ b)
 same_cut [] [] a b more rest long is = (refl, cc)
 same_cut [] (y ∷ ys) a b more rest long is = absurd (omega (arith, long))
 same_cut (x ∷ xs) [] a b more rest long is = absurd (omega (arith, long))

@@ -1,5 +1,6 @@
 -- Behind which events numbers ran out.
-use Rattle.std.proofs.Common.{◌≡◌, ℕ, ◌+◌, List, [], ◌∷◌, ◌++◌, length, Option, sym, ap, inl, inr, ◌∙◌, subst}
+use mathlib.Core.List.{IsPrefix}
+use Rattle.std.proofs.Common.{◌≡◌, ℕ, ◌+◌, ◌<◌, ◌≤◌, refl, Option, None, List, [], ◌∷◌, ◌++◌, length, sym, ap, inl, inr, ◌∙◌, subst}
 use Rattle.std.proofs.lemmas.List.{append-nil}
 use Rattle.caller_threads.specs.Each.{EachAt, AnyAt}
 use Rattle.caller_threads.specs.Lines.{share}
@@ -12,31 +13,50 @@ use Rattle.session_callers.specs.Calls.{Known}
 use Rattle.session_callers.specs.Rule.{Each, SpendsNext}
 use Rattle.shared_session.specs.History.{History}
 use Rattle.shared_session.specs.declared.errors.StepError.{StepError}
-use Rattle.shared_session.specs.declared.errors.StepError.TheVariants.{Spent}
+use Rattle.shared_session.specs.declared.errors.StepError.TheVariants.{BadEvent, Spent, NoMemory}
 use Rattle.shared_session.specs.declared.session.Failure.TheVariants as failure
 use Rattle.live_run.specs.Agenda.{agenda_of}
 use Rattle.live_run.specs.Deeds.{Broke, events_in}
-use Rattle.live_lines.specs.Flights.{AreSubmitted, IsBare, RanOut}
+use Rattle.redis_error.specs.declared.config_name.ConfigName.{ConfigName}
+use Rattle.live_lines.specs.Flights.{AreOf, AreSubmitted, AskedWord, BrokeOff, IsBare, IsNoFlight, IsOfLine, RanOut, RanOutEarly, StoppedBy}
+use Rattle.live_lines.specs.Plans.{refused_of}
+use Rattle.live_lines.specs.declared.flying.FlightError.{FlightError}
+use Rattle.live_lines.specs.declared.flying.FlightError.TheVariants as flight
+use Rattle.live_lines.proofs.Stopped.{stopped_of_lines}
 use Rattle.live_lines.specs.declared.planning.Plan.{Plan}
 
 -- one of the callers has found it
-caller_ran_out : (config : Config) (word count : ℕ) (P : ℕ → List Line) (n : ℕ) (vs ws : List Known) → Each (IsBare config word) vs → EachAt (λ c v w. HasTried v w (P c)) n vs ws → AnyAt (λ c. IsCause (Spent count)) n vs ws
-    → RanOut config count
-caller_ran_out config word count P n [] ws bare each any = absurd any
-caller_ran_out config word count P n (v ∷ vs) [] bare each any = absurd any
-caller_ran_out config word count P n (v ∷ vs) (w ∷ ws) bare each (inl cause) = record {
-  word = w.view.word;
-  events = w.view.seen;
-  number = cause.2;
-  next = subst (λ (c : Config). SpendsNext c w.view.word w.view.seen) (each.0.same.config.0 ∙ bare.0.0) cause.3;
-}
-caller_ran_out config word count P n (v ∷ vs) (w ∷ ws) bare each (inr later) = caller_ran_out config word count P (n + 1) vs ws bare.1 each.1 later
+caller_ran_out : (plan : Plan) (word count : ℕ) (lines : List Line) (log : List Event) → ((seen : List Event) → IsPrefix seen log → Each IsOfLine seen × (length seen ≤ length lines)) → (P : ℕ → List Line) (n : ℕ) (vs ws : List Known) → Each (IsBare plan.config word) vs
+    → EachAt (λ c v w. HasTried v w (P c)) n vs ws → Each (λ (c : Known). IsPrefix c.view.seen log) ws → AnyAt (λ c. IsCause (Spent count)) n vs ws → RanOutEarly plan lines count
+caller_ran_out plan word count lines log of_lines P n [] ws bare each begins any = absurd any
+caller_ran_out plan word count lines log of_lines P n (v ∷ vs) [] bare each begins any = absurd any
+caller_ran_out plan word count lines log of_lines P n (v ∷ vs) (w ∷ ws) bare each begins (inl cause) =
+    let seen = of_lines w.view.seen begins.0 in
+    record {
+      word = w.view.word;
+      events = w.view.seen;
+      number = cause.2;
+      only = seen.0;
+      few = seen.1;
+      next = subst (λ (c : Config). SpendsNext c w.view.word w.view.seen) (each.0.same.config.0 ∙ bare.0.0) cause.3;
+    }
+caller_ran_out plan word count lines log of_lines P n (v ∷ vs) (w ∷ ws) bare each begins (inr later) = caller_ran_out plan word count lines log of_lines P (n + 1) vs ws bare.1 each.1 begins.1 later
 
 -- while lines were submitted
-pub stopped_out : (config : Config) (word : ℕ) (vs ws : List Known) (lines : List Line) (error : StepError) → Each (IsBare config word) vs → HaveStopped error vs ws lines → (count : ℕ) → error ≡ Spent count → RanOut config count
-stopped_out config word vs ws lines error bare stopped count is =
-    let h = subst (λ (e : StepError). HaveStopped e vs ws lines) is stopped in
-    caller_ran_out config word count (λ c. share (length vs) c lines) 0 vs ws bare h.each h.cause
+stopped_early : (plan : Plan) (word : ℕ) (vs ws : List Known) (lines : List Line) (log : List Event) (count : ℕ) → 0 < length vs → Each (IsBare plan.config word) vs → HaveStopped (Spent count) vs ws lines → AreOf log ws → RanOutEarly plan lines count
+stopped_early plan word vs ws lines log count some bare stopped of =
+    caller_ran_out plan word count lines log (λ seen front. stopped_of_lines plan.config word log seen lines vs ws some bare stopped.each of.0 of.1 front)
+    (λ c. share (length vs) c lines) 0 vs ws bare stopped.each of.0 stopped.cause
+
+-- so there is no live run
+pub none_submitted : {old new : Option (List Call)} (plan : Plan) (word : ℕ) (vs ws : List Known) (lines : List Line) (error : StepError) (result : FlightError) → refused_of plan ≡ None → 0 < length vs → Each (IsBare plan.config word) vs → HaveStopped error vs ws lines
+    → ((name : ConfigName) → result ≡ flight.Config name → ⊥) → ((n : ℕ) → result ≡ flight.Spent n → (error ≡ Spent n) × ((log : List Event) × AreOf log ws)) → AskedWord old new → IsNoFlight plan lines old new result
+none_submitted plan word vs ws lines error (flight.Config name) none some bare stopped sound spent asked = absurd (sound name refl)
+none_submitted plan word vs ws lines error flight.NoMemory none some bare stopped sound spent asked = inr (inl asked)
+none_submitted plan word vs ws lines error (flight.Spent count) none some bare stopped sound spent asked =
+    let of = spent count refl in
+    let early = stopped_early plan word vs ws lines of.1.0 count some bare (subst (λ (e : StepError). HaveStopped e vs ws lines) of.0 stopped) of.1.1 in
+    (none, record { word = early.word; events = early.events; number = early.number; next = early.next }, inl (asked, early))
 
 -- numbers had run out before the session was driven
 out_before : (plan : Plan) (word count : ℕ) (before last : History) (es : List Event) → SpendsNext plan.config word before.events → last.events ≡ before.events ++ es → es ≡ [] → count ≡ length last.events → RanOut plan.config count
@@ -75,3 +95,18 @@ pub broke_out : {old new : Option (List Call)} (plan : Plan) (word : ℕ) (lines
     → (count : ℕ) → error ≡ Spent count → RanOut plan.config count
 broke_out {old} {new} plan word lines numbers actions error before later submitted broke count is =
     broke_by plan word lines numbers actions before later count submitted (subst (λ (e : StepError). Broke e old new before later (agenda_of actions)) is broke)
+
+abbrev count_of : FlightError → ℕ → ℕ
+count_of (flight.Spent count) other = count
+count_of (flight.Config name) other = other
+count_of flight.NoMemory other = other
+
+-- two refusals behind as many events
+pub same_count : (n m : ℕ) → flight.Spent n ≡ flight.Spent m → n ≡ m
+same_count n m e = ap (λ (x : FlightError). count_of x n) e
+
+-- a run that broke off was stopped
+pub off_stopped : {old new : Option (List Call)} (plan : Plan) (lines : List Line) (error : StepError) → (error ≡ BadEvent → ⊥) → BrokeOff plan lines old new error → StoppedBy plan lines old new error
+off_stopped plan lines (Spent count) good off = inr off
+off_stopped plan lines NoMemory good off = inr off
+off_stopped plan lines BadEvent good off = absurd (good refl)

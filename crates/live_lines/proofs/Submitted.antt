@@ -11,13 +11,14 @@ use Rattle.session_callers.specs.Rule.{Each, MaySpend, total, times, same, below
 use Rattle.caller_threads.specs.declared.job.Turn.{Turn}
 use Rattle.caller_threads.specs.Each.{EachAt}
 use Rattle.caller_threads.specs.Lines.{share, share_from}
-use Rattle.caller_threads.specs.Submits.{Line, IsAllowed, AreAllowed, IsTurnOf, AreTurnsOf, places_of, numbers_of, HasSubmitted, HaveRun, HaveSubmitted, IsTold}
+use Rattle.caller_threads.specs.Submits.{Line, IsAllowed, AreAllowed, IsTurnOf, AreTurnsOf, places_of, numbers_of, HasSubmitted, HasTried, HaveRun, HaveStopped, HaveSubmitted, IsTold}
 use Rattle.session_callers.specs.Rule.{Ascends}
 use Rattle.session_callers.proofs.Totals.{prefix_length}
 use Rattle.caller_threads.proofs.Places.{each_with}
 use Rattle.caller_threads.proofs.Submitting.{ascends_within, ascends_anyhow}
 use Rattle.session_callers.specs.Closes.{AreUndialled, IsShared, IsUndialled}
 use Rattle.shared_session.specs.History.{History}
+use Rattle.shared_session.specs.declared.errors.StepError.{StepError}
 use Rattle.shared_session.specs.Replay.{opening_actions}
 use Rattle.live_lines.specs.Flights.{IsBare, AreSubmitted, callers_of}
 use Rattle.live_lines.specs.declared.planning.Plan.{Plan}
@@ -84,6 +85,12 @@ module _ (config : Config) (word : ℕ) (vs ws : List Known) (lines : List Line)
       let own : (c : ℕ) (v w : Known) → HasShare c v w → times p w.view.mine ≡ total f (share_from k c 0 turns) = λ c v w h.
       ap (times p) (h.1.mine ∙ ap (λ (xs : List ℕ). xs ++ places_of (share k c turns)) h.0.2) ∙ times_places p (share k c turns) in
       times_places p turns ∙ sym (total_shares f k 0 some turns) ∙ sym (total_by_place HasShare (λ (c : Known). times p c.view.mine) (λ (c : ℕ). total f (share_from k c 0 turns)) 0 vs ws own have_shares) ∙ counted
+
+-- callers that were stopped are callers of its table still
+pub tables_tried : (config : Config) (word : ℕ) (vs ws : List Known) (lines : List Line) (error : StepError) → Each (IsBare config word) vs → HaveStopped error vs ws lines → (z : TableId) → Each (λ (c : Known). c.table ≡ z) vs → Each (λ (c : Known). c.table ≡ z) ws
+tables_tried config word vs ws lines error bare stopped z of =
+    let tried = λ (c : ℕ) (v w : Known). HasTried v w (share (length vs) c lines) in
+    second_ones (λ c v w. (v.table ≡ z) × tried c v w) (λ (c : Known). c.table ≡ z) (λ c v w h. h.1.same.table ∙ h.0) 0 vs ws (each_with (λ (c : Known). c.table ≡ z) tried 0 vs ws of stopped.each)
 
 -- what the session of a plan has forms for, each of its callers may submit
 pub allowed_to : (config : Config) (word : ℕ) (lines : List Line) (vs : List Known) → Each (IsAllowed (kind_of config)) lines → Each (IsBare config word) vs → Each (AreAllowed lines) vs

@@ -1,5 +1,6 @@
 -- What a live run is: callers submit its lines, and then the session is driven over the world until it ends.
-use Rattle.std.specs.Prelude.{◌≡◌, ℕ, ◌<◌, false, List, [], length, max, Option, Some}
+use mathlib.Core.List.{IsPrefix}
+use Rattle.std.specs.Prelude.{◌≡◌, ◌⊎◌, ℕ, ◌<◌, ◌≤◌, false, List, [], length, max, Option, Some, None}
 use Rattle.caller_threads.specs.declared.job.Turn.{Turn}
 use Rattle.caller_threads.specs.Submits.{Line, AreTurnsOf, event_of, places_of, numbers_of}
 use Rattle.driver_model.specs.declared.config.Config.{Config}
@@ -10,6 +11,8 @@ use Rattle.live_lines.specs.declared.flying.FlightError.{FlightError}
 use Rattle.live_lines.specs.declared.flying.FlightError.TheVariants as flight
 use Rattle.live_lines.specs.declared.planning.Plan.{Plan}
 use Rattle.live_lines.specs.Plans.{refused_of}
+use Rattle.live_run.specs.Agenda.{agenda_of}
+use Rattle.live_run.specs.Deeds.{Broke}
 use Rattle.live_run.specs.Driven.{DrivenWith}
 use Rattle.outside.specs.World.{Adds}
 use Rattle.outside.specs.declared.world.Call.{Call}
@@ -17,9 +20,11 @@ use Rattle.outside.specs.declared.world.Call.TheVariants as call
 use Rattle.session_callers.specs.Calls.{Known}
 use Rattle.session_callers.specs.Closes.{IsUndialled}
 use Rattle.caller_threads.specs.Lines.{share}
-use Rattle.session_callers.specs.Rule.{times, below, Ascends, Each, MaySpend, SpendsNext}
+use Rattle.session_callers.specs.Rule.{times, total, below, Ascends, Each, MaySpend, SpendsNext}
 use Rattle.shared_session.specs.History.{History}
 use Rattle.shared_session.specs.Replay.{AreGood, AreUnspent, IsSound, trace_of}
+use Rattle.shared_session.specs.declared.errors.StepError.{StepError}
+use Rattle.shared_session.specs.declared.errors.StepError.TheVariants.{BadEvent, Spent, NoMemory}
 
 -- a caller of a session of this configuration and word, which has submitted and dialled nothing
 abbrev pub IsBare : Config → ℕ → Known → Type 0
@@ -69,8 +74,46 @@ pub record RanOut (config : Config) (count : ℕ) : Type 0 where
   pub number : count ≡ length events
   pub next : SpendsNext config word events
 
--- why there was none: what is refused first of the plan, or that numbers ran out, or memory
-abbrev pub IsNoFlight : Plan → FlightError → Type 0
-IsNoFlight plan (flight.Config name) = refused_of plan ≡ Some name
-IsNoFlight plan (flight.Spent events) = RanOut plan.config events
-IsNoFlight plan flight.NoMemory = Unit {0}
+-- the world was asked for one word, and had no other call
+pub record AskedWord (old new : Option (List Call)) : Type 0 where
+  pub word : ℕ
+  pub asked : Adds old new (call.Word word)
+
+-- A live run broke off: the callers of the plan had submitted these lines to a session whose word is the world's first, and then
+-- the session was driven by the deeds of passes, until this error
+pub record BrokeOff (plan : Plan) (lines : List Line) (old new : Option (List Call)) (error : StepError) : Type 0 where
+  pub word : ℕ
+  pub middle : Option (List Call)
+  pub asked : Adds old middle (call.Word word)
+  pub numbers : List ℕ
+  pub opened : History
+  pub submitted : AreSubmitted plan word lines numbers opened
+  pub later : History
+  pub broke : Broke error middle new opened later (agenda_of (trace_of plan.config word opened.events))
+
+-- numbers ran out while the lines were submitted: behind a history of lines alone, and of no more than these
+pub record RanOutEarly (plan : Plan) (lines : List Line) (count : ℕ) : Type 0 where
+  pub word : ℕ
+  pub events : List Event
+  pub number : count ≡ length events
+  pub only : Each IsOfLine events
+  pub few : length events ≤ length lines
+  pub next : SpendsNext plan.config word events
+
+-- how far a run had come that was stopped by this error: to its lines, so that the world was asked for its word alone; or it broke
+-- off. No event is bad
+abbrev pub StoppedBy : Plan → List Line → Option (List Call) → Option (List Call) → StepError → Type 0
+StoppedBy plan lines old new (Spent count) = (AskedWord old new × RanOutEarly plan lines count) ⊎ BrokeOff plan lines old new (Spent count)
+StoppedBy plan lines old new NoMemory = AskedWord old new ⊎ BrokeOff plan lines old new NoMemory
+StoppedBy plan lines old new BadEvent = ⊥
+
+-- each caller has seen a front of this history, and each of its places is one caller's own
+abbrev pub AreOf : List Event → List Known → Type 0
+AreOf log callers = Each (λ (c : Known). IsPrefix c.view.seen log) callers × ((p : ℕ) → total (λ (c : Known). times p c.view.mine) callers ≡ below p (length log))
+
+-- Why there was none: what is refused first of the plan, of which the world knows nothing but that its word was asked for; or
+-- that numbers ran out, of a plan of which nothing is refused; or memory
+abbrev pub IsNoFlight : Plan → List Line → Option (List Call) → Option (List Call) → FlightError → Type 0
+IsNoFlight plan lines old new (flight.Config name) = (refused_of plan ≡ Some name) × AskedWord old new
+IsNoFlight plan lines old new (flight.Spent count) = (refused_of plan ≡ None) × RanOut plan.config count × StoppedBy plan lines old new (Spent count)
+IsNoFlight plan lines old new flight.NoMemory = (new ≡ old) ⊎ StoppedBy plan lines old new NoMemory

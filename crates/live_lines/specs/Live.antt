@@ -11,7 +11,8 @@ use Rattle.program_ends.specs.Sides.{Side, Fails, IfTold}
 use Rattle.program_ends.specs.declared.status.Status.{Status}
 use Rattle.program_ends.specs.declared.status.Status.TheVariants as status
 use Rattle.script_text.specs.Lines.{lines_of}
-use Rattle.live_lines.specs.Flights.{IsFlight, RanOut}
+use Rattle.shared_session.specs.declared.errors.StepError.TheVariants.{Spent, NoMemory}
+use Rattle.live_lines.specs.Flights.{AskedWord, IsFlight, RanOut, StoppedBy}
 use Rattle.live_lines.specs.Outcomes.{outcome_lines, outcomes_of}
 use Rattle.live_lines.specs.Plans.{plan_of, refused_of}
 use Rattle.live_lines.specs.declared.flying.Flight.{Flight}
@@ -48,10 +49,17 @@ pub record IsRefusedConfig (words : List (List ℕ)) (bytes : List ℕ) (name : 
   pub asked : IsAsked words bytes
   pub refused : refused_of asked.plan ≡ Some name
 
--- they were, and numbers ran out behind so many events
-pub record IsRunOut (words : List (List ℕ)) (bytes : List ℕ) (events : ℕ) : Type 0 where
+-- they were, nothing of the plan is refused, and numbers ran out behind so many events
+pub record IsRunOut (words : List (List ℕ)) (bytes : List ℕ) (old new : Option (List Call)) (events : ℕ) : Type 0 where
   pub asked : IsAsked words bytes
+  pub sound : refused_of asked.plan ≡ None
   pub ran_out : RanOut asked.plan.config events
+  pub stopped : StoppedBy asked.plan asked.lines old new (Spent events)
+
+-- they were, and memory was refused to their run
+pub record IsStopped (words : List (List ℕ)) (bytes : List ℕ) (old new : Option (List Call)) : Type 0 where
+  pub asked : IsAsked words bytes
+  pub stopped : StoppedBy asked.plan asked.lines old new NoMemory
 
 -- the words are a plan
 pub record IsPlan (words : List (List ℕ)) : Type 0 where
@@ -68,14 +76,15 @@ HasNoLines kind (refusal.Config name) source source' = ⊥
 HasNoLines kind (refusal.Spent events) source source' = ⊥
 
 -- Why there was no live run, in this order: the words are no plan; the source failed; this line of its bytes is the first at
--- fault; the configuration is refused. Numbers run out only behind all of these, and memory may be refused at any moment.
-abbrev pub IsRefused : Refusal → List (List ℕ) → Side → Side → Type 0
-IsRefused refusal.Usage words source source' = plan_of words ≡ None
-IsRefused refusal.ReadFault words source source' = IsPlan words × Fails source source'
-IsRefused (refusal.Line n) words source source' = IsPlan words × IfTold source (λ bytes. IsAtFault words bytes n)
-IsRefused (refusal.Config name) words source source' = IsPlan words × IfTold source (λ bytes. IsRefusedConfig words bytes name)
-IsRefused (refusal.Spent events) words source source' = IsPlan words × IfTold source (λ bytes. IsRunOut words bytes events)
-IsRefused refusal.NoMemory words source source' = ⊤
+-- fault; the configuration is refused. Numbers run out only behind all of these, and memory may be refused at any moment. The
+-- world had no call before the lines were read, and only its word was asked for where the configuration is refused.
+abbrev pub IsRefused : Refusal → List (List ℕ) → Side → Side → Option (List Call) → Option (List Call) → Type 0
+IsRefused refusal.Usage words source source' old new = (plan_of words ≡ None) × (new ≡ old)
+IsRefused refusal.ReadFault words source source' old new = IsPlan words × Fails source source' × (new ≡ old)
+IsRefused (refusal.Line n) words source source' old new = IsPlan words × IfTold source (λ bytes. IsAtFault words bytes n) × (new ≡ old)
+IsRefused (refusal.Config name) words source source' old new = IsPlan words × IfTold source (λ bytes. IsRefusedConfig words bytes name) × AskedWord old new
+IsRefused (refusal.Spent events) words source source' old new = IsPlan words × IfTold source (λ bytes. IsRunOut words bytes old new events)
+IsRefused refusal.NoMemory words source source' old new = (new ≡ old) ⊎ IfTold source (λ bytes. IsStopped words bytes old new)
 
 -- the line that tells why there was none, where this one tells words that are no plan
 abbrev pub refusal_line : List ℕ → Refusal → List ℕ

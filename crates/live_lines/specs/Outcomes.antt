@@ -1,5 +1,5 @@
 -- The line of an outcome.
-use Rattle.std.specs.Prelude.{ℕ, List, [], flat_map, Option, Some, None}
+use Rattle.std.specs.Prelude.{◌≡◌, ℕ, true, List, [], flat_map, Option, Some, None, is_some}
 use Rattle.driver_model.specs.declared.action.Action.TheVariants as action
 use Rattle.driver_model.specs.declared.outcome.Outcome.{Outcome}
 use Rattle.shared_session.specs.History.{History}
@@ -22,3 +22,7 @@ outcome_lines outcomes submissions = flat_map (outcome_line outcomes) submission
 -- the outcomes by the trace of a session's whole history
 abbrev pub outcomes_of : History → List (Option Outcome)
 outcomes_of s = outcomes_in (trace_of s.config s.word s.events)
+
+-- a submission of a session has its outcome
+abbrev pub HasOutcome : History → ℕ → Type 0
+HasOutcome s n = is_some (outcome_at (outcomes_of s) n) ≡ true

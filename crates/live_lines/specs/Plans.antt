@@ -1,6 +1,6 @@
 -- What the words of a live run ask for.
-use Rattle.std.specs.Prelude.{ℕ, ◌-◌, nat_le, Bool, true, false, ◌&&◌, List, [], ◌∷◌, take, drop, Option, Some, None, option_map, bytes_eq, codes, if◌then◌else◌}
-use Rattle.driver_model.specs.Config.{first_fault, wants_credentials}
+use Rattle.std.specs.Prelude.{ℕ, ◌-◌, nat_le, min, is_some, Bool, true, false, ◌&&◌, List, [], ◌∷◌, take, drop, Option, Some, None, option_map, bytes_eq, codes, if◌then◌else◌}
+use Rattle.driver_model.specs.Config.{connect_timeout, connection_words, first_fault, wants_credentials}
 use Rattle.driver_model.specs.declared.config.Config.{Config}
 use Rattle.redis_error.specs.declared.config_name.ConfigName.{ConfigName}
 use Rattle.redis_error.specs.declared.config_name.ConfigName.TheVariants as name
@@ -44,3 +44,17 @@ or_else None other = other
 -- what is refused first of a plan: what is of its configuration, and then that credentials are to come of a source
 abbrev pub refused_of : Plan → Option ConfigName
 refused_of plan = or_else (first_fault plan.config) (creds_fault (wants_credentials plan.config))
+
+-- the most milliseconds that a dial may take whose connect may take so many: a day, where that has no limit
+abbrev pub within_a_day : Option ℕ → ℕ
+within_a_day None = 86_400_000
+within_a_day (Some ms) = min ms 86_400_000
+
+-- the most that a dial of this plan may take: as many as its connect may, and a second where a plan says nothing of its connect
+abbrev pub limit_in : Option Plan → ℕ
+limit_in None = 1_000
+limit_in (Some plan) = if is_some (connection_words plan.config) then within_a_day (connect_timeout plan.config) else 1_000
+
+-- the most milliseconds that a dial of the live run may take that words ask for
+abbrev pub dial_limit : List (List ℕ) → ℕ
+dial_limit words = limit_in (plan_of words)

@@ -1,11 +1,17 @@
-ghost use Rattle.std.specs.Prelude.{◌≡◌, ℕ, ◌≤◌, ◌++◌, [], false, length, max, IfOk, IfErr, IsErrOf};
-ghost use Rattle.caller_threads.specs.Submits.{IsAllowed};
+ghost use Rattle.std.specs.Prelude.{◌≡◌, ℕ, ◌≤◌, ◌++◌, List, [], false, length, max, Option, None};
+ghost use Rattle.std.specs.Prelude.{IfOk, IfErr, IsErrOf};
+ghost use Rattle.caller_threads.specs.Submits.{IsAllowed, Line};
 ghost use Rattle.driver_model.specs.Config.{kind_of, wants_credentials};
+ghost use Rattle.driver_model.specs.declared.event.Event.{Event};
+ghost use Rattle.redis_error.specs.declared.config_name.ConfigName.{ConfigName};
 ghost use Rattle.session_callers.specs.Closes.{IsUndialled};
 ghost use Rattle.session_callers.specs.Rule.{Each};
 ghost use Rattle.live_run.specs.Claims.{HasClaimed};
 ghost use Rattle.shared_session.specs.Replay.{IsSound, trace_of};
-ghost use Rattle.live_lines.specs.Flights.{AreSubmitted, IsBare, IsFlight, IsNoFlight, RanOut};
+ghost use Rattle.live_lines.specs.Flights.{AreOf, AreSubmitted, AskedWord, IsBare, IsFlight, IsNoFlight};
+ghost use Rattle.live_lines.specs.Flights.{RanOut, StoppedBy};
+ghost use Rattle.live_lines.specs.Plans.{refused_of};
+ghost use Rattle.outside.specs.declared.world.Call.{Call};
 
 use crate::planning::Plan;
 use caller_threads::{OpenGate, submit_lines};
@@ -44,13 +50,41 @@ pub enum FlightError {
 /// Why the step of a live run was refused. Its events are never bad.
 fn refused(error: StepError) -> FlightError
     requires { error ≡ StepError.BadEvent → ⊥ }
-    ensures { (plan : Plan)
+    ensures { (plan : Plan) (lines : List Line) (old new : Option (List Call))
+        → refused_of plan ≡ None
         → ((n : ℕ) → error ≡ StepError.Spent n → RanOut plan.config n)
-        → IsNoFlight plan result }
+        → StoppedBy plan lines old new error
+        → IsNoFlight plan lines old new result }
 {
     match error {
         StepError::BadEvent => unreachable!(),
         StepError::Spent { events } => FlightError::Spent(events),
+        StepError::NoMemory => FlightError::NoMemory,
+    }
+}
+
+/// Why lines were not submitted. Where numbers have run out, the callers give their session back first.
+fn stopped<R: Wait>(
+    rt: &R,
+    shared: SharedSession,
+    callers: Vec<Caller>,
+    error: StepError,
+) -> FlightError
+    requires good { error ≡ StepError.BadEvent → ⊥ }
+    requires of { Each (λ caller. caller.table ≡ shared.table.shared.table_id) callers.items }
+    ensures sound { (name : ConfigName) → result ≡ FlightError.Config name → ⊥ }
+    ensures spent { (n : ℕ) → result ≡ FlightError.Spent n
+        → (error ≡ StepError.Spent n) × ((log : List Event) × AreOf log callers.items) }
+{
+    match error {
+        StepError::BadEvent => unreachable!(),
+        StepError::Spent { events } => match shared.keep(rt, callers) {
+            Ok(kept) => {
+                drop(kept);
+                FlightError::Spent(events)
+            }
+            Err(_) => FlightError::NoMemory,
+        },
         StepError::NoMemory => FlightError::NoMemory,
     }
 }
@@ -109,7 +143,8 @@ fn submitted<R: Threads + Wait + Sync>(
     ensures asked { IfOk result (λ made.
         actions.new.items ≡ trace_of plan.config word made.0.events
         ) }
-    ensures err { IfErr result (IsNoFlight plan) }
+    ensures err { IfErr result (λ error. (old new : Option (List Call))
+        → AskedWord old new → IsNoFlight plan lines.items old new error) }
 {
     let Plan { callers, config } = plan;
     let wanted = config.wants_credentials();
@@ -119,9 +154,14 @@ fn submitted<R: Threads + Wait + Sync>(
         Err(MakeError::NoMemory) => return Err(FlightError::NoMemory),
     };
     if wanted {
+        drop(shared);
+        drop(first);
+        drop(lines);
         return Err(FlightError::Config(ConfigName::Creds));
     }
     let Ok(mut callers) = join_all(rt, alloc, &shared, first, callers) else {
+        drop(shared);
+        drop(lines);
         return Err(FlightError::NoMemory);
     };
     let mut numbers = Vec::new(alloc);
@@ -137,11 +177,18 @@ fn submitted<R: Threads + Wait + Sync>(
         actions,
     ) {
         Ok(()) => {}
-        Err(error) => return Err(refused(error)),
+        Err(error) => {
+            drop(numbers);
+            return Err(stopped(rt, shared, callers, error));
+        }
     }
     match shared.keep(rt, callers) {
         Ok((session, keeper)) => Ok((session, numbers, keeper)),
-        Err(_) => Err(FlightError::NoMemory),
+        Err(missing) => {
+            drop(missing);
+            drop(numbers);
+            Err(FlightError::NoMemory)
+        }
     }
 }
 
@@ -158,9 +205,13 @@ pub fn fly<R: Threads + Wait + Sync, W: World>(
     ensures flight { IfOk result (
         IsFlight plan lines.items (W.told world.old) (W.told world.new)
         ) }
-    ensures err { IfErr result (IsNoFlight plan) }
+    ensures err { IfErr result (
+        IsNoFlight plan lines.items (W.told world.old) (W.told world.new)
+        ) }
 {
     let Ok(count) = u32::try_from(lines.len()) else {
+        drop(plan);
+        drop(lines);
         return Err(FlightError::NoMemory);
     };
     let mut actions = Vec::new(alloc);
@@ -178,6 +229,11 @@ pub fn fly<R: Threads + Wait + Sync, W: World>(
             keeper,
             ending,
         }),
-        Err(error) => Err(refused(error)),
+        Err(error) => {
+            drop(session);
+            drop(numbers);
+            drop(keeper);
+            Err(refused(error))
+        }
     }
 }

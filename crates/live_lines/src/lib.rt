@@ -11,7 +11,7 @@ mod whole_run;
 pub use flying::{Flight, FlightError, fly};
 pub use live_run::Ending;
 pub use outcomes::write_outcomes;
-pub use planning::{Plan, plan_of};
+pub use planning::{Plan, dial_limit, plan_of};
 pub use reading::{Refusal, flight_of};
 pub use refusing::refuse;
 pub use whole_run::live;

@@ -1,10 +1,17 @@
-ghost use Rattle.std.specs.Prelude.{◌≡◌, IfOk};
+ghost use Rattle.std.specs.Prelude.{◌≡◌, Some, IfOk};
 ghost use Rattle.script_text.specs.Lines.{texts};
 ghost use Rattle.live_lines.specs.Plans.{callers_of, digit_count, plan_of, without_callers};
+ghost use Rattle.live_lines.specs.Plans.{dial_limit, limit_in, within_a_day};
 
 use driver_model::Config;
 use script_text::read_config;
 use std::alloc::{AllocError, Global};
+
+/// The most milliseconds that a dial takes where nothing is said of the connect.
+const SECOND: u64 = 1_000;
+
+/// The most that a dial takes whose connect has no limit.
+const DAY: u64 = 86_400_000;
 
 /// What the words of a live run ask for.
 #[derive(Drop)]
@@ -57,5 +64,40 @@ pub fn plan_of(alloc: Global, words: &[String]) -> Result<Option<Plan>, AllocErr
     match read_config(alloc, words)? {
         Some(config) => Ok(Some(Plan { callers, config })),
         None => Ok(None),
+    }
+}
+
+/// The most milliseconds that a dial may take whose connect may take so many.
+fn within_a_day(connect: Option<u64>) -> u64
+    ensures { result ≡ within_a_day connect }
+{
+    match connect {
+        Some(ms) => ms.min(DAY),
+        None => DAY,
+    }
+}
+
+impl Plan {
+    /// The most milliseconds that a dial may take: as many as the connect may, which are a second where nothing is said of
+    /// it. A connect without a limit has a day.
+    fn dial_limit(&self) -> u64
+        ensures { result ≡ limit_in (Some self.now) }
+    {
+        if self.config.connection().is_some() {
+            within_a_day(self.config.connect_timeout())
+        } else {
+            SECOND
+        }
+    }
+}
+
+/// The most milliseconds that a dial of the live run may take that words ask for: those of `connect=MS`, and a second where
+/// they don't say it, or are no plan.
+pub fn dial_limit(alloc: Global, words: &[String]) -> Result<u64, AllocError>
+    ensures { IfOk result (λ ms. ms ≡ dial_limit (texts words.now)) }
+{
+    match plan_of(alloc, words)? {
+        Some(plan) => Ok(plan.dial_limit()),
+        None => Ok(SECOND),
     }
 }

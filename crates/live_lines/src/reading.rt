@@ -84,6 +84,7 @@ pub fn flight_of<R: Threads + Wait + Sync, S: Source, W: World>(
         IsRefused refusal (texts words.now)
         (side (S.left source.old) (S.fault_count source.old))
         (side (S.left source.new) (S.fault_count source.new))
+        (W.told world.old) (W.told world.new)
         ) }
 {
     let plan = match plan_of(alloc, words) {
@@ -93,7 +94,10 @@ pub fn flight_of<R: Threads + Wait + Sync, S: Source, W: World>(
     };
     let lines = match source_lines(alloc, plan.config.kind(), source) {
         Ok(lines) => lines,
-        Err(refusal) => return Err(refusal),
+        Err(refusal) => {
+            drop(plan);
+            return Err(refusal);
+        }
     };
     match fly(rt, alloc, plan, lines, world) {
         Ok(flight) => Ok(flight),

@@ -1,4 +1,4 @@
-ghost use Rattle.std.specs.Prelude.{◌≡◌, IfOk};
+ghost use Rattle.std.specs.Prelude.{◌≡◌, ◌++◌, OnOk, IfOk};
 ghost use Rattle.program_ends.specs.Sides.{side};
 ghost use Rattle.live_lines.specs.Live.{Writes, refusal_line, refusal_status};
 
@@ -8,21 +8,31 @@ use outside::Sink;
 use program_ends::{READ_FAULT, Status, print, push_config_line, push_line};
 use std::alloc::{AllocError, Global};
 
+/// Appends the line that tells a refusal, where this one tells words that are no plan.
+fn push_refusal(
+    alloc: Global,
+    line: &mut Bytes,
+    refusal: Refusal,
+    usage: &[u8],
+) -> Result<(), AllocError>
+    ensures { OnOk result (line.new ≡ line.old ++ refusal_line usage.now refusal) }
+{
+    match refusal {
+        Refusal::Usage => line.extend_from_slice(usage),
+        Refusal::Line(number) => push_line(alloc, line, b"script line", u64::from(number)),
+        Refusal::Config(name) => push_config_line(alloc, line, name),
+        Refusal::ReadFault => line.extend_from_slice(READ_FAULT),
+        Refusal::Spent(events) => push_line(alloc, line, b"spent event", u64::from(events) + 1),
+        Refusal::NoMemory => Ok(()),
+    }
+}
+
 /// The line that tells a refusal, where this one tells words that are no plan.
 fn refusal_line(alloc: Global, refusal: Refusal, usage: &[u8]) -> Result<Bytes, AllocError>
     ensures { IfOk result (λ line. line ≡ refusal_line usage.now refusal) }
 {
     let mut line = Bytes::new(alloc);
-    match refusal {
-        Refusal::Usage => line.extend_from_slice(usage)?,
-        Refusal::Line(number) => push_line(alloc, &mut line, b"script line", u64::from(number))?,
-        Refusal::Config(name) => push_config_line(alloc, &mut line, name)?,
-        Refusal::ReadFault => line.extend_from_slice(READ_FAULT)?,
-        Refusal::Spent(events) => {
-            push_line(alloc, &mut line, b"spent event", u64::from(events) + 1)?
-        }
-        Refusal::NoMemory => {}
-    }
+    push_refusal(alloc, &mut line, refusal, usage)?;
     Ok(line)
 }
 

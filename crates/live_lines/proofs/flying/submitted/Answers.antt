@@ -1,11 +1,12 @@
-use Rattle.std.proofs.Common.{◌++◌, List, ap, ◌∙◌, subst, ℕ}
+use Rattle.std.proofs.Common.{arith, length, sym, ◌++◌, List, ap, ◌∙◌, subst, ℕ}
 use Rattle.driver_model.specs.declared.action.Action.{Action}
 use Rattle.driver_model.specs.declared.config.Config.{Config}
 use Rattle.session_callers.specs.Rule.{Each}
 use Rattle.shared_session.specs.Replay.{opening_actions}
 use Rattle.live_lines.specs.Flights.{IsBare}
-use Rattle.live_lines.proofs.RunningOut.{stopped_out}
-use Rattle.live_lines.proofs.Submitted.{allowed_to, are_submitted, tables_still, undialled_still, asked_well}
+use Rattle.live_lines.proofs.Planned.{none_refused}
+use Rattle.live_lines.proofs.RunningOut.{none_submitted}
+use Rattle.live_lines.proofs.Submitted.{allowed_to, are_submitted, tables_still, tables_tried, undialled_still, asked_well}
 use Rattle.live_lines.proofs.flying.submitted.Goals as goal
 
 pub submit_lines-requires-clause-allowed : goal.submit_lines-requires-clause-allowed
@@ -15,13 +16,19 @@ submit_lines-requires-clause-allowed g c κs within =
     let bare = subst (λ (config : Config). Each (IsBare config first.word) callers) (ap (λ v. v.config) c.in-Ok.ensures.caller.1) c.in-Ok-join_all.ensures.bare in
     allowed_to c.args.plan.config first.word c.args.lines.items callers c.requires.allowed bare
 
+pub stopped-requires-clause-of : goal.stopped-requires-clause-of
+stopped-requires-clause-of g c =
+    let first = c.in-Ok.made.1.view in
+    tables_tried first.config first.word c.in-Ok-join_all.callers.items c.submit_lines.new.callers.items c.args.lines.items c.in-Err.error c.in-Ok-join_all.ensures.bare c.in-Err.ensures.err _ c.in-Ok-join_all.ensures.of
+
 pub returns-in-Err-clause-err : goal.returns-in-Err-clause-err
 returns-in-Err-clause-err g c =
     let first = c.in-Ok.made.1.view in
     let is = c.in-Ok.ensures.caller.1 in
-    let bare = subst (λ (config : Config). Each (IsBare config first.word) c.in-Ok-join_all.callers.items) (ap (λ v. v.config) is) c.in-Ok-join_all.ensures.bare in
-    c.refused.ensures c.args.plan
-    (stopped_out c.args.plan.config first.word c.in-Ok-join_all.callers.items c.submit_lines.new.callers.items c.args.lines.items c.in-Err.error bare c.in-Err.ensures.err)
+    let callers = c.in-Ok-join_all.callers.items in
+    let bare = subst (λ (config : Config). Each (IsBare config first.word) callers) (ap (λ v. v.config) is) c.in-Ok-join_all.ensures.bare in
+    λ old new asked. none_submitted c.args.plan first.word callers c.submit_lines.new.callers.items c.args.lines.items c.in-Err.error c.stopped.result
+    (none_refused c.args.plan c.in-Ok.ensures.sound (sym c.wants_credentials-wanted.ensures ∙ c.if-wanted.false)) (omega (arith, c.in-Ok-join_all.ensures.count)) bare c.in-Err.ensures.err c.stopped.ensures.sound c.stopped.ensures.spent asked
 
 pub keep-requires : goal.keep-requires
 keep-requires g c =
