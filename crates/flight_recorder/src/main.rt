@@ -4,6 +4,7 @@
 mod recording;
 
 use crate::recording::run;
+use live_lines::dial_limit;
 use outside::{NetWorld, standard_input, standard_output};
 use program_ends::Status;
 use std::alloc::{AllocError, Global};
@@ -38,7 +39,10 @@ fn main(rt: HostRuntime) -> ExitCode {
     };
     let mut source = standard_input(&rt);
     let mut sink = standard_output(&rt);
-    let mut world = NetWorld::new(&rt, alloc);
+    let Ok(limit) = dial_limit(alloc, words.as_slice()) else {
+        return Status::NoMemory.code();
+    };
+    let mut world = NetWorld::with_dial_limit(&rt, alloc, limit);
     let status = run(
         &rt,
         alloc,

@@ -60,6 +60,9 @@ free_does n source sink = record {
   cut = λ is. cc;
   write = λ is. cc;
   spent = λ is. cc;
+  shows_version = λ same. absurd (not_version n same);
+  shows_help = λ same. absurd (not_help n same);
+  of_replay = λ is. cc;
   exact = λ same. absurd (not_replay n same);
   complete = λ same. absurd (not_replay n same);
 }
@@ -90,6 +93,9 @@ line_does n source sink sink' holds gained = record {
   cut = λ is. cc;
   write = λ is. cc;
   spent = λ is. cc;
+  shows_version = λ same. absurd (not_version n same);
+  shows_help = λ same. absurd (not_help n same);
+  of_replay = λ is. cc;
   exact = λ same. absurd (not_replay n same);
   complete = λ same. absurd (not_replay n same);
 }
@@ -119,6 +125,9 @@ front_does n source sink sink' part fails = record {
   cut = λ is. part;
   write = λ is. fails;
   spent = λ is. cc;
+  shows_version = λ same. absurd (not_version n same);
+  shows_help = λ same. absurd (not_help n same);
+  of_replay = λ is. cc;
   exact = λ same. absurd (not_replay n same);
   complete = λ same. absurd (not_replay n same);
 }

@@ -1,5 +1,5 @@
 -- What a run of the program does and answers.
-use Rattle.std.specs.Prelude.{◌≡◌, ◌⊎◌, ℕ, List, []}
+use Rattle.std.specs.Prelude.{◌≡◌, ◌⊎◌, ℕ, Bool, true, false, List, []}
 use Rattle.outside.specs.Ends.{Gained, GainedPart}
 use Rattle.session_program.specs.declared.command.Command.{Command}
 use Rattle.session_program.specs.declared.command.Command.TheVariants.{Replay, Generate, Help, Version, Unknown}
@@ -38,6 +38,18 @@ abbrev pub EndsRefused : List ℕ → Status → Side → Side → Side → Side
 EndsRefused bytes s source source' sink sink' =
     HasRefusedConfig bytes → (Fails source source' → ⊥) → (Fails sink sink' → ⊥) → (s ≡ status.Config) ⊎ (s ≡ status.NoMemory)
 
+-- the statuses with which only a replay ends: no script, a refused configuration, a bad event, no input, no more numbers
+abbrev pub ends_replay : Status → Bool
+ends_replay status.Script = true
+ends_replay status.Config = true
+ends_replay status.BadEvent = true
+ends_replay status.ReadFault = true
+ends_replay status.Spent = true
+ends_replay status.Done = false
+ends_replay status.Usage = false
+ends_replay status.NoMemory = false
+ends_replay status.WriteFault = false
+
 -- What a command does that ends with this status, from its source and its sink as they were to what they come to.
 pub record Does (command : Command) (s : Status) (source source' sink sink' : Side) : Type 0 where
   -- 0, of a replay
@@ -50,9 +62,11 @@ pub record Does (command : Command) (s : Status) (source source' sink sink' : Si
   pub generates : (n : ℕ) → command ≡ Generate n → (s ≡ status.Done) ⊎ (s ≡ status.NoMemory) ⊎ (s ≡ status.WriteFault)
   pub unread : (n : ℕ) → command ≡ Generate n → source' ≡ source
   pub unwritten : (n : ℕ) → s ≡ status.NoMemory → command ≡ Generate n → Gained sink.bytes sink'.bytes []
-  -- 0, of other commands
+  -- 0 or 7, of other commands
   pub version : s ≡ status.Done → command ≡ Version → Gained sink.bytes sink'.bytes version_line
   pub help : s ≡ status.Done → command ≡ Help → Gained sink.bytes sink'.bytes help_text
+  pub shows_version : command ≡ Version → (s ≡ status.Done) ⊎ (s ≡ status.WriteFault)
+  pub shows_help : command ≡ Help → (s ≡ status.Done) ⊎ (s ≡ status.WriteFault)
   -- 1
   pub words : s ≡ status.Usage → command ≡ Unknown
   pub unknown : command ≡ Unknown → (s ≡ status.Usage) ⊎ (s ≡ status.WriteFault)
@@ -74,6 +88,8 @@ pub record Does (command : Command) (s : Status) (source source' sink sink' : Si
   pub write : s ≡ status.WriteFault → Fails sink sink'
   -- 8
   pub spent : s ≡ status.Spent → IfTold source (λ bytes. IsSpentRun bytes sink.bytes sink'.bytes)
+  -- 2, 3, 4, 6 or 8: only a replay ends so
+  pub of_replay : ends_replay s ≡ true → command ≡ Replay
   -- 3 or 5
   pub exact : command ≡ Replay → IfTold source (λ bytes. EndsRefused bytes s source source' sink sink')
   -- 0 or 5

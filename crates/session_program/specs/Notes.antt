@@ -216,7 +216,7 @@ pub record Notes (s : Status) (source notes notes' : Side) : Type 0 where
 -- what is said on the side of a live run, by its status
 abbrev pub live_note : Status → List ℕ
 live_note status.Done = []
-live_note status.Usage = codes "live is followed by callers=K, K from 1 to 8, or nothing, and then by single, pubsub or monitor, url=redis://HOST:PORT and its settings" ++ codes "\n"
+live_note status.Usage = codes "live is followed by callers=K, K from 1 to 8, or nothing, and then by single, manager, lazy, pubsub or monitor, url=redis://HOST:PORT and its settings" ++ codes "\n"
 live_note status.Script = codes "each line is a line `submit ..` of a script, and the last one is `end`: nothing was dialled" ++ codes "\n"
 live_note status.Config = codes "what standard output names is refused of the configuration: nothing was dialled" ++ codes "\n"
 live_note status.BadEvent = []

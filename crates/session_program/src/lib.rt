@@ -17,4 +17,4 @@ mod running;
 pub use command::Command;
 pub use lines::help_text;
 pub use reading::{ReadError, read_text};
-pub use running::{run, run_alone};
+pub use running::{dial_limit, run, run_alone};

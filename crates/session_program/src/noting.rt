@@ -29,7 +29,7 @@ const SPENT_NOTE: &[u8] = b"a number of 32 bits has run out: split the script\n"
 
 /// Where the words behind `live` are no plan.
 const PLAN_NOTE: &[u8] =
-    b"live is followed by callers=K, K from 1 to 8, or nothing, and then by single, pubsub or monitor, url=redis://HOST:PORT and its settings\n";
+    b"live is followed by callers=K, K from 1 to 8, or nothing, and then by single, manager, lazy, pubsub or monitor, url=redis://HOST:PORT and its settings\n";
 
 /// Where a line of a live run is at fault.
 const LINES_NOTE: &[u8] =

@@ -9,6 +9,7 @@ ghost use Rattle.session_program.specs.Notes.{IsBadNoteOf, IsOwn, IsWritten, Not
 ghost use Rattle.program_ends.specs.Sides.{side};
 ghost use Rattle.session_program.specs.Stops.{Told, stop_line};
 ghost use Rattle.live_lines.specs.Does.{DoesLive};
+ghost use Rattle.live_lines.specs.Plans.{dial_limit};
 ghost use Rattle.script_text.specs.Lines.{texts};
 ghost use Rattle.session_program.specs.Words.{command_of, is_live, words_behind};
 
@@ -229,6 +230,14 @@ fn words_behind(words: &[String]) -> &[String]
         [_, rest @ ..] => rest,
         [] => words,
     }
+}
+
+/// The most milliseconds that a dial of the program may take, by its words: those of `connect=MS`, and a second where they
+/// don't say it.
+pub fn dial_limit(alloc: Global, words: &[String]) -> Result<u64, AllocError>
+    ensures { IfOk result (λ ms. ms ≡ dial_limit (words_behind words.now)) }
+{
+    live_lines::dial_limit(alloc, words_behind(words))
 }
 
 /// All that the program does: a live run where the first word is `live`, and else what one alone does.

@@ -4,7 +4,7 @@
 
 use outside::{NetWorld, StdSink, standard_input, standard_output};
 use program_ends::Status;
-use session_program::run;
+use session_program::{dial_limit, run};
 use std::alloc::{AllocError, Global};
 use std::env::Args;
 use std::io::ErrorKind;
@@ -38,7 +38,10 @@ fn main(rt: HostRuntime) -> ExitCode {
     let mut source = standard_input(&rt);
     let mut sink = standard_output(&rt);
     let mut notes = StdSink::new(rt.stderr());
-    let mut world = NetWorld::new(&rt, alloc);
+    let Ok(limit) = dial_limit(alloc, words.as_slice()) else {
+        return Status::NoMemory.code();
+    };
+    let mut world = NetWorld::with_dial_limit(&rt, alloc, limit);
     let status = run(
         &rt,
         alloc,
