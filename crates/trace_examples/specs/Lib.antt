@@ -13,3 +13,6 @@ pub mod Creds
 pub mod Renewals
 pub mod Listeners
 pub mod Takings
+pub mod News
+pub mod Messages
+pub mod Refusals

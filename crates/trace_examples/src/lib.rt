@@ -3,6 +3,9 @@
 
 mod dealing;
 mod listening;
+mod messages;
+mod news;
+mod refusals;
 mod renewing;
 mod returning;
 
@@ -89,6 +92,13 @@ ghost use Rattle.trace_examples.specs.Claims.{NoneBegins, NoneBeginsIn, NoneIs};
 
 pub use dealing::these_become_of_values;
 pub use listening::{nor_do_these_listen, nor_have_these_a_form, these_listen};
+pub use messages::{
+    faults_are_these_to_messages, items_come_to_these, messages_take_these, these_errors_are_causes,
+};
+pub use news::links_see_these_events;
+pub use refusals::{
+    queues_hold_so_many, these_connections_are_refused_first, these_managers_are_refused_first,
+};
 pub use renewing::{nor_are_these_renewals, these_renew_credentials};
 pub use returning::{nor_do_these_come_back, these_come_back};
 
