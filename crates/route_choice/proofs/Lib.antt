@@ -7,3 +7,4 @@ mod Choosing
 mod PartsLinked
 mod Keeping
 mod Once
+mod Missing

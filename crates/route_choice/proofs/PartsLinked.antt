@@ -27,7 +27,7 @@ linked_by entries a (Some (Connected link)) e = inl e
 linked_by entries a (Some (Reconnecting link)) e = inr e
 linked_by entries a (Some Connecting) e = tt
 
-linked_at : (entries : List NodeEntry) (to : Option NodeAddress) → IfSome (option_and_then (part_at entries) to) (IsLinked entries)
+pub linked_at : (entries : List NodeEntry) (to : Option NodeAddress) → IfSome (option_and_then (part_at entries) to) (IsLinked entries)
 linked_at entries None = tt
 linked_at entries (Some a) = linked_by entries a (state_at a entries) refl
 

@@ -1,5 +1,5 @@
 -- What is true of the parts of a request that goes to several nodes.
-use Rattle.std.specs.Prelude.{◌≡◌, ◌≤◌, ◌⊎◌, ℕ, ◌+◌, true, get_or, List, [], ◌∷◌, map, length, Option, Some}
+use Rattle.std.specs.Prelude.{◌≡◌, ◌≤◌, ◌⊎◌, ℕ, ◌+◌, true, get_or, List, [], ◌∷◌, map, length, slice_get, Option, Some}
 use Rattle.std.specs.List.{All}
 use Rattle.slot_hash.specs.declared.address.NodeAddress.{NodeAddress}
 use Rattle.command_table.specs.declared.routing.Route.{Route}
@@ -11,7 +11,7 @@ use Rattle.cluster_plan.specs.declared.connections.ConnState.TheVariants.{Connec
 use Rattle.cluster_plan.specs.declared.connections.NodeEntry.{NodeEntry}
 use Rattle.cluster_plan.specs.Connections.{state_at}
 use Rattle.route_choice.specs.declared.targets.NodeLink.{NodeLink}
-use Rattle.route_choice.specs.declared.targets.PartTargets.TheVariants.{Parts}
+use Rattle.route_choice.specs.declared.targets.PartTargets.TheVariants.{Parts, RouteWithoutLink}
 use Rattle.route_choice.specs.Parts.{part_resolution, routes_of}
 use Rattle.route_choice.specs.Resolver.{picks_for}
 
@@ -59,3 +59,18 @@ abbrev pub DrawsAreFew : {R : Type 0} → (R → ℕ → ℕ → ℕ) → (R →
 DrawsAreFew {R} pick_of picked =
     (reads : Option R) (nodes : MultipleNodeRoutingInfo) (draws : List ℕ) (entries : List NodeEntry) (rows : List SlotRow)
     → (part_resolution pick_of picked reads nodes draws entries rows).draws ≤ length (routes_of nodes)
+
+-- a route leads to no node that has a link
+abbrev pub LeadsNowhere : List NodeEntry → Option NodeAddress → Type 0
+LeadsNowhere entries led = (node : NodeLink) → led ≡ Some node.address → IsLinked entries node → ⊥
+
+abbrev pub IsAmong : List ℕ → ℕ → Type 0
+IsAmong numbers n = (i : ℕ) × (slice_get numbers i ≡ Some n)
+
+-- where some routes have no link, the numbers that are named are those of the routes that lead nowhere, counted from 0
+abbrev pub NamesTheMissing : {R : Type 0} → (R → ℕ → ℕ → ℕ) → (R → ℕ → ℕ → R) → Type 0
+NamesTheMissing {R} pick_of picked =
+    (reads : Option R) (routes : List (Route × List ℕ)) (draws : List ℕ) (entries : List NodeEntry) (rows : List SlotRow) (missing : List ℕ)
+    → (part_resolution pick_of picked reads (MultiSlot routes) draws entries rows).targets ≡ RouteWithoutLink missing
+    → (n : ℕ) (led : Option NodeAddress) → slice_get (led_addresses pick_of picked reads draws 0 rows routes) n ≡ Some led
+    → (LeadsNowhere entries led → IsAmong missing n) × (IsAmong missing n → LeadsNowhere entries led)

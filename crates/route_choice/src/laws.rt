@@ -1,6 +1,6 @@
 ghost use Rattle.route_choice.specs.MayUse.{ConnectsWhereNamed, GoesWhereItMay, IsFoundWhereOneServes};
 ghost use Rattle.route_choice.specs.OrderLaws.{RepairKeepsOrder, StaysInOrderWith, StaysInOrderWithout};
-ghost use Rattle.route_choice.specs.PartLaws.{DrawsAreFew, EachNodeOnce, EachPartIsLinked, EachRouteHasItsNode};
+ghost use Rattle.route_choice.specs.PartLaws.{DrawsAreFew, EachNodeOnce, EachPartIsLinked, EachRouteHasItsNode, NamesTheMissing};
 
 use mux_routing::ReadRoutingStrategy;
 
@@ -21,6 +21,12 @@ pub fn parts_go_to_their_own_nodes<R: ReadRoutingStrategy>()
     ensures once { EachNodeOnce R.pick_of R.picked }
     ensures own { EachRouteHasItsNode R.pick_of R.picked }
     ensures draws { DrawsAreFew R.pick_of R.picked }
+{}
+
+/// Does nothing. Its contract, for any strategy: where some but not all routes of a request with keys in several slots have no link,
+/// the numbers that are named are those of the routes whose node has none.
+pub fn routes_without_links_are_named<R: ReadRoutingStrategy>()
+    ensures { NamesTheMissing R.pick_of R.picked }
 {}
 
 /// Does nothing. Its contract: a map of links whose entries stand in the order of their addresses stays so when an entry is put in

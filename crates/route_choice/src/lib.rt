@@ -11,7 +11,10 @@ mod resolver;
 mod stand_ins;
 mod targets;
 
-pub use laws::{a_try_goes_where_it_may, parts_go_to_their_own_nodes, the_map_stays_in_order};
+pub use laws::{
+    a_try_goes_where_it_may, parts_go_to_their_own_nodes, routes_without_links_are_named,
+    the_map_stays_in_order,
+};
 pub use parts::resolve_parts;
 pub use resolver::resolve;
 pub use targets::{Draws, NodeLink, PartResolution, PartTargets, Resolution, RouteTarget};
