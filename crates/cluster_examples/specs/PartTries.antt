@@ -6,6 +6,7 @@ use Rattle.command_table.specs.declared.routing.MultipleNodeRoutingInfo.{Multipl
 use Rattle.command_table.specs.declared.routing.MultipleNodeRoutingInfo.TheVariants.{MultiSlot}
 use Rattle.mux_routing.specs.declared.rows.SlotRow.{SlotRow}
 use Rattle.mux_routing.specs.declared.strategy.ReadStrategy.{ReadStrategy}
+use Rattle.mux_routing.specs.declared.strategy.ReadStrategy.TheVariants.{RoundRobin}
 use Rattle.mux_routing.specs.Strategies.{after_pick, place_picked}
 use Rattle.cluster_plan.specs.declared.connections.ConnState.{ConnState}
 use Rattle.cluster_plan.specs.declared.connections.NodeEntry.{NodeEntry}
@@ -49,3 +50,16 @@ nowhere draws = parts draws targets.NotFound
 
 abbrev pub without : ℕ → List ℕ → PartResolution
 without draws routes = parts draws (targets.RouteWithoutLink routes)
+
+-- which of two replicas is picked in turn behind so many picks, and what counts from then on
+abbrev pub picked_in_turn : ℕ → ℕ × ReadStrategy
+picked_in_turn next = (place_picked (RoundRobin next) 2 8, after_pick (RoundRobin next) 2 8)
+
+-- the count stands still at the greatest number of 32 bits
+abbrev pub turns_taken : List (ℕ × (ℕ × ReadStrategy))
+turns_taken =
+    (0, (0, RoundRobin 1))
+    ∷ (1, (1, RoundRobin 2))
+    ∷ (4_294_967_294, (0, RoundRobin 4_294_967_295))
+    ∷ (4_294_967_295, (1, RoundRobin 4_294_967_295))
+    ∷ []

@@ -17,7 +17,7 @@ use Rattle.cluster_retries.specs.declared.choosing.Row.{Row}
 use Rattle.cluster_retries.specs.declared.poll_flush_action.PollFlushAction.{PollFlushAction}
 use Rattle.cluster_retries.specs.declared.poll_flush_action.PollFlushAction.TheVariants as done
 use Rattle.cluster_retries.specs.Waits.{default_params, wait_of, wait_upper}
-use Rattle.cluster_retries.specs.Table.{following}
+use Rattle.cluster_retries.specs.Table.{are_left, following}
 use Rattle.cluster_retries.specs.Actions.{joined}
 
 -- of a base wait, the least and the greatest wait
@@ -65,6 +65,14 @@ waits =
     ∷ (record { factor = 3_000; base = 0; least = 1_280; retry = 1; draw = 1_719 }, 1_280)
     ∷ (record { factor = 10; base = 2; least = 2 ^ 64 - 1; retry = 1; draw = 5_000 }, 2 ^ 64 - 1)
     ∷ []
+
+-- whether retries are left behind a round of this number, as the defaults have it
+abbrev pub left_behind : ℕ → Bool
+left_behind round = are_left round default_params
+
+-- sixteen rounds may be tried again
+abbrev pub rounds : List (ℕ × Bool)
+rounds = (0, true) ∷ (15, true) ∷ (16, false) ∷ (17, false) ∷ []
 
 -- what follows the end of a round, with retries left and without
 abbrev pub follows : OperationTarget × RoundEnd → Row × Row

@@ -9,6 +9,7 @@ use Rattle.cluster_retries.specs.declared.request_routing.Redirect.{Redirect}
 use Rattle.cluster_retries.specs.declared.request_routing.SingleNodeRoute.{SingleNodeRoute}
 use Rattle.cluster_retries.specs.declared.request_routing.SingleNodeRoute.TheVariants.{SpecificNode}
 use Rattle.cluster_plan.specs.declared.connections.ConnState.{ConnState}
+use Rattle.cluster_plan.specs.declared.connections.ConnState.TheVariants.{Connected, Connecting, Reconnecting}
 use Rattle.cluster_plan.specs.declared.connections.NodeEntry.{NodeEntry}
 use Rattle.cluster_plan.specs.Connections.{entry}
 use Rattle.route_choice.specs.declared.targets.RouteTarget.TheVariants.{Node, Connect, NotFound}
@@ -27,11 +28,22 @@ rows = record { start = 0; end = 8_191; primary = node 7_000; replicas = node 7_
 abbrev pub having : ConnState → ConnState → ConnState → List NodeEntry
 having first second third = entry (node 7_000) first ∷ entry (node 7_001) second ∷ entry (node 7_002) third ∷ []
 
+-- none of the slots' own nodes, and three others
+abbrev pub others_alone : List NodeEntry
+others_alone =
+    entry (node 7_000) (Reconnecting 0)
+    ∷ entry (node 7_001) Connecting
+    ∷ entry (node 7_002) (Reconnecting 2)
+    ∷ entry (node 7_003) (Connected 3)
+    ∷ entry (node 7_004) (Connected 4)
+    ∷ entry (node 7_005) (Connected 5)
+    ∷ []
+
 -- to which of a slot's nodes
 abbrev pub to : ℕ → SlotAddr → SingleNodeRoute
 to slot addr = SpecificNode (record { slot = slot; addr = addr })
 
--- where a try goes with the draws 5 and 7, of which the first is 1 of 2 and the second 1 of 3
+-- where a try goes with the draws 5 and 7, of which the first is 1 of 2 and 2 of 3, and the second 1 of 2 and of 3
 abbrev pub tried : Option ReadStrategy → Option Redirect → SingleNodeRoute → List NodeEntry → Resolution
 tried reads redirect route entries = resolution place_picked reads (record { route = route; redirect = redirect }) (record { first = 5; second = 7 }) entries rows
 

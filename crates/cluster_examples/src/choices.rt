@@ -5,8 +5,9 @@ ghost use Rattle.mux_routing.specs.declared.strategy.ReadStrategy.TheVariants as
 ghost use Rattle.cluster_retries.specs.declared.request_routing.Redirect.TheVariants.{Ask, Moved};
 ghost use Rattle.cluster_retries.specs.declared.request_routing.SingleNodeRoute.TheVariants.{ByAddress, Connection, Random};
 ghost use Rattle.cluster_plan.specs.declared.connections.ConnState.TheVariants.{Connected, Connecting, Reconnecting};
-ghost use Rattle.cluster_examples.specs.Tries.{at, connecting, having, node, nowhere, to, tried};
+ghost use Rattle.cluster_examples.specs.Tries.{at, connecting, having, node, nowhere, others_alone, to, tried};
 ghost use Rattle.cluster_examples.specs.PartTries as parts;
+ghost use Rattle.cluster_examples.specs.Tables.{Gives};
 
 /// Does nothing. Its contract: a slot's route takes its node where that is connected: the primary, or a replica by each strategy and
 /// without one. A pick takes a draw, and a strategy isn't asked for the primary.
@@ -34,6 +35,8 @@ pub fn others_stand_in()
         (having (Reconnecting 0) (Connected 1) (Connected 2)) ≡ at 1 7_002 2 }
     ensures both_draws { tried (Some by.Random) None (to 12 ReplicaRequired)
         (having (Connected 0) Connecting (Reconnecting 2)) ≡ at 2 7_000 0 }
+    ensures behind_a_pick { tried (Some by.Random) None (to 12 ReplicaRequired) others_alone ≡ at 2 7_004 4 }
+    ensures without_a_pick { tried (Some by.Random) None (to 12 Master) others_alone ≡ at 1 7_005 5 }
     ensures no_row { tried (Some by.Random) None (to 9_000 ReplicaRequired)
         (having (Connected 0) Connecting (Connected 2)) ≡ at 1 7_002 2 }
     ensures none { tried (Some by.Random) None (to 12 ReplicaRequired)
@@ -84,5 +87,13 @@ pub fn parts_go_so()
         ≡ parts.each 2 (parts.to 7_004 3 ∷ parts.to 7_000 0 ∷ parts.to 7_003 2 ∷ []) }
     ensures no_stand_in { parts.spread None (parts.keys_in ReplicaRequired (9_000 ∷ 12 ∷ []))
         (parts.having (Connected 0) (Connected 1) Connecting (Connected 3)) ≡ parts.without 0 (1 ∷ []) }
+    ensures several_missing { parts.spread None (parts.keys_in Master (12 ∷ 9_000 ∷ 13 ∷ 14 ∷ []))
+        (parts.having (Connected 0) Connecting (Connected 2) (Connected 3))
+        ≡ parts.without 0 (0 ∷ 2 ∷ 3 ∷ []) }
     ensures no_link { parts.spread None (parts.keys_in Master (9_000 ∷ 12 ∷ [])) [] ≡ parts.nowhere 0 }
+{}
+
+/// Does nothing. Its contract: replicas are picked in turn, and the count of picks stands still at its greatest.
+pub fn replicas_are_picked_in_turn()
+    ensures { Gives parts.picked_in_turn parts.turns_taken }
 {}

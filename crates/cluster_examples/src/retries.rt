@@ -2,13 +2,18 @@ ghost use Rattle.std.specs.Prelude.{true, false, codes};
 ghost use Rattle.cluster_retries.specs.Routing.{after_redirect, after_reset};
 ghost use Rattle.cluster_retries.specs.Table.{IsLed, IsNotLed};
 ghost use Rattle.cluster_examples.specs.Tables.{Gives};
-ghost use Rattle.cluster_examples.specs.Retries.{a_node, ask_value, moved_value, read_only_value, upper_by, uppers, wait_by, waits, follows, node_rows, other_rows, values, joined_by, joined_actions};
+ghost use Rattle.cluster_examples.specs.Retries.{a_node, ask_value, moved_value, read_only_value, upper_by, uppers, wait_by, waits, follows, node_rows, other_rows, values, joined_by, joined_actions, left_behind, rounds};
 ghost use Rattle.cluster_examples.specs.Routes.{redirects_of, resets_of};
 
 /// Does nothing. Its contract: what waits stay below, and how long they are.
 pub fn waits_are_these()
     ensures uppers { Gives upper_by uppers }
     ensures waits { Gives wait_by waits }
+{}
+
+/// Does nothing. Its contract: behind how many rounds retries are left.
+pub fn so_many_rounds_are_tried_again()
+    ensures { Gives left_behind rounds }
 {}
 
 /// Does nothing. Its contract: each row of the table of retries, at literal errors, with retries left and without; and that values are

@@ -5,4 +5,4 @@ use Rattle.cluster_examples.proofs.choices.parts_go_so.Goals as goal
 
 pub returns : goal.returns
 unfolding address_less primaries shard_at part_resolution
-returns c = record { all = refl; primaries = refl; none = refl; routes = refl; picks = refl; draws = refl; no_stand_in = refl; no_link = refl }
+returns c = record { all = refl; primaries = refl; none = refl; routes = refl; picks = refl; draws = refl; no_stand_in = refl; several_missing = refl; no_link = refl }
