@@ -1,7 +1,7 @@
 ghost use Rattle.std.specs.Prelude.{◌≡◌, map, Some, None, IfOk, IfErr, OnOk};
 ghost use Rattle.std.specs.Option.{option_or};
 ghost use Rattle.cluster_client.specs.Params.{default_params};
-ghost use Rattle.cluster_client.specs.Chosen.{told_by};
+ghost use Rattle.cluster_client.specs.Chosen.{told_by, told_in};
 ghost use Rattle.cluster_client.specs.Client.{all_there, begun, built, client_of, overall_of, IsSound};
 ghost use Rattle.cluster_client.specs.Checks.{first_cluster_fault, RefusesCluster};
 
@@ -68,6 +68,25 @@ fn told_by(
     })
 }
 
+/// What is said to every node of these, where nothing of them and of how the client behaves is refused.
+fn told_soundly(
+    alloc: Global,
+    nodes: &[ConnectionInfo],
+    params: &ClusterParams,
+) -> Result<RedisConnectionInfo, OpenError>
+    ensures ok { IfOk result (λ told. told_in params.now nodes.now ≡ Some told) }
+    ensures sound { OnOk result (first_cluster_fault (Some nodes.now) params.now ≡ None) }
+    ensures err { IfErr result (RefusesCluster (Some nodes.now) params.now) }
+{
+    if let Some(fault) = cluster_fault(nodes, params) {
+        return Err(OpenError::Config(fault));
+    }
+    let Some(first) = nodes.first() else {
+        return Err(OpenError::Config(ConfigName::Nodes));
+    };
+    Ok(told_by(alloc, params, &first.redis)?)
+}
+
 impl OverallResponseTimeout {
     /// How many milliseconds a request may take as a whole, where a node may take so many to answer; none is no limit.
     fn over(self, response: Option<u64>) -> Option<u64>
@@ -92,13 +111,14 @@ impl ClusterClient {
         ensures sound { OnOk result (first_cluster_fault (Some initial_nodes) params ≡ None) }
         ensures err { IfErr result (RefusesCluster (Some initial_nodes) params) }
     {
-        if let Some(fault) = cluster_fault(initial_nodes.as_slice(), &params) {
-            return Err(OpenError::Config(fault));
-        }
-        let Some(first) = initial_nodes.as_slice().first() else {
-            return Err(OpenError::Config(ConfigName::Nodes));
+        let told = match told_soundly(alloc, initial_nodes.as_slice(), &params) {
+            Ok(told) => told,
+            Err(error) => {
+                drop(initial_nodes);
+                drop(params);
+                return Err(error);
+            }
         };
-        let told = told_by(alloc, &params, &first.redis)?;
         let overall = overall.over(params.response_timeout);
         Ok(ClusterClient {
             initial_nodes,

@@ -2,20 +2,20 @@ ghost use Rattle.std.specs.Prelude.{◌≡◌, map, IfOk, IfErr, OnOk};
 ghost use Rattle.connection_info.specs.Written.{url_of};
 ghost use Rattle.cluster_client.specs.Config.{configured, own_config};
 ghost use Rattle.cluster_client.specs.Client.{IsSound};
-ghost use Rattle.cluster_client.specs.Settings.{settings_of, Keeps, ReadBack, RefusesMaking};
+ghost use Rattle.cluster_client.specs.Settings.{settings_of, map_given, Keeps, ReadBack, RefusesMaking};
 
 use crate::client::ClusterClient;
 use crate::config::ClusterConfig;
 use crate::copies::copy_text;
 use crate::given;
 use crate::params::{
-    CONNECTION_TIMEOUT, ClusterParams, MAX_RETRY_WAIT, MIN_RETRY_WAIT, RETRIES,
+    AddressMap, CONNECTION_TIMEOUT, ClusterParams, MAX_RETRY_WAIT, MIN_RETRY_WAIT, RETRIES,
     RETRY_EXPONENT_BASE, RETRY_FACTOR, WRITE_BOUNDARY,
 };
 use crate::settings::{ClusterKind, ClusterSettings};
 use connection_info::{ConnectionInfo, OpenError};
-use containers::Names;
-use std::alloc::Global;
+use containers::{Bytes, Names};
+use std::alloc::{AllocError, Global};
 
 /// The URLs of these addresses, in their order.
 fn urls(alloc: Global, nodes: &[ConnectionInfo]) -> Result<Names, OpenError>
@@ -42,6 +42,33 @@ fn own_config(params: &ClusterParams) -> ClusterConfig
     }
 }
 
+/// The texts of a password, a user and a map of addresses, where they are set.
+type Texts = (Option<Bytes>, Option<Bytes>, Option<AddressMap>);
+
+/// Copies of these of a client that behaves so.
+fn texts(alloc: Global, params: &ClusterParams) -> Result<Texts, AllocError>
+    ensures { IfOk result (λ texts.
+        texts ≡ (params.now.password, params.now.username, map_given params.now.node_address_map)
+        ) }
+{
+    let password = copy_text(alloc, &params.password)?;
+    let user = match copy_text(alloc, &params.username) {
+        Ok(user) => user,
+        Err(error) => {
+            drop(password);
+            return Err(error);
+        }
+    };
+    match given::map(alloc, &params.node_address_map) {
+        Ok(map) => Ok((password, user, map)),
+        Err(error) => {
+            drop(password);
+            drop(user);
+            Err(error)
+        }
+    }
+}
+
 impl ClusterClient {
     /// The words of a session of this kind, under a configuration.
     fn settings(
@@ -60,9 +87,13 @@ impl ClusterClient {
         let params = self.params();
         let told = self.redis_connection_info();
         let nodes = urls(alloc, self.initial_nodes())?;
-        let password = copy_text(alloc, &params.password)?;
-        let user = copy_text(alloc, &params.username)?;
-        let map = given::map(alloc, &params.node_address_map)?;
+        let (password, user, map) = match texts(alloc, params) {
+            Ok(texts) => texts,
+            Err(AllocError) => {
+                drop(nodes);
+                return Err(OpenError::NoMemory);
+            }
+        };
         let connect = config
             .connection_timeout
             .unwrap_or(params.connection_timeout);
