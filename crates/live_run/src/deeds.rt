@@ -131,27 +131,27 @@ pub(crate) fn dial_link<W: World>(
     session: &mut Session,
     keeper: &mut Keeper,
     world: &mut W,
-    target: Target,
+    target: &Target,
 ) -> Result<(), StepError>
     requires { HasClaimed agenda.old.claimed keeper.old }
     ensures claims { OnOk result (HasClaimed agenda.new.claimed keeper.new) }
     ensures did { OnOk result (
         Does (W.told world.old) (W.told world.new) session.old session.new
-        (to_dial target agenda.old) agenda.new (One IsDial)) }
+        (to_dial target.now agenda.old) agenda.new (One IsDial)) }
     ensures err { IfErr result (λ error.
         Broke error (W.told world.old) (W.told world.new) session.old session.new
-        (to_dial target agenda.old)) }
+        (to_dial target.now agenda.old)) }
 {
     if !claim_up_to(keeper, agenda.claimed, target.generation) {
         return Err(StepError::NoMemory);
     }
     let name = host_text(&target.host);
     let answer = world.dial(target.link, name, target.port);
-    let news = dial_news(target.link, answer);
-    match agenda.after_dial(alloc, &target, answer) {
+    match agenda.after_dial(alloc, target, answer) {
         Ok(()) => {}
         Err(_) => return Err(StepError::NoMemory),
     }
+    let news = dial_news(target.link, answer);
     match settle(alloc, agenda, session, world, Some(news)) {
         Ok(()) => Ok(()),
         Err(error) => Err(error),

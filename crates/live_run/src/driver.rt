@@ -3,7 +3,7 @@ ghost use Rattle.live_run.specs.Agenda.{agenda_of};
 ghost use Rattle.live_run.specs.Claims.{HasClaimed};
 ghost use Rattle.live_run.specs.Deeds.{Broke, Does};
 ghost use Rattle.live_run.specs.Endings.{Goes, Over};
-ghost use Rattle.live_run.specs.Passes.{Dialing, Firing, Pass, Reading, Writing};
+ghost use Rattle.live_run.specs.Passes.{Dialing, Firing, Pass, Reading, Then, Writing};
 
 use crate::agenda::Agenda;
 use crate::deeds::{close_each, dial_link, fire_timer, read_link, write_link};
@@ -63,7 +63,16 @@ impl Driver {
             let Some(target) = self.agenda.dials.pop_front() else {
                 return Ok(None);
             };
-            match dial_link(self.alloc, &mut self.agenda, session, keeper, world, target) {
+            let dialled = dial_link(
+                self.alloc,
+                &mut self.agenda,
+                session,
+                keeper,
+                world,
+                &target,
+            );
+            drop(target);
+            match dialled {
                 Ok(()) => left -= 1,
                 Err(error) => return Err(error),
             }
@@ -165,6 +174,41 @@ impl Driver {
         Ok(None)
     }
 
+    /// What a pass does behind its dials, until the run is over: it reads and writes, and then timers fire.
+    fn after_dials<W: World>(
+        &mut self,
+        session: &mut Session,
+        world: &mut W,
+        room: &mut [u8],
+    ) -> Result<Option<Ending>, StepError>
+        requires { length room.old ≡ ROOM }
+        ensures claims { OnOk result (self.new.agenda.claimed ≡ self.old.agenda.claimed) }
+        ensures did { IfOk result (λ ending.
+            Does (W.told world.old) (W.told world.new) session.old session.new
+            self.old.agenda self.new.agenda
+            (Then Reading (Then Writing Firing) (is_none ending) self.old.agenda)) }
+        ensures goes { OnOk result (Goes session.old session.new self.old.verdict.submissions) }
+        ensures over { IfOk result (λ ending. Over ending session.new self.old.verdict.submissions) }
+        ensures same { OnOk result (self.new.verdict.submissions ≡ self.old.verdict.submissions) }
+        ensures err { IfErr result (λ error.
+            Broke error (W.told world.old) (W.told world.new) session.old session.new self.old.agenda) }
+    {
+        match self.read_all(session, world, room) {
+            Ok(None) => {}
+            Ok(Some(ending)) => return Ok(Some(ending)),
+            Err(error) => return Err(error),
+        }
+        match self.write_all(session, world) {
+            Ok(None) => {}
+            Ok(Some(ending)) => return Ok(Some(ending)),
+            Err(error) => return Err(error),
+        }
+        match self.fire_all(session, world) {
+            Ok(ending) => Ok(ending),
+            Err(error) => Err(error),
+        }
+    }
+
     /// One pass, until the run is over: it closes, dials, reads and writes, and then timers fire.
     pub(crate) fn pass<W: World>(
         &mut self,
@@ -196,17 +240,7 @@ impl Driver {
             Ok(Some(ending)) => return Ok(Some(ending)),
             Err(error) => return Err(error),
         }
-        match self.read_all(session, world, room) {
-            Ok(None) => {}
-            Ok(Some(ending)) => return Ok(Some(ending)),
-            Err(error) => return Err(error),
-        }
-        match self.write_all(session, world) {
-            Ok(None) => {}
-            Ok(Some(ending)) => return Ok(Some(ending)),
-            Err(error) => return Err(error),
-        }
-        match self.fire_all(session, world) {
+        match self.after_dials(session, world, room) {
             Ok(ending) => Ok(ending),
             Err(error) => Err(error),
         }

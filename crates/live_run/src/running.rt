@@ -1,4 +1,5 @@
-ghost use Rattle.std.specs.Prelude.{◌≡◌, ◌≤◌, ◌<◌, ◌++◌, length, IfOk, IfErr, OnOk};
+ghost use Rattle.std.specs.Prelude.{◌≡◌, ◌≤◌, ◌<◌, ◌++◌, List, length, IfOk, IfErr, OnOk};
+ghost use Rattle.driver_model.specs.declared.action.Action.{Action};
 ghost use Rattle.live_run.specs.Agenda.{agenda_of};
 ghost use Rattle.live_run.specs.Claims.{HasClaimed};
 ghost use Rattle.live_run.specs.Deeds.{Broke, Does};
@@ -125,6 +126,34 @@ fn end<W: World>(driver: &mut Driver, session: &mut Session, world: &mut W) -> R
     Ok(())
 }
 
+/// Makes passes until the run is over, and ends it.
+fn run_out<W: World>(
+    driver: &mut Driver,
+    session: &mut Session,
+    keeper: &mut Keeper,
+    world: &mut W,
+    room: &mut [u8],
+) -> Result<Ending, StepError>
+    requires room { length room.old ≡ ROOM }
+    requires claimed { HasClaimed driver.old.agenda.claimed keeper.old }
+    ensures driven { IfOk result (λ ending.
+        (early : List Action) → driver.old.agenda ≡ agenda_of early
+        → DrivenWith keeper.new early (W.told world.old) (W.told world.new) session.old session.new
+        driver.old.verdict.submissions ending
+        ) }
+    ensures err { IfErr result (λ error.
+        Broke error (W.told world.old) (W.told world.new) session.old session.new driver.old.agenda) }
+{
+    let ending = match run(driver, session, keeper, world, room) {
+        Ok(ending) => ending,
+        Err(error) => return Err(error),
+    };
+    match end(driver, session, world) {
+        Ok(()) => Ok(ending),
+        Err(error) => Err(error),
+    }
+}
+
 /// Drives a session over a world, until every submission has its outcome, 6,000 passes in a row were idle, or the history
 /// holds 9,999,999 events. Then the session is shut down, and the links are closed.
 ///
@@ -150,15 +179,13 @@ pub fn drive<W: World>(
 {
     let mut room = match new_room(alloc) {
         Ok(room) => room,
-        Err(_) => return Err(StepError::NoMemory),
+        Err(_) => {
+            drop(actions);
+            return Err(StepError::NoMemory);
+        }
     };
     let mut driver = Driver::new(alloc, actions, submissions);
-    let ending = match run(&mut driver, session, keeper, world, room.as_mut_slice()) {
-        Ok(ending) => ending,
-        Err(error) => return Err(error),
-    };
-    match end(&mut driver, session, world) {
-        Ok(()) => Ok(ending),
-        Err(error) => Err(error),
-    }
+    let ended = run_out(&mut driver, session, keeper, world, room.as_mut_slice());
+    drop(driver);
+    ended
 }

@@ -10,9 +10,9 @@ returns-in-Err-clause-err g c = broke_call _ c.dial-answer.ensures.tells
 
 pub returns-in-Ok-settle-clause-did : goal.returns-in-Ok-settle-clause-did
 returns-in-Ok-settle-clause-did g c =
-    dialled_one c.args.target c.host_text-name.ensures c.dial-answer.ensures.tells (c.dial_news-news.ensures c.host_text-name.result.now c.args.target.port)
-    (c.in-Ok.ensures.noted c.host_text-name.result.now c.args.target.port) c.in-Ok-settle.ensures.ok
+    dialled_one c.args.target.now c.host_text-name.ensures c.dial-answer.ensures.tells (c.dial_news-news.ensures c.host_text-name.result.now c.args.target.now.port)
+    (c.in-Ok.ensures.noted c.host_text-name.result.now c.args.target.now.port) c.in-Ok-settle.ensures.ok
 
-pub returns-clause-err : goal.returns-clause-err
-returns-clause-err g c =
-    dial_broken c.args.target c.host_text-name.ensures c.dial-answer.ensures.tells (c.dial_news-news.ensures c.host_text-name.result.now c.args.target.port) c.in-Err-settle.ensures.err
+pub returns-in-Err-settle-clause-err : goal.returns-in-Err-settle-clause-err
+returns-in-Err-settle-clause-err g c =
+    dial_broken c.args.target.now c.host_text-name.ensures c.dial-answer.ensures.tells (c.dial_news-news.ensures c.host_text-name.result.now c.args.target.now.port) c.in-Err-settle.ensures.err
