@@ -1,4 +1,4 @@
-ghost use Rattle.std.specs.Prelude.{◌≡◌, ◌++◌, decimal, OnOk, IfOk};
+ghost use Rattle.std.specs.Prelude.{◌≡◌, ◌++◌, [], decimal, OnOk, IfOk};
 ghost use Rattle.script_generator.specs.Summary.{is_turn, is_start, is_outcome, cancels_one};
 ghost use Rattle.script_generator.specs.Summary.{is_of_cancel, is_cancel, takes, no_summary};
 ghost use Rattle.script_generator.specs.Summary.{counted, counted_each, summary_line};
@@ -154,18 +154,27 @@ impl Summary {
         }
     }
 
-    /// The five numbers as a line.
+    /// Writes the five numbers as a line into a text that is empty.
     #[tactic(auto, unfolding(crate::specs::Summary::summary_line))]
+    fn write_line(&self, line: &mut Bytes) -> Result<(), AllocError>
+        requires { line.old ≡ [] }
+        ensures { OnOk result (line.new ≡ summary_line self.now) }
+    {
+        push(line, b"turns ", self.turns)?;
+        push(line, b" starts ", self.starts)?;
+        push(line, b" items ", self.items)?;
+        push(line, b" outcomes ", self.outcomes)?;
+        push(line, b" cancelled ", self.cancelled)?;
+        line.extend_from_slice(b"\n")?;
+        Ok(())
+    }
+
+    /// The five numbers as a line.
     pub fn line(&self, alloc: Global) -> Result<Bytes, AllocError>
         ensures { IfOk result (λ line. line ≡ summary_line self.now) }
     {
         let mut line = Bytes::new(alloc);
-        push(&mut line, b"turns ", self.turns)?;
-        push(&mut line, b" starts ", self.starts)?;
-        push(&mut line, b" items ", self.items)?;
-        push(&mut line, b" outcomes ", self.outcomes)?;
-        push(&mut line, b" cancelled ", self.cancelled)?;
-        line.extend_from_slice(b"\n")?;
+        self.write_line(&mut line)?;
         Ok(line)
     }
 }
