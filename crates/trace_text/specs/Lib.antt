@@ -3,3 +3,4 @@ pub mod Plain
 pub mod Errors
 pub mod Show
 pub mod Writer
+pub mod Groups

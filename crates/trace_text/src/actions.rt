@@ -1,4 +1,5 @@
-ghost use Rattle.std.specs.Prelude.{◌≡◌, ◌∷◌, [], ◌++◌, OnOk, OnErr, IfOk};
+ghost use Rattle.std.specs.Prelude.{◌≡◌, ◌∷◌, [], ◌++◌, OnOk, OnErr, IfOk, true};
+ghost use Rattle.trace_text.specs.Groups.{names_link};
 ghost use Rattle.trace_text.specs.Words.{following};
 ghost use Rattle.trace_text.specs.Show.{show, action_line, created_words, purpose_words, push_word};
 ghost use Rattle.trace_text.specs.Show.{link_word, pattern_word};
@@ -287,18 +288,34 @@ impl Writer {
     {
         match action {
             Action::Turn { number, cause } => self.turn(*number, cause),
-            Action::Connect { link, host, port } => self.connect(*link, host, *port),
             Action::Timer { timer, ms, purpose } => self.timer(*timer, *ms, *purpose),
-            Action::Took { owner, link, count } => self.took(*owner, *link, *count),
-            Action::Push { link, info } => self.pushed(*link, info),
             Action::Message { msg } => self.message(msg),
             Action::Monitor { value } => self.monitored(value),
-            Action::NeedCreds { source, link } => self.need_creds(*source, *link),
             Action::Generation { number } => self.generation(*number),
+            Action::Wait { owner, wait } => self.wait(*owner, *wait),
+            Action::Created { error } => self.created(error),
+            Action::Outcome {
+                submission,
+                outcome,
+            } => self.answered(*submission, outcome),
+            _ => self.link_action(action),
+        }
+    }
+
+    /// The line of an action that names a link.
+    fn link_action(&mut self, action: &Action) -> Result<(), AllocError>
+        requires { names_link action.now ≡ true }
+        ensures before { self.new.before ≡ self.old.before }
+        ensures ok { OnOk result (Added self.old self.new (action_line action.now)) }
+    {
+        match action {
+            Action::Connect { link, host, port } => self.connect(*link, host, *port),
+            Action::Took { owner, link, count } => self.took(*owner, *link, *count),
+            Action::Push { link, info } => self.pushed(*link, info),
+            Action::NeedCreds { source, link } => self.need_creds(*source, *link),
             Action::Round { owner, link } => self.round(*owner, *link),
             Action::Close { link } => self.close(*link),
             Action::Write { link, bytes } => self.write(*link, bytes),
-            Action::Wait { owner, wait } => self.wait(*owner, *wait),
             Action::Start {
                 link,
                 message,
@@ -306,11 +323,7 @@ impl Writer {
                 need,
                 len,
             } => self.start(*link, *message, *owner, *need, *len),
-            Action::Created { error } => self.created(error),
-            Action::Outcome {
-                submission,
-                outcome,
-            } => self.answered(*submission, outcome),
+            _ => unreachable!(),
         }
     }
 

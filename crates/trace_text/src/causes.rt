@@ -2,6 +2,7 @@ ghost use Rattle.std.specs.Prelude.{◌≡◌, ◌++◌, ◌∷◌, [], OnOk, co
 ghost use Rattle.driver_model.specs.Request.{listed};
 ghost use Rattle.redis_error.specs.Names.{fault_name};
 ghost use Rattle.trace_text.specs.Plain.{is_literal};
+ghost use Rattle.trace_text.specs.Groups.{comes_of_link};
 ghost use Rattle.trace_text.specs.Words.{following, separated};
 ghost use Rattle.trace_text.specs.Show.{behind_first, config_words, connect_words, first_of, url};
 ghost use Rattle.trace_text.specs.Show.{kind_word, session_words, setting_words};
@@ -454,13 +455,6 @@ impl Writer {
             EventKind::Cancel { submission } => {
                 self.named_number(b"cancel", u64::from(*submission))
             }
-            EventKind::Connected { link } => self.named_number(b"connected", u64::from(*link)),
-            EventKind::Refused { link, fault } => self.fault(b"refused", *link, *fault),
-            EventKind::Wrote { link, count } => self.wrote(*link, *count),
-            EventKind::Bytes { link, piece } => self.came(*link, piece),
-            EventKind::Ended { link } => self.named_number(b"ended", u64::from(*link)),
-            EventKind::ReadFault { link, fault } => self.fault(b"read-fault", *link, *fault),
-            EventKind::WriteFault { link, fault } => self.fault(b"write-fault", *link, *fault),
             EventKind::Fired { timer } => self.named_number(b"fired", u64::from(*timer)),
             EventKind::Creds { source, auth } => self.creds(*source, auth),
             EventKind::CredsError { source, text } => self.denied(*source, text),
@@ -468,6 +462,26 @@ impl Writer {
             EventKind::Timeout { ms } => self.new_time(*ms),
             EventKind::DropStream => self.literal(b"drop-stream"),
             EventKind::Shutdown => self.literal(b"shutdown"),
+            _ => self.link_event(kind),
+        }
+    }
+
+    /// The words of what comes of a link.
+    fn link_event(&mut self, kind: &EventKind) -> Result<(), AllocError>
+        requires { comes_of_link kind.now ≡ true }
+        ensures before { self.new.before ≡ self.old.before }
+        ensures ok { OnOk result
+            (AddedParts self.old self.new (event_words kind.now) (event_more kind.now)) }
+    {
+        match kind {
+            EventKind::Connected { link } => self.named_number(b"connected", u64::from(*link)),
+            EventKind::Refused { link, fault } => self.fault(b"refused", *link, *fault),
+            EventKind::Wrote { link, count } => self.wrote(*link, *count),
+            EventKind::Bytes { link, piece } => self.came(*link, piece),
+            EventKind::Ended { link } => self.named_number(b"ended", u64::from(*link)),
+            EventKind::ReadFault { link, fault } => self.fault(b"read-fault", *link, *fault),
+            EventKind::WriteFault { link, fault } => self.fault(b"write-fault", *link, *fault),
+            _ => unreachable!(),
         }
     }
 

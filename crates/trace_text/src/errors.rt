@@ -1,4 +1,5 @@
 ghost use Rattle.std.specs.Prelude.{◌≡◌, ◌++◌, ◌∷◌, [], OnOk, map, decimal, true};
+ghost use Rattle.trace_text.specs.Groups.{fails_link};
 ghost use Rattle.trace_text.specs.Plain.{is_literal};
 ghost use Rattle.trace_text.specs.Words.{following};
 ghost use Rattle.trace_text.specs.Errors.{abort_word, error_words};
@@ -16,26 +17,35 @@ impl Writer {
         ensures ok { OnOk result (AddedWords self.old self.new (error_words error.now)) }
     {
         match error {
-            RedisError::Config { name } => self.word_and(b"config", name.name().as_bytes()),
-            RedisError::Client => self.literal(b"client"),
-            RedisError::Resp3Required => self.literal(b"resp3"),
             RedisError::EmptyCommand => self.literal(b"empty"),
-            RedisError::Closed => self.literal(b"closed"),
-            RedisError::Io { fault } => self.word_and(b"io", fault.name().as_bytes()),
-            RedisError::CreateFailed { last } => self.word_and(b"create-failed", last.as_slice()),
             RedisError::Parse => self.literal(b"parse"),
             RedisError::Convert { value } => self.convert(value),
             RedisError::NotFound => self.literal(b"not-found"),
             RedisError::Server(error) => self.server(error),
             RedisError::Aborted { errors } => self.aborted(errors.as_slice()),
-            RedisError::AuthFailed { text } => self.word_and(b"auth-failed", text.as_slice()),
-            RedisError::Credentials { text } => self.word_and(b"creds", text.as_slice()),
             RedisError::CrossSlot { first, second } => self.cross_slot(*first, *second),
             RedisError::RouteWithoutLink { routes } => self.no_link(routes.as_slice()),
-            RedisError::TurnsSpent { turns } => {
-                self.literal(b"turns")?;
-                self.number(u64::from(*turns))
-            }
+            RedisError::TurnsSpent { turns } => self.turns_spent(*turns),
+            _ => self.link_error(error),
+        }
+    }
+
+    /// The words of why there is no link that serves requests.
+    fn link_error(&mut self, error: &RedisError) -> Result<(), AllocError>
+        requires { fails_link error.now ≡ true }
+        ensures before { self.new.before ≡ self.old.before }
+        ensures ok { OnOk result (AddedWords self.old self.new (error_words error.now)) }
+    {
+        match error {
+            RedisError::Config { name } => self.word_and(b"config", name.name().as_bytes()),
+            RedisError::Client => self.literal(b"client"),
+            RedisError::Resp3Required => self.literal(b"resp3"),
+            RedisError::Closed => self.literal(b"closed"),
+            RedisError::Io { fault } => self.word_and(b"io", fault.name().as_bytes()),
+            RedisError::CreateFailed { last } => self.word_and(b"create-failed", last.as_slice()),
+            RedisError::AuthFailed { text } => self.word_and(b"auth-failed", text.as_slice()),
+            RedisError::Credentials { text } => self.word_and(b"creds", text.as_slice()),
+            _ => unreachable!(),
         }
     }
 
@@ -109,6 +119,15 @@ impl Writer {
             self.abort(item.0, &item.1)?;
         }
         Ok(())
+    }
+
+    fn turns_spent(&mut self, turns: u32) -> Result<(), AllocError>
+        ensures before { self.new.before ≡ self.old.before }
+        ensures ok { OnOk result
+            (AddedWords self.old self.new (error_words (RedisError.TurnsSpent turns))) }
+    {
+        self.literal(b"turns")?;
+        self.number(u64::from(turns))
     }
 
     fn no_link(&mut self, routes: &[u32]) -> Result<(), AllocError>

@@ -1,4 +1,4 @@
-use Rattle.std.proofs.Common.{◌≡◌, ◌++◌, drop}
+use Rattle.std.proofs.Common.{◌≡◌, ◌+◌, ◌*◌, ◌++◌, drop}
 use Rattle.resp_value.specs.Data.{weight, list_weight, pairs_weight, items_of, members_of}
 use Rattle.resp_value.specs.View.{data_of, list_view, pairs_view}
 use Rattle.resp_write.specs.Canonical.{each_item, each_member}
@@ -6,13 +6,16 @@ use Rattle.trace_text.proofs.Plain.{all_escaped}
 use Rattle.trace_text.proofs.writer.Writer.+text.Given as goal
 
 abbrev pub decreases-pairs : goal.decreases-pairs
-decreases-pairs l = pairs_weight l.pairs.now
+decreases-pairs l = 2 * pairs_weight l.pairs.now
 
 abbrev pub decreases-values : goal.decreases-values
-decreases-values l = list_weight l.values.now
+decreases-values l = 2 * list_weight l.values.now
 
 abbrev pub decreases-value : goal.decreases-value
-decreases-value l = weight (data_of l.value.now)
+decreases-value l = 2 * weight (data_of l.value.now) + 1
+
+abbrev pub decreases-paired : goal.decreases-paired
+decreases-paired l = 2 * weight (data_of l.value.now)
 
 -- the text before the line stays, and what is written and what is left are the whole
 abbrev pub invariant-pairs-loop-pair : goal.invariant-pairs-loop-pair

@@ -2,7 +2,7 @@ use Rattle.std.proofs.Common.{[], ◌∷◌, ◌++◌, codes, decimal, sym, ◌�
 use Rattle.std.proofs.lemmas.Result.{on_ok_weaker}
 use Rattle.redis_error.specs.Names.{fault_name}
 use Rattle.trace_text.specs.Words.{following}
-use Rattle.trace_text.proofs.writer.Writer.event.Goals as goal
+use Rattle.trace_text.proofs.writer.Writer.link_event.Goals as goal
 
 pub returns-in-ReadFault-clause-ok : goal.returns-in-ReadFault-clause-ok
 returns-in-ReadFault-clause-ok c =
