@@ -1,5 +1,7 @@
 pub mod Words
 mod Calls
+mod Kept
+mod Late
 mod Told
 pub mod Threads
 pub mod Managed

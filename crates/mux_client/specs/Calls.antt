@@ -21,6 +21,8 @@ use Rattle.mux_client.specs.declared.act.ConnectionTimer.TheVariants as timer
 use Rattle.mux_client.specs.declared.errors.SendError.{SendError}
 use Rattle.mux_client.specs.declared.errors.SendError.TheVariants as error
 use Rattle.mux_client.specs.declared.connection.MultiplexedConnection.{MultiplexedConnection}
+use Rattle.mux_client.specs.Connection.{outcome_of}
+use Rattle.mux_client.specs.Failing.{LeavesBehind}
 use Rattle.mux_client.specs.Shown.{pending, shown_each, kept_each}
 
 -- the number of the next request
@@ -54,6 +56,10 @@ RefusesSend c packed (error.Refused e) = (e ≡ fault.EmptyCommand) × (packed �
 RefusesSend c packed error.Spent = (c.core.failure ≡ Some failure.Spent) ⊎ (2 ^ 32 ≤ next_number c + 1)
 RefusesSend c packed error.NoMemory = ⊤
 
+-- what stands behind a send of this connection that answered an error
+abbrev pub Leaves : MultiplexedConnection → MultiplexedConnection → SendError → Type 0
+Leaves old new = LeavesBehind (λ (c : MultiplexedConnection). c.core.failure) next_number outcome_of old new
+
 -- one more request: a subscription call that does this with these names, in one command
 abbrev pub called : MultiplexedConnection → SubscriptionAction → List (List ℕ) → MultiplexedConnection
 called c what names = sent c (pack (action_word what ∷ names)) Confirmation true
@@ -62,12 +68,12 @@ called c what names = sent c (pack (action_word what ∷ names)) Confirmation tr
 abbrev pub takes_calls : MultiplexedConnection → Bool
 takes_calls c = hears_messages c.core.hears || is_resp3 c.core.info.protocol
 
--- why a subscription call wasn't sent by this connection: exactly where it doesn't take them, that RESP3 is required; else the
--- number 2^32 - 1 would be given to a request, a call failed before with this error, or memory was wanted
+-- why a subscription call wasn't sent by this connection: a call failed before with this error; else exactly where it doesn't take
+-- them, that RESP3 is required; else the number 2^32 - 1 would be given to a request, or memory was wanted
 abbrev pub RefusesCall : MultiplexedConnection → SendError → Type 0
 RefusesCall c (error.Refused e) = (e ≡ fault.Resp3Required) × (takes_calls c ≡ false)
-RefusesCall c error.Spent = (takes_calls c ≡ true) × ((c.core.failure ≡ Some failure.Spent) ⊎ (2 ^ 32 ≤ next_number c + 1))
-RefusesCall c error.NoMemory = takes_calls c ≡ true
+RefusesCall c error.Spent = (c.core.failure ≡ Some failure.Spent) ⊎ ((takes_calls c ≡ true) × (2 ^ 32 ≤ next_number c + 1))
+RefusesCall c error.NoMemory = (c.core.failure ≡ Some failure.NoMemory) ⊎ (takes_calls c ≡ true)
 
 -- its caller has gone
 abbrev pub cancelled : MultiplexedConnection → ℕ → MultiplexedConnection

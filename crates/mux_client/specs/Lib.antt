@@ -1,6 +1,7 @@
 pub mod Connection
 pub mod Shown
 pub mod Errors
+pub mod Failing
 pub mod Events
 pub mod Calls
 pub mod Like

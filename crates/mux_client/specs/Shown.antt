@@ -1,5 +1,5 @@
 -- What a connection shows of what its machine does: an outcome is kept, and its request is named.
-use Rattle.std.specs.Prelude.{ℕ, List, [], ◌∷◌, Option, Some, slice_set}
+use Rattle.std.specs.Prelude.{ℕ, List, [], ◌∷◌, ◌++◌, Option, Some, slice_set}
 use Rattle.driver_model.specs.declared.outcome.Outcome.{Outcome}
 use Rattle.mux_conn.specs.declared.act.LinkAct.{LinkAct}
 use Rattle.mux_conn.specs.declared.act.LinkAct.TheVariants as link_act
@@ -7,6 +7,7 @@ use Rattle.mux_conn.specs.declared.request.Pending.{Pending}
 use Rattle.mux_client.specs.declared.act.ConnectionAct.{ConnectionAct}
 use Rattle.mux_client.specs.declared.act.ConnectionAct.TheVariants as act
 use Rattle.mux_client.specs.declared.act.ConnectionTimer.TheVariants as timer
+use Rattle.mux_client.specs.declared.showing.Answer.{Answer}
 
 abbrev pub pending : ℕ → Pending
 pending p = record { number = p }
@@ -62,3 +63,20 @@ kept os (link_act.Outcome p o) = slice_set os p (Some o)
 abbrev pub kept_each : List (Option Outcome) → List LinkAct → List (Option Outcome)
 kept_each os [] = os
 kept_each os (a ∷ more) = kept_each (kept os a) more
+
+-- the outcome that an act tells, if it tells one
+abbrev pub answer_in : LinkAct → List Answer
+answer_in (link_act.Outcome p o) = record { request = p; outcome = o } ∷ []
+answer_in _ = []
+
+abbrev pub answers_among : List LinkAct → List Answer
+answers_among [] = []
+answers_among (a ∷ more) = answer_in a ++ answers_among more
+
+-- it is kept in its place
+abbrev pub placed : List (Option Outcome) → Answer → List (Option Outcome)
+placed os a = slice_set os a.request (Some a.outcome)
+
+abbrev pub placed_each : List (Option Outcome) → List Answer → List (Option Outcome)
+placed_each os [] = os
+placed_each os (a ∷ more) = placed_each (placed os a) more

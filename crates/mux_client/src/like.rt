@@ -12,6 +12,7 @@ ghost use Rattle.mux_client.specs.Connection.{opened, fault_of, RefusesConnectio
 ghost use Rattle.mux_client.specs.Connection as connection;
 ghost use Rattle.mux_client.specs.Calls as calls;
 ghost use Rattle.mux_client.specs.Events.{Happening, happened};
+ghost use Rattle.mux_client.specs.Failing.{AnswersItsFailure, LeavesBehind};
 ghost use Rattle.mux_client.specs.Like as like;
 ghost use Rattle.mux_client.specs.declared.errors.SendError as send_errors;
 ghost use Rattle.mux_client.specs.declared.errors.SendError.TheVariants as send_error;
@@ -26,7 +27,8 @@ use mux_conn::{ConnectionError, Pending};
 use resp_write::{Cmd, Pipeline};
 use std::alloc::Global;
 
-/// What is asked as a connection is: a `MultiplexedConnection`, or a manager of connections.
+/// What is asked as a connection is: a `MultiplexedConnection`, or a manager of connections. A refused send leaves it as it was.
+/// After any other error it has failed: each later send and step answers the same, and the outcomes of the requests before stay.
 pub trait ConnectionLike {
     /// What its steps show.
     type Act;
@@ -74,7 +76,9 @@ pub trait ConnectionLike {
         ensures sound { OnOk result (failure_of self.old ≡ None) }
         ensures bytes { OnOk result (pack command.now.args ≢ []) }
         ensures err { IfErr result
-            (Refuses self.old (pack command.now.args) Shape.Single (not command.now.no_response)) };
+            (Refuses self.old (pack command.now.args) Shape.Single (not command.now.no_response)) }
+        ensures left { IfErr result (LeavesBehind failure_of next_number outcome_of self.old self.new) }
+        ensures failed { AnswersItsFailure (failure_of self.old) result };
 
     /// Sends a pipeline as one message: the replies behind the first `offset` are kept, `count` of them, and at least one is
     /// awaited. `Refused` comes exactly where it packs to no bytes. The next step shows what comes of it.
@@ -95,7 +99,9 @@ pub trait ConnectionLike {
         ensures bytes { OnOk result (pack_pipeline pipeline.now ≢ []) }
         ensures err { IfErr result
             (Refuses self.old (pack_pipeline pipeline.now)
-            (Shape.Pipeline offset count pipeline.now.atomic) true) };
+            (Shape.Pipeline offset count pipeline.now.atomic) true) }
+        ensures left { IfErr result (LeavesBehind failure_of next_number outcome_of self.old self.new) }
+        ensures failed { AnswersItsFailure (failure_of self.old) result };
 
     /// The database that its setup chooses. Takes no memory.
     fn get_db(&self) -> i64
@@ -123,7 +129,8 @@ pub trait ConnectionLike {
         ensures spent { IsErrOf result ConnectionError.Spent
             → (failure_of self.old ≡ Some ConnectionError.Spent)
             ⊎ Spends self.old event.entry.word (happened event.entry.news) }
-        ensures fails { (e : ConnectionError) → IsErrOf result e → failure_of self.new ≡ Some e };
+        ensures fails { (e : ConnectionError) → IsErrOf result e → failure_of self.new ≡ Some e }
+        ensures failed { (e : ConnectionError) → failure_of self.old ≡ Some e → IsErrOf result e };
 
     /// Whether this may be told it: all but that a link of its own took more bytes than it was offered. Takes no memory.
     fn can_hear(&self, news: ConnectionNews<'_>) -> bool
@@ -186,7 +193,9 @@ pub trait Connect: ConnectionLike<Act = ConnectionAct> + Sized {
         ensures number { IfOk result (λ p. p.number ≡ calls.next_number (seen self.old)) }
         ensures sound { OnOk result ((seen self.old).core.failure ≡ None) }
         ensures bytes { OnOk result (pack_pipeline pipeline.now ≢ []) }
-        ensures err { IfErr result (calls.RefusesSend (seen self.old) (pack_pipeline pipeline.now)) };
+        ensures err { IfErr result (calls.RefusesSend (seen self.old) (pack_pipeline pipeline.now)) }
+        ensures left { IfErr result (LeavesBehind Self.failure_of Self.next_number Self.outcome_of self.old self.new) }
+        ensures failed { AnswersItsFailure (Self.failure_of self.old) result };
 
     /// Its next request has the number of the connection's.
     ghost numbers: { (c : Self) → Self.next_number c ≡ calls.next_number (seen c) };
@@ -286,20 +295,12 @@ impl ConnectionLike for MultiplexedConnection {
         event: ConnectionEvent<'_>,
         out: &mut Vec<ConnectionAct>,
     ) -> Result<(), ConnectionError> {
-        match self.time(alloc, event.news) {
-            Ok(()) => {}
-            Err(error) => return Err(error),
+        if let ConnectionNews::Late { request } = event.news {
+            return self.step_late(alloc, event.word, request, out);
         }
         let news = event.news.seen_on(self.link);
-        MultiplexedConnection::step(
-            self,
-            alloc,
-            LinkEvent {
-                word: event.word,
-                news,
-            },
-            out,
-        )
+        let word = event.word;
+        MultiplexedConnection::step(self, alloc, LinkEvent { word, news }, out)
     }
 
     fn can_hear(&self, news: ConnectionNews<'_>) -> bool {

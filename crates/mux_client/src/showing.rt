@@ -1,5 +1,5 @@
-ghost use Rattle.std.specs.Prelude.{◌≡◌, ◌++◌, Some, slice_set, OnOk};
-ghost use Rattle.mux_client.specs.Shown.{shown, shown_each, kept, kept_each, pending};
+ghost use Rattle.std.specs.Prelude.{◌≡◌, ◌++◌, IfOk, OnOk};
+ghost use Rattle.mux_client.specs.Shown.{answer_in, answers_among, pending, placed, placed_each, shown, shown_each};
 
 use crate::act::{ConnectionAct, ConnectionTimer};
 use containers::{Queue, Seq};
@@ -13,14 +13,32 @@ fn pending(number: u32) -> Pending
     Pending { number }
 }
 
+/// The outcome of a request.
+#[derive(Drop)]
+pub struct Answer {
+    pub request: u32,
+    pub outcome: Outcome,
+}
+
 /// An outcome in its place, where there is one.
-fn keep(outcomes: &mut Seq<Option<Outcome>>, request: u32, outcome: Outcome)
-    ensures { outcomes.new ≡ slice_set outcomes.old request (Some outcome) }
+fn keep(outcomes: &mut Seq<Option<Outcome>>, answer: Answer)
+    ensures { outcomes.new ≡ placed outcomes.old answer }
 {
+    let Answer { request, outcome } = answer;
     if (request as usize) < outcomes.len() {
         outcomes.set(request as usize, Some(outcome));
     } else {
         drop(outcome);
+    }
+}
+
+/// Each of these outcomes is kept. Takes no memory.
+pub(crate) fn keep_each(answers: Seq<Answer>, outcomes: &mut Seq<Option<Outcome>>)
+    ensures { outcomes.new ≡ placed_each outcomes.old answers }
+{
+    let mut rest = Queue::from_vec(answers.into_vec());
+    while let Some(answer) = rest.pop_front() {
+        keep(outcomes, answer);
     }
 }
 
@@ -36,10 +54,9 @@ fn response_timer(request: u32, ms: u64) -> ConnectionAct
     }
 }
 
-/// What an act of the machine shows; an outcome is kept.
-fn show(act: LinkAct, outcomes: &mut Seq<Option<Outcome>>) -> ConnectionAct
-    ensures act { result ≡ shown act }
-    ensures kept { outcomes.new ≡ kept outcomes.old act }
+/// What an act of the machine shows. Where it is an outcome, that is let go.
+fn show(act: LinkAct) -> ConnectionAct
+    ensures { result ≡ shown act }
 {
     match act {
         LinkAct::Created { error } => ConnectionAct::Created { error },
@@ -86,7 +103,7 @@ fn show(act: LinkAct, outcomes: &mut Seq<Option<Outcome>>) -> ConnectionAct
         LinkAct::Renewed { message, need, len } => ConnectionAct::Renewed { message, need, len },
         LinkAct::Repeated { message, need, len } => ConnectionAct::Repeated { message, need, len },
         LinkAct::Outcome { request, outcome } => {
-            keep(outcomes, request, outcome);
+            drop(outcome);
             ConnectionAct::Answered {
                 request: pending(request),
             }
@@ -94,18 +111,34 @@ fn show(act: LinkAct, outcomes: &mut Seq<Option<Outcome>>) -> ConnectionAct
     }
 }
 
-/// What the acts of a turn show; their outcomes are kept.
+/// What an act of the machine shows; where it is an outcome, `answers` gains that.
+fn take(act: LinkAct, answers: &mut Seq<Answer>) -> Result<ConnectionAct, AllocError>
+    ensures act { IfOk result (λ a. a ≡ shown act) }
+    ensures answers { OnOk result (answers.new ≡ answers.old ++ answer_in act) }
+{
+    match act {
+        LinkAct::Outcome { request, outcome } => {
+            answers.push(Answer { request, outcome })?;
+            Ok(ConnectionAct::Answered {
+                request: pending(request),
+            })
+        }
+        other => Ok(show(other)),
+    }
+}
+
+/// What the acts of a turn show, and the outcomes among them.
 pub(crate) fn show_each(
     acts: Vec<LinkAct>,
-    outcomes: &mut Seq<Option<Outcome>>,
+    answers: &mut Seq<Answer>,
     out: &mut Seq<ConnectionAct>,
 ) -> Result<(), AllocError>
     ensures acts { OnOk result (out.new ≡ out.old ++ shown_each acts.items) }
-    ensures kept { OnOk result (outcomes.new ≡ kept_each outcomes.old acts.items) }
+    ensures answers { OnOk result (answers.new ≡ answers.old ++ answers_among acts.items) }
 {
     let mut rest = Queue::from_vec(acts);
     while let Some(act) = rest.pop_front() {
-        let shown = show(act, outcomes);
+        let shown = take(act, answers)?;
         out.push(shown)?;
     }
     Ok(())
