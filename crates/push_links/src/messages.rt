@@ -51,6 +51,8 @@ impl PubSubMessages {
             ⊎ (uses_up (turn_of self.old.pubsub.sink.connection (told event.entry.news)) ≡ true) }
         ensures fails { (e : ConnectionError) → IsErrOf result e
             → self.new.pubsub.sink.connection.core.failure ≡ Some e }
+        ensures failed { (e : ConnectionError) → self.old.pubsub.sink.connection.core.failure ≡ Some e
+            → IsErrOf result e }
     {
         self.pubsub.step(alloc, event, out)
     }

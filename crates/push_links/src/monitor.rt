@@ -18,8 +18,8 @@ use resp_value::Value;
 use std::alloc::{AllocError, Global};
 use std::marker::PhantomData;
 
-/// A link in monitor mode: behind its setup it says MONITOR, is created by the answer, and holds what the server tells from then on.
-/// It opens nothing itself: each `step` is told what happened to its link, and shows what is to be done.
+/// A link in monitor mode: behind its setup it says MONITOR, is created by the answer, and holds what the server tells from then
+/// on. It opens nothing itself: each `step` is told what happened to its link, and shows what is to be done.
 pub struct Monitor {
     pub connection: MultiplexedConnection,
     pub held: Held<Value>,
@@ -76,6 +76,8 @@ impl Monitor {
             ⊎ (uses_up (turn_of self.old.connection (told event.entry.news)) ≡ true) }
         ensures fails { (e : ConnectionError) → IsErrOf result e
             → self.new.connection.core.failure ≡ Some e }
+        ensures failed { (e : ConnectionError) → self.old.connection.core.failure ≡ Some e
+            → IsErrOf result e }
     {
         let mut acts = Vec::new(alloc);
         match self.connection.step(alloc, event, &mut acts) {

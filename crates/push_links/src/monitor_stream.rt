@@ -22,8 +22,8 @@ use resp_value::Value;
 use std::alloc::{AllocError, Global};
 use std::marker::PhantomData;
 
-/// What a link in monitor mode is told, each item converted, as long as the link is lent. An item that doesn't convert is given as
-/// `Ok(None)`, and a later poll goes on. It gives an item where it holds one, ends exactly where it is empty and its link has
+/// What a link in monitor mode is told, each item converted, as long as the link is lent. An item that doesn't convert is given
+/// as `Ok(None)`, and a later poll goes on. It gives an item where it holds one, ends exactly where it is empty and its link has
 /// ended, and else yields.
 #[derive(Drop)]
 pub struct MonitorStream<'a, T> {
@@ -147,6 +147,8 @@ impl<T> MonitorMessages<T> {
             ⊎ (uses_up (turn_of self.old.monitor.connection (told event.entry.news)) ≡ true) }
         ensures fails { (e : ConnectionError) → IsErrOf result e
             → self.new.monitor.connection.core.failure ≡ Some e }
+        ensures failed { (e : ConnectionError) → self.old.monitor.connection.core.failure ≡ Some e
+            → IsErrOf result e }
     {
         self.monitor.step(alloc, event, out)
     }

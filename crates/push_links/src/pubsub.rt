@@ -8,7 +8,8 @@ ghost use Rattle.mux_conn.specs.Effects.{IsWithin};
 ghost use Rattle.mux_conn.specs.declared.errors.ConnectionError.TheVariants as failure;
 ghost use Rattle.mux_client.specs.Connection.{attached, outcome_of};
 ghost use Rattle.mux_client.specs.Calls.{acts_of, called, cancelled, next_number, stepped, turn_of};
-ghost use Rattle.mux_client.specs.Calls.{RefusesCall, RefusesSend};
+ghost use Rattle.mux_client.specs.Calls.{Leaves, RefusesCall, RefusesSend};
+ghost use Rattle.mux_client.specs.Failing.{AnswersItsFailure};
 ghost use Rattle.push_links.specs.Links.{others_of_messages, pinged, ping_bytes, with_messages};
 
 use crate::messages::PubSubMessages;
@@ -52,12 +53,14 @@ impl PubSub {
         ensures number { IfOk result (λ p. p.number ≡ next_number self.old.sink.connection) }
         ensures stream { self.new.stream ≡ self.old.stream }
         ensures err { IfErr result (RefusesCall self.old.sink.connection) }
+        ensures left { IfErr result (Leaves self.old.sink.connection self.new.sink.connection) }
+        ensures failed { AnswersItsFailure self.old.sink.connection.core.failure result }
     {
         self.sink.subscribe(alloc, names)
     }
 
-    /// Ends the subscriptions to these channels, or to all where none is given. The outcome is `Done`, or the server error that came instead. The next step
-    /// shows what comes of it.
+    /// Ends the subscriptions to these channels, or to all where none is given. The outcome is `Done`, or the server error that
+    /// came instead. The next step shows what comes of it.
     pub fn unsubscribe(&mut self, alloc: Global, names: &Names) -> Result<Pending, SendError>
         ensures sent { OnOk result (
             self.new.sink.connection ≡ called self.old.sink.connection action.Unsubscribe names.now
@@ -65,6 +68,8 @@ impl PubSub {
         ensures number { IfOk result (λ p. p.number ≡ next_number self.old.sink.connection) }
         ensures stream { self.new.stream ≡ self.old.stream }
         ensures err { IfErr result (RefusesCall self.old.sink.connection) }
+        ensures left { IfErr result (Leaves self.old.sink.connection self.new.sink.connection) }
+        ensures failed { AnswersItsFailure self.old.sink.connection.core.failure result }
     {
         self.sink.unsubscribe(alloc, names)
     }
@@ -78,12 +83,14 @@ impl PubSub {
         ensures number { IfOk result (λ p. p.number ≡ next_number self.old.sink.connection) }
         ensures stream { self.new.stream ≡ self.old.stream }
         ensures err { IfErr result (RefusesCall self.old.sink.connection) }
+        ensures left { IfErr result (Leaves self.old.sink.connection self.new.sink.connection) }
+        ensures failed { AnswersItsFailure self.old.sink.connection.core.failure result }
     {
         self.sink.psubscribe(alloc, names)
     }
 
-    /// Ends the subscriptions to these patterns, or to all where none is given. The outcome is `Done`, or the server error that came instead. The next step
-    /// shows what comes of it.
+    /// Ends the subscriptions to these patterns, or to all where none is given. The outcome is `Done`, or the server error that
+    /// came instead. The next step shows what comes of it.
     pub fn punsubscribe(&mut self, alloc: Global, names: &Names) -> Result<Pending, SendError>
         ensures sent { OnOk result (
             self.new.sink.connection ≡ called self.old.sink.connection action.PUnsubscribe names.now
@@ -91,6 +98,8 @@ impl PubSub {
         ensures number { IfOk result (λ p. p.number ≡ next_number self.old.sink.connection) }
         ensures stream { self.new.stream ≡ self.old.stream }
         ensures err { IfErr result (RefusesCall self.old.sink.connection) }
+        ensures left { IfErr result (Leaves self.old.sink.connection self.new.sink.connection) }
+        ensures failed { AnswersItsFailure self.old.sink.connection.core.failure result }
     {
         self.sink.punsubscribe(alloc, names)
     }
@@ -103,6 +112,8 @@ impl PubSub {
         ensures number { IfOk result (λ p. p.number ≡ next_number self.old.sink.connection) }
         ensures stream { self.new.stream ≡ self.old.stream }
         ensures err { IfErr result (RefusesSend self.old.sink.connection (ping_bytes None)) }
+        ensures left { IfErr result (Leaves self.old.sink.connection self.new.sink.connection) }
+        ensures failed { AnswersItsFailure self.old.sink.connection.core.failure result }
     {
         self.sink.ping(alloc)
     }
@@ -116,12 +127,14 @@ impl PubSub {
         ensures stream { self.new.stream ≡ self.old.stream }
         ensures err { IfErr result
             (RefusesSend self.old.sink.connection (ping_bytes (Some message.now))) }
+        ensures left { IfErr result (Leaves self.old.sink.connection self.new.sink.connection) }
+        ensures failed { AnswersItsFailure self.old.sink.connection.core.failure result }
     {
         self.sink.ping_message(alloc, message)
     }
 
-    /// One turn of its link: `out` gains what is to be done, and the stream the messages that came, in order, and its end where the
-    /// link ends. After an error `out` is as it was, the link has failed, and each later call that can fail answers the same.
+    /// One turn of its link: `out` gains what is to be done, and the stream the messages that came, in order, and its end where
+    /// the link ends. After an error `out` is as it was, the link has failed, and each later call that can fail answers the same.
     pub fn step(
         &mut self,
         alloc: Global,
@@ -148,6 +161,8 @@ impl PubSub {
             ⊎ (uses_up (turn_of self.old.sink.connection (told event.entry.news)) ≡ true) }
         ensures fails { (e : ConnectionError) → IsErrOf result e
             → self.new.sink.connection.core.failure ≡ Some e }
+        ensures failed { (e : ConnectionError) → self.old.sink.connection.core.failure ≡ Some e
+            → IsErrOf result e }
     {
         let mut acts = Vec::new(alloc);
         match self.sink.step(alloc, event, &mut acts) {

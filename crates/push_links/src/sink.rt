@@ -1,4 +1,4 @@
-ghost use Rattle.std.specs.Prelude.{◌≡◌, ◌⊎◌, ◌++◌, Some, None, true, option_copied, OnOk, OnErr};
+ghost use Rattle.std.specs.Prelude.{◌≡◌, ◌⊎◌, ◌++◌, Some, None, true, false, option_copied, OnOk, OnErr};
 ghost use Rattle.std.specs.Prelude.{IfOk, IfErr, IsErrOf};
 ghost use Rattle.resp_write.specs.declared.subscription.SubscriptionAction.TheVariants as action;
 ghost use Rattle.driver_model.specs.News.{told};
@@ -8,14 +8,16 @@ ghost use Rattle.mux_conn.specs.Effects.{IsWithin};
 ghost use Rattle.mux_conn.specs.declared.errors.ConnectionError.TheVariants as failure;
 ghost use Rattle.mux_client.specs.Connection.{attached, outcome_of};
 ghost use Rattle.mux_client.specs.Calls.{acts_of, called, cancelled, next_number, stepped, turn_of};
-ghost use Rattle.mux_client.specs.Calls.{RefusesCall, RefusesSend};
+ghost use Rattle.mux_client.specs.Calls.{Leaves, RefusesCall, RefusesSend};
+ghost use Rattle.mux_client.specs.Failing.{AnswersItsFailure};
+ghost use Rattle.resp_write.specs.Pack.{pack};
 ghost use Rattle.push_links.specs.Links.{pinged, ping_bytes};
 
 use connection_info::RedisConnectionInfo;
 use containers::Names;
 use driver_model::{Hearing, LinkEvent, Outcome};
 use mux_client::{ConnectionAct, ConnectionError, MultiplexedConnection, Pending, SendError};
-use resp_write::cmd;
+use resp_write::{Cmd, cmd};
 use std::alloc::{AllocError, Global};
 
 /// The calls of a link of publish/subscribe. Its steps show each message as an act, which is handed to the stream that it was
@@ -29,6 +31,18 @@ impl Drop for PubSubSink {
         let PubSubSink { connection } = self;
         drop(connection);
     }
+}
+
+/// PING, with this message or without one.
+fn ping_command(alloc: Global, message: Option<&[u8]>) -> Result<Cmd, AllocError>
+    ensures bytes { IfOk result (λ c. pack c.args ≡ ping_bytes (option_copied message.entry)) }
+    ensures reply { IfOk result (λ c. c.no_response ≡ false) }
+{
+    let mut command = cmd(alloc, b"PING")?;
+    if let Some(message) = message {
+        command.arg(alloc, message)?;
+    }
+    Ok(command)
 }
 
 impl PubSubSink {
@@ -52,18 +66,22 @@ impl PubSubSink {
             ) }
         ensures number { IfOk result (λ p. p.number ≡ next_number self.old.connection) }
         ensures err { IfErr result (RefusesCall self.old.connection) }
+        ensures left { IfErr result (Leaves self.old.connection self.new.connection) }
+        ensures failed { AnswersItsFailure self.old.connection.core.failure result }
     {
         self.connection.subscribe(alloc, names)
     }
 
-    /// Ends the subscriptions to these channels, or to all where none is given. The outcome is `Done`, or the server error that came instead. The next step
-    /// shows what comes of it.
+    /// Ends the subscriptions to these channels, or to all where none is given. The outcome is `Done`, or the server error that
+    /// came instead. The next step shows what comes of it.
     pub fn unsubscribe(&mut self, alloc: Global, names: &Names) -> Result<Pending, SendError>
         ensures sent { OnOk result (
             self.new.connection ≡ called self.old.connection action.Unsubscribe names.now
             ) }
         ensures number { IfOk result (λ p. p.number ≡ next_number self.old.connection) }
         ensures err { IfErr result (RefusesCall self.old.connection) }
+        ensures left { IfErr result (Leaves self.old.connection self.new.connection) }
+        ensures failed { AnswersItsFailure self.old.connection.core.failure result }
     {
         self.connection.unsubscribe(alloc, names)
     }
@@ -76,18 +94,22 @@ impl PubSubSink {
             ) }
         ensures number { IfOk result (λ p. p.number ≡ next_number self.old.connection) }
         ensures err { IfErr result (RefusesCall self.old.connection) }
+        ensures left { IfErr result (Leaves self.old.connection self.new.connection) }
+        ensures failed { AnswersItsFailure self.old.connection.core.failure result }
     {
         self.connection.psubscribe(alloc, names)
     }
 
-    /// Ends the subscriptions to these patterns, or to all where none is given. The outcome is `Done`, or the server error that came instead. The next step
-    /// shows what comes of it.
+    /// Ends the subscriptions to these patterns, or to all where none is given. The outcome is `Done`, or the server error that
+    /// came instead. The next step shows what comes of it.
     pub fn punsubscribe(&mut self, alloc: Global, names: &Names) -> Result<Pending, SendError>
         ensures sent { OnOk result (
             self.new.connection ≡ called self.old.connection action.PUnsubscribe names.now
             ) }
         ensures number { IfOk result (λ p. p.number ≡ next_number self.old.connection) }
         ensures err { IfErr result (RefusesCall self.old.connection) }
+        ensures left { IfErr result (Leaves self.old.connection self.new.connection) }
+        ensures failed { AnswersItsFailure self.old.connection.core.failure result }
     {
         self.connection.punsubscribe(alloc, names)
     }
@@ -100,12 +122,13 @@ impl PubSubSink {
         ensures number { IfOk result (λ p. p.number ≡ next_number self.old.connection) }
         ensures err { IfErr result
             (RefusesSend self.old.connection (ping_bytes (option_copied message.entry))) }
+        ensures left { IfErr result (Leaves self.old.connection self.new.connection) }
+        ensures failed { AnswersItsFailure self.old.connection.core.failure result }
     {
-        let mut command = cmd(alloc, b"PING")?;
-        if let Some(message) = message {
-            command.arg(alloc, message)?;
+        match ping_command(alloc, message) {
+            Ok(command) => self.connection.send_packed_command(alloc, &command),
+            Err(_) => Err(self.connection.refuse_unsent()),
         }
-        self.connection.send_packed_command(alloc, &command)
     }
 
     /// PING. The outcome is what the server answers, which `ping_answer` converts. The next step shows what comes of it.
@@ -113,6 +136,8 @@ impl PubSubSink {
         ensures sent { OnOk result (self.new.connection ≡ pinged self.old.connection None) }
         ensures number { IfOk result (λ p. p.number ≡ next_number self.old.connection) }
         ensures err { IfErr result (RefusesSend self.old.connection (ping_bytes None)) }
+        ensures left { IfErr result (Leaves self.old.connection self.new.connection) }
+        ensures failed { AnswersItsFailure self.old.connection.core.failure result }
     {
         self.send_ping(alloc, None)
     }
@@ -125,6 +150,8 @@ impl PubSubSink {
         ensures number { IfOk result (λ p. p.number ≡ next_number self.old.connection) }
         ensures err { IfErr result
             (RefusesSend self.old.connection (ping_bytes (Some message.now))) }
+        ensures left { IfErr result (Leaves self.old.connection self.new.connection) }
+        ensures failed { AnswersItsFailure self.old.connection.core.failure result }
     {
         self.send_ping(alloc, Some(message))
     }
@@ -149,6 +176,9 @@ impl PubSubSink {
             ⊎ (uses_up (turn_of self.old.connection (told event.entry.news)) ≡ true) }
         ensures fails { (e : ConnectionError) → IsErrOf result e
             → self.new.connection.core.failure ≡ Some e }
+        ensures failed { (e : ConnectionError) → self.old.connection.core.failure ≡ Some e
+            → IsErrOf result e }
+        ensures kept { OnErr result (self.new.connection.outcomes ≡ self.old.connection.outcomes) }
     {
         self.connection.step(alloc, event, out)
     }
