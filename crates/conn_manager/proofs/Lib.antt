@@ -1,5 +1,6 @@
 mod Entries
 mod SubscriptionCalls
+mod Sends
 mod Resubscribing
 mod Links
 mod Walk

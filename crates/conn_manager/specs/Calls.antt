@@ -1,5 +1,5 @@
 -- What each call makes of a manager.
-use Rattle.std.specs.Prelude.{◌≡◌, ◌⊎◌, ⊤, ℕ, ◌+◌, ◌^◌, ◌≤◌, Bool, true, false, List, [], ◌∷◌, ◌++◌, length, Option, None, Some, slice_get, slice_set, if◌then◌else◌}
+use Rattle.std.specs.Prelude.{◌≡◌, ◌≢◌, ◌⊎◌, ⊤, ℕ, ◌+◌, ◌^◌, ◌≤◌, Bool, true, false, List, [], ◌∷◌, ◌++◌, length, Option, None, Some, slice_get, slice_set, if◌then◌else◌}
 use Rattle.resp_write.specs.Pack.{pack}
 use Rattle.resp_write.specs.Subscription.{action_word}
 use Rattle.resp_write.specs.declared.subscription.SubscriptionAction.{SubscriptionAction}
@@ -19,6 +19,7 @@ use Rattle.driver_model.specs.declared.outcome.Shape.TheVariants.{Confirmation}
 use Rattle.mux_conn.specs.declared.errors.ConnectionError.TheVariants as failure
 use Rattle.mux_conn.specs.Effects as effects
 use Rattle.mux_client.specs.Connection.{if_placed}
+use Rattle.mux_client.specs.Failing.{LeavesBehind}
 use Rattle.mux_client.specs.declared.errors.SendError.{SendError}
 use Rattle.mux_client.specs.declared.errors.SendError.TheVariants as error
 use Rattle.sub_tracker.specs.Held.{holding, held_after}
@@ -68,6 +69,18 @@ lazy info settings = said (blank info settings true) (act.Created None)
 abbrev pub next_number : ConnectionManager → ℕ
 next_number m = length m.stages
 
+-- the outcome of the request of that number, if it has one
+abbrev pub outcome_of : ConnectionManager → ℕ → Option Outcome
+outcome_of m p = if_placed (slice_get m.outcomes p)
+
+-- the outcomes of a manager of which this request is answered, if it is open
+abbrev pub outcomes_with : ConnectionManager → ℕ → Outcome → List (Option Outcome)
+outcomes_with m p o = if is_open_at m.stages p then slice_set m.outcomes p (Some o) else m.outcomes
+
+-- of all requests but this one the outcomes are the same
+abbrev pub SparesOthers : ℕ → ConnectionManager → ConnectionManager → Type 0
+SparesOthers q old new = (p : ℕ) → p ≢ q → outcome_of new p ≡ outcome_of old p
+
 -- one more request, held until its generation is ready
 abbrev pub entered : ConnectionManager → Option Call → ConnectionManager
 entered m call = record m {
@@ -114,12 +127,17 @@ RefusesSend m after packed error.Spent =
     (m.failure ≡ Some failure.Spent) ⊎ (2 ^ 32 ≤ next_number m + 1) ⊎ (2 ^ 32 ≤ length m.conn.requests + 1) ⊎ (runs_out after.generations ≡ true)
 RefusesSend m after packed error.NoMemory = ⊤
 
--- why a subscription call wasn't sent: exactly where its connections don't speak RESP3, that this is required; else a number would
--- run out, a call failed before with this error, or memory was wanted
+-- what stands behind a send of this manager that answered an error
+abbrev pub Leaves : ConnectionManager → ConnectionManager → SendError → Type 0
+Leaves old new = LeavesBehind (λ (m : ConnectionManager). m.failure) next_number outcome_of old new
+
+-- why a subscription call wasn't sent: a call failed before with this error; else exactly where its connections don't speak RESP3,
+-- that this is required; else a number would run out, or memory was wanted
 abbrev pub RefusesCall : ConnectionManager → SubscriptionAction → List (List ℕ) → SendError → Type 0
 RefusesCall m what names (error.Refused e) = (e ≡ fault.Resp3Required) × (is_resp3 m.info.protocol ≡ false)
-RefusesCall m what names error.Spent = (is_resp3 m.info.protocol ≡ true) × RefusesSend m (called m what names) (pack (action_word what ∷ names)) error.Spent
-RefusesCall m what names error.NoMemory = is_resp3 m.info.protocol ≡ true
+RefusesCall m what names error.Spent =
+    (m.failure ≡ Some failure.Spent) ⊎ ((is_resp3 m.info.protocol ≡ true) × RefusesSend m (called m what names) (pack (action_word what ∷ names)) error.Spent)
+RefusesCall m what names error.NoMemory = (m.failure ≡ Some failure.NoMemory) ⊎ (is_resp3 m.info.protocol ≡ true)
 
 -- the caller of a request has gone that was handed to the link of this number
 abbrev pub left_on : ConnectionManager → ℕ → ℕ → ConnectionManager
@@ -134,10 +152,6 @@ left_at m (Some stage.Closed) = m
 -- the caller of request p has gone
 abbrev pub cancelled : ConnectionManager → ℕ → ConnectionManager
 cancelled m p = if is_open_at m.stages p then left_at (record m { stages = slice_set m.stages p stage.Closed }) (slice_get m.stages p) else m
-
--- the outcome of the request of that number, if it has one
-abbrev pub outcome_of : ConnectionManager → ℕ → Option Outcome
-outcome_of m p = if_placed (slice_get m.outcomes p)
 
 -- either memory was wanted, or this is refused first of a manager whose connections speak this protocol
 abbrev pub RefusesMaking : ProtocolVersion → ConnectionManagerConfig → OpenError → Type 0

@@ -83,6 +83,15 @@ noted m draw (link_act.Renewed message need len) = said m (act.Renewed (link_of 
 noted m draw (link_act.Repeated message need len) = m
 noted m draw (link_act.Outcome p o) = came_to m p o
 
+-- an act that changes nothing of the manager's own: it is passed on, or let go
+abbrev pub is_passed_on : LinkAct → Bool
+is_passed_on (link_act.Created e) = false
+is_passed_on link_act.Close = false
+is_passed_on (link_act.Wait p kind) = false
+is_passed_on (link_act.Start message p need len) = false
+is_passed_on (link_act.Outcome p o) = false
+is_passed_on _ = true
+
 -- its acts, in order
 abbrev pub noted_each : ConnectionManager → ℕ → List LinkAct → ConnectionManager
 noted_each m draw [] = m

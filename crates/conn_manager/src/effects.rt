@@ -181,6 +181,7 @@ impl ConnectionManager {
     /// The next generation begins, where a cause came.
     pub(crate) fn succeed(&mut self, alloc: Global) -> Result<(), ConnectionError>
         ensures done { OnOk result (self.new ≡ succeeded self.old) }
+        ensures outcomes { self.new.outcomes ≡ self.old.outcomes }
         ensures spent { IsErrOf result ConnectionError.Spent
             → runs_out (succeeded self.old).generations ≡ true }
     {

@@ -1,4 +1,4 @@
-ghost use Rattle.std.specs.Prelude.{◌≡◌, Some, IfOk, OnOk, IsErrOf};
+ghost use Rattle.std.specs.Prelude.{◌≡◌, true, Some, IfOk, OnOk, IsErrOf};
 ghost use Rattle.conn_manager.specs.Manager.{pending};
 
 use crate::manager::ConnectionManager;
@@ -29,6 +29,7 @@ impl ConnectionManager {
     ghost use Rattle.mux_conn.specs.Effects.{IsWithin};
     ghost use Rattle.conn_manager.specs.Hearing.{has_names, set_up, opening_failed, opened, resubscribed};
     ghost use Rattle.conn_manager.specs.Hearing.{closed, came_to, waits, starts, noted, noted_each};
+    ghost use Rattle.conn_manager.specs.Hearing.{is_passed_on};
     ghost use Rattle.conn_manager.specs.Hearing.{affected, timed_out};
 
     /// Whether some name is subscribed.
@@ -141,13 +142,13 @@ impl ConnectionManager {
         })
     }
 
-    /// An act of the connection.
-    fn note(&mut self, alloc: Global, draw: u64, act: LinkAct) -> Result<(), AllocError>
+    /// An act of the connection that changes nothing of the manager's own is passed on, or let go.
+    fn pass_on(&mut self, draw: u64, act: LinkAct) -> Result<(), AllocError>
+        requires { is_passed_on act ≡ true }
         ensures { OnOk result (self.new ≡ noted self.old draw act) }
     {
         let link = self.link();
         match act {
-            LinkAct::Created { error } => self.open(alloc, draw, error),
             LinkAct::Round { request: _ } => Ok(()),
             LinkAct::Took { request, count } => self.say(ManagerAct::Took {
                 request: Pending { number: request },
@@ -175,15 +176,7 @@ impl ConnectionManager {
                 need: _,
                 len: _,
             } => Ok(()),
-            LinkAct::Close => self.close(),
             LinkAct::Write { bytes } => self.say(ManagerAct::Write { link, bytes }),
-            LinkAct::Wait { request, wait } => self.show_wait_of(request, wait),
-            LinkAct::Start {
-                message,
-                request,
-                need,
-                len,
-            } => self.show_start(message, request, need, len),
             LinkAct::SetUp { message, need, len } => self.say(ManagerAct::SetUp {
                 link,
                 message,
@@ -201,7 +194,41 @@ impl ConnectionManager {
                 need: _,
                 len: _,
             } => Ok(()),
+            LinkAct::Created { error: _ } => unreachable!(),
+            LinkAct::Close => unreachable!(),
+            LinkAct::Wait {
+                request: _,
+                wait: _,
+            } => unreachable!(),
+            LinkAct::Start {
+                message: _,
+                request: _,
+                need: _,
+                len: _,
+            } => unreachable!(),
+            LinkAct::Outcome {
+                request: _,
+                outcome: _,
+            } => unreachable!(),
+        }
+    }
+
+    /// An act of the connection.
+    fn note(&mut self, alloc: Global, draw: u64, act: LinkAct) -> Result<(), AllocError>
+        ensures { OnOk result (self.new ≡ noted self.old draw act) }
+    {
+        match act {
+            LinkAct::Created { error } => self.open(alloc, draw, error),
+            LinkAct::Close => self.close(),
+            LinkAct::Wait { request, wait } => self.show_wait_of(request, wait),
+            LinkAct::Start {
+                message,
+                request,
+                need,
+                len,
+            } => self.show_start(message, request, need, len),
             LinkAct::Outcome { request, outcome } => self.come_to(alloc, request, outcome),
+            other => self.pass_on(draw, other),
         }
     }
 

@@ -68,11 +68,13 @@ impl ConnectionManager {
     ghost use Rattle.conn_manager.specs.Manager.{said, link_of, is_current};
     ghost use Rattle.conn_manager.specs.Manager.{is_open_at, is_held_at, tracked_call, tracked};
     ghost use Rattle.conn_manager.specs.Manager.{weighed, kept, answered};
+    ghost use Rattle.conn_manager.specs.Calls.{outcomes_with};
     ghost use Rattle.conn_manager.specs.Turn.{reconnected};
 
     /// One more act.
     pub(crate) fn say(&mut self, act: ManagerAct) -> Result<(), AllocError>
-        ensures { OnOk result (self.new ≡ said self.old act) }
+        ensures done { OnOk result (self.new ≡ said self.old act) }
+        ensures outcomes { self.new.outcomes ≡ self.old.outcomes }
     {
         self.generations.show(act)
     }
@@ -93,7 +95,8 @@ impl ConnectionManager {
 
     /// Over the link that is asked for there is a connection of its own.
     pub(crate) fn reconnect(&mut self, alloc: Global) -> Result<(), AllocError>
-        ensures { OnOk result (self.new ≡ reconnected self.old) }
+        ensures done { OnOk result (self.new ≡ reconnected self.old) }
+        ensures outcomes { self.new.outcomes ≡ self.old.outcomes }
     {
         let told = self.info.clone(alloc)?;
         self.conn = connection(alloc, self.generations.settings.config.connection, told)?;
@@ -132,10 +135,11 @@ impl ConnectionManager {
 
     /// A confirmed subscription call is tracked, where the request of this number is one.
     fn track_call(&mut self, alloc: Global, number: u32) -> Result<(), AllocError>
-        ensures { OnOk result (
+        ensures done { OnOk result (
             self.new
             ≡ record self.old { tracker = tracked_call self.old.tracker (slice_get self.old.calls number) }
             ) }
+        ensures outcomes { self.new.outcomes ≡ self.old.outcomes }
     {
         if number as usize >= self.calls.len() {
             return Ok(());
@@ -151,12 +155,13 @@ impl ConnectionManager {
 
     /// What the outcome of a request says of what is subscribed.
     fn track(&mut self, alloc: Global, number: u32, outcome: &Outcome) -> Result<(), AllocError>
-        ensures { OnOk result (
+        ensures done { OnOk result (
             self.new
             ≡ record self.old {
               tracker = tracked self.old.tracker (slice_get self.old.calls number) outcome.now;
             }
             ) }
+        ensures outcomes { self.new.outcomes ≡ self.old.outcomes }
     {
         match outcome {
             Outcome::Done => self.track_call(alloc, number),
@@ -168,7 +173,8 @@ impl ConnectionManager {
 
     /// The error of an outcome may be a cause for the next generation.
     fn weigh(&mut self, outcome: &Outcome)
-        ensures { self.new ≡ weighed self.old outcome.now }
+        ensures done { self.new ≡ weighed self.old outcome.now }
+        ensures outcomes { self.new.outcomes ≡ self.old.outcomes }
     {
         match outcome {
             Outcome::Fault(error) => self.generations.answer(error),
@@ -185,7 +191,8 @@ impl ConnectionManager {
         number: u32,
         outcome: Outcome,
     ) -> Result<(), AllocError>
-        ensures { OnOk result (self.new ≡ answered self.old number outcome) }
+        ensures done { OnOk result (self.new ≡ answered self.old number outcome) }
+        ensures outcomes { self.new.outcomes ≡ outcomes_with self.old number outcome }
     {
         if !self.is_open(number) {
             drop(outcome);

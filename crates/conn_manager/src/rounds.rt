@@ -32,7 +32,8 @@ impl ConnectionManager {
     pub(crate) fn hand(&mut self, request: HeldRequest) -> Result<(), AllocError>
         requires there { request.number < length self.old.stages }
         requires few { length self.old.conn.requests < 2 ^ 32 }
-        ensures { OnOk result (self.new ≡ handed self.old request) }
+        ensures done { OnOk result (self.new ≡ handed self.old request) }
+        ensures outcomes { self.new.outcomes ≡ self.old.outcomes }
     {
         let HeldRequest {
             number,

@@ -1,4 +1,11 @@
-ghost use Rattle.std.specs.Prelude.{◌≡◌, ◌≢◌, ◌<◌, ◌+◌, ◌^◌, [], length, not, true, None, OnOk, IfOk, IfErr, IsErrOf};
+ghost use Rattle.std.specs.Prelude.{◌≡◌, ◌≢◌, ◌<◌, ◌+◌, ◌^◌, ℕ, List, [], length, not, true, None, Some};
+ghost use Rattle.std.specs.Prelude.{OnOk, OnErr, IfOk, IfErr, IsErrOf};
+ghost use Rattle.connection_info.specs.Protocol.{is_resp3};
+ghost use Rattle.driver_model.specs.declared.outcome.Outcome.TheVariants as outcome;
+ghost use Rattle.mux_conn.specs.declared.errors.ConnectionError.{ConnectionError as Failure};
+ghost use Rattle.mux_client.specs.Errors.{send_error};
+ghost use Rattle.mux_client.specs.Failing.{AnswersItsFailure};
+ghost use Rattle.resp_write.specs.declared.subscription.SubscriptionAction.{SubscriptionAction};
 ghost use Rattle.resp_write.specs.Pack.{pack, pack_pipeline};
 
 use crate::hearing::RESUBSCRIPTION;
@@ -16,21 +23,24 @@ use std::alloc::{AllocError, Global};
 impl ConnectionManager {
     ghost use Rattle.manager_generations.specs.Generations.{runs_out};
     ghost use Rattle.conn_manager.specs.Calls.{begins, entered, waiting, answered_at_once, placed_at};
-    ghost use Rattle.conn_manager.specs.Calls.{next_number, sent, RefusesSend};
+    ghost use Rattle.conn_manager.specs.Calls.{next_number, sent, outcome_of, outcomes_with};
+    ghost use Rattle.conn_manager.specs.Calls.{Leaves, RefusesCall, RefusesSend, SparesOthers};
     ghost use Rattle.conn_manager.specs.declared.manager.ConnectionManager.{ConnectionManager};
 
-    /// One more request, held until its generation is ready.
+    /// One more request, held until its generation is ready. An error leaves the outcomes as they were.
     fn enter(&mut self, call: Option<Call>) -> Result<(), AllocError>
-        ensures { OnOk result (self.new ≡ entered self.old call) }
+        ensures done { OnOk result (self.new ≡ entered self.old call) }
+        ensures kept { OnErr result (self.new.outcomes ≡ self.old.outcomes) }
     {
         self.stages.push(Stage::Held)?;
-        self.outcomes.push(None)?;
-        self.calls.push(call)
+        self.calls.push(call)?;
+        self.outcomes.push(None)
     }
 
     /// It waits.
     fn hold(&mut self, request: HeldRequest) -> Result<(), AllocError>
-        ensures { OnOk result (self.new ≡ waiting self.old request) }
+        ensures done { OnOk result (self.new ≡ waiting self.old request) }
+        ensures outcomes { self.new.outcomes ≡ self.old.outcomes }
     {
         let number = request.number;
         self.held.push_back(request)?;
@@ -40,6 +50,7 @@ impl ConnectionManager {
     /// A generation begins.
     pub(crate) fn begin(&mut self, alloc: Global) -> Result<(), ConnectionError>
         ensures done { OnOk result (self.new ≡ begins self.old) }
+        ensures outcomes { self.new.outcomes ≡ self.old.outcomes }
         ensures spent { IsErrOf result ConnectionError.Spent
             → runs_out (begins self.old).generations ≡ true }
     {
@@ -59,6 +70,8 @@ impl ConnectionManager {
         error: RedisError,
     ) -> Result<(), ConnectionError>
         ensures done { OnOk result (self.new ≡ answered_at_once self.old request error) }
+        ensures outcomes { self.new.outcomes
+            ≡ outcomes_with self.old request.number (outcome.Fault error) }
         ensures spent { IsErrOf result ConnectionError.Spent
             → runs_out (answered_at_once self.old request error).generations ≡ true }
     {
@@ -66,13 +79,15 @@ impl ConnectionManager {
         self.succeed(alloc)
     }
 
-    /// What becomes of a request: it waits, is handed to a link that is ready, or is answered at once.
+    /// What becomes of a request: it waits, is handed to a link that is ready, or is answered at once. No other gets an outcome.
+    #[tactic(auto, using(crate::proofs::Sends::spared))]
     fn place(&mut self, alloc: Global, request: HeldRequest) -> Result<(), ConnectionError>
         requires there { request.number < length self.old.stages }
         requires few { length self.old.conn.requests < 2 ^ 32 }
         ensures done { OnOk result (
             self.new ≡ placed_at self.old request self.old.generations.phase
             ) }
+        ensures others { SparesOthers request.number self.old self.new }
         ensures spent { IsErrOf result ConnectionError.Spent
             → runs_out (placed_at self.old request self.old.generations.phase).generations ≡ true }
     {
@@ -109,7 +124,8 @@ impl ConnectionManager {
         }
     }
 
-    /// One more request, which may be a subscription call.
+    /// One more request, which may be a subscription call. Those before it keep their outcomes.
+    #[tactic(auto, using(crate::proofs::Sends::admitted))]
     fn admit(
         &mut self,
         alloc: Global,
@@ -121,6 +137,8 @@ impl ConnectionManager {
         ensures done { OnOk result (
             self.new ≡ placed_at (entered self.old call) request self.old.generations.phase
             ) }
+        ensures kept { (p : ℕ) → p < next_number self.old
+            → outcome_of self.new p ≡ outcome_of self.old p }
         ensures spent { IsErrOf result ConnectionError.Spent
             → runs_out (placed_at (entered self.old call) request self.old.generations.phase).generations ≡ true }
     {
@@ -128,13 +146,16 @@ impl ConnectionManager {
         self.place(alloc, request)
     }
 
-    /// Whether a message of these bytes may be sent.
-    fn check(&self, packed: &Bytes) -> Result<(), SendError>
-        ensures failure { OnOk result (self.now.failure ≡ None) }
-        ensures room { OnOk result (next_number self.now + 1 < 2 ^ 32) }
-        ensures few { OnOk result (length self.now.conn.requests < 2 ^ 32) }
+    /// Whether a message of these bytes may be sent. Where no number is left for its request, the manager fails.
+    fn check(&mut self, packed: &Bytes) -> Result<(), SendError>
+        ensures same { OnOk result (self.new ≡ self.old) }
+        ensures failure { OnOk result (self.old.failure ≡ None) }
+        ensures room { OnOk result (next_number self.old + 1 < 2 ^ 32) }
+        ensures few { OnOk result (length self.old.conn.requests < 2 ^ 32) }
         ensures bytes { OnOk result (packed.now ≢ []) }
-        ensures err { (after : ConnectionManager) → IfErr result (RefusesSend self.now after packed.now) }
+        ensures err { (after : ConnectionManager) → IfErr result (RefusesSend self.old after packed.now) }
+        ensures left { IfErr result (Leaves self.old self.new) }
+        ensures failed { AnswersItsFailure self.old.failure result }
     {
         if let Some(error) = self.failure {
             return Err(SendError::from(error));
@@ -143,12 +164,28 @@ impl ConnectionManager {
             return Err(SendError::Refused(RedisError::EmptyCommand));
         }
         if self.stages.len() >= RESUBSCRIPTION as usize {
-            return Err(SendError::Spent);
+            return Err(SendError::from(self.refuse(ConnectionError::Spent)));
         }
         if self.conn.requests.len() >= RESUBSCRIPTION as usize {
-            return Err(SendError::Spent);
+            return Err(SendError::from(self.refuse(ConnectionError::Spent)));
         }
         Ok(())
+    }
+
+    /// Memory was refused before anything was sent. A manager that has failed before answers why, and any other fails from now
+    /// on.
+    pub(crate) fn refuse_unsent(&mut self) -> SendError
+        ensures err { (after : ConnectionManager) (packed : List ℕ)
+            → RefusesSend self.old after packed result }
+        ensures call { (what : SubscriptionAction) (names : List (List ℕ))
+            → is_resp3 self.old.info.protocol ≡ true → RefusesCall self.old what names result }
+        ensures left { Leaves self.old self.new result }
+        ensures failed { (e : Failure) → self.old.failure ≡ Some e → result ≡ send_error e }
+    {
+        match self.failure {
+            Some(error) => SendError::from(error),
+            None => SendError::from(self.refuse(ConnectionError::NoMemory)),
+        }
     }
 
     /// A message of these bytes, which takes items by this shape, and whose reply is awaited or not; it may be a subscription
@@ -166,6 +203,8 @@ impl ConnectionManager {
         ensures sound { OnOk result (self.old.failure ≡ None) }
         ensures bytes { OnOk result (packed ≢ []) }
         ensures err { IfErr result (RefusesSend self.old (sent self.old packed shape awaited call) packed) }
+        ensures left { IfErr result (Leaves self.old self.new) }
+        ensures failed { AnswersItsFailure self.old.failure result }
     {
         match self.check(&packed) {
             Ok(()) => {}
@@ -206,15 +245,14 @@ impl ConnectionManager {
         ensures err { IfErr result (RefusesSend self.old
             (sent self.old (pack command.now.args) Shape.Single (not command.now.no_response) None)
             (pack command.now.args)) }
+        ensures left { IfErr result (Leaves self.old self.new) }
+        ensures failed { AnswersItsFailure self.old.failure result }
     {
-        let packed = command.get_packed_command(alloc)?;
-        self.send(
-            alloc,
-            packed,
-            Shape::Single,
-            !command.is_no_response(),
-            None,
-        )
+        let awaited = !command.is_no_response();
+        match command.get_packed_command(alloc) {
+            Ok(packed) => self.send(alloc, packed, Shape::Single, awaited, None),
+            Err(_) => Err(self.refuse_unsent()),
+        }
     }
 
     /// Sends a pipeline as one message: the replies behind the first `offset` are kept, `count` of them, and at least one is
@@ -237,13 +275,17 @@ impl ConnectionManager {
         ensures err { IfErr result (RefusesSend self.old
             (sent self.old (pack_pipeline pipeline.now) (Shape.Pipeline offset count pipeline.now.atomic) true None)
             (pack_pipeline pipeline.now)) }
+        ensures left { IfErr result (Leaves self.old self.new) }
+        ensures failed { AnswersItsFailure self.old.failure result }
     {
-        let packed = pipeline.get_packed_pipeline(alloc)?;
         let shape = Shape::Pipeline {
             offset,
             count,
             transaction: pipeline.is_transaction(),
         };
-        self.send(alloc, packed, shape, true, None)
+        match pipeline.get_packed_pipeline(alloc) {
+            Ok(packed) => self.send(alloc, packed, shape, true, None),
+            Err(_) => Err(self.refuse_unsent()),
+        }
     }
 }
