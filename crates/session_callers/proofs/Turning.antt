@@ -1,13 +1,12 @@
 -- What a whole turn does to a view.
 use Rattle.std.proofs.Common.{◌≡◌, ◌≢◌, ℕ, ◌+◌, ◌^◌, ◌<◌, List, [], ◌∷◌, ◌++◌, length, refl, sym, ap, ◌∙◌, subst, arith, eq-eqb, ne_eqb, Bool, true, false, length-append, inl}
-use Rattle.std.specs.Prelude.{Result, Ok, Err, IfOk, IfErr, OnOk, if◌then◌else◌, Option}
+use Rattle.std.specs.Prelude.{Result, Ok, Err, IfOk, IfErr, OnOk, if◌then◌else◌}
 use mathlib.Core.List.{IsPrefix}
 use Rattle.driver_model.specs.declared.action.Action.{Action}
 use Rattle.driver_model.specs.declared.config.Config.{Config}
 use Rattle.driver_model.specs.declared.event.Event.{Event}
-use Rattle.driver_model.specs.declared.outcome.Outcome.{Outcome}
 use Rattle.shared_session.specs.History.{History}
-use Rattle.shared_session.specs.Replay.{is_bad_after, is_spent_after, state_after, trace_of, outcomes_in, outcome_at}
+use Rattle.shared_session.specs.Replay.{is_bad_after, is_spent_after, state_after}
 use Rattle.shared_session.specs.Turn.{actions_of}
 use Rattle.shared_session.specs.declared.errors.StepError.{StepError}
 use Rattle.shared_session.specs.declared.session.Failure.{Failure}
@@ -163,13 +162,3 @@ refused error v w h k e shown after t s a = record {
 pub refused_as : (error : StepError) (known v w x : View) (h k : Home) (e : Event) (shown after : List Action) → v ≡ known → Took v w h → Stepped h k → x ≡ record (given w k) { stage = Idle } → HasRefused error h k e shown after → Refused error known x e shown after
 refused_as error known v w x h k e shown after is t s ended a =
     subst (λ (y : View). Refused error y x e shown after) is (subst (λ (y : View). Refused error v y e shown after) (sym ended) (refused error v w h k e shown after t s a))
-
--- a turn that took no event keeps the caller's own
-pub mine_same : (known v w x : View) (h : Home) → v ≡ known → Took v w h → x ≡ record (given w h) { stage = Idle } → x.mine ≡ known.mine
-mine_same known v w x h is t ended = ap (λ (y : View). y.mine) ended ∙ mine_as_many w h (ap (λ (s : History). s.events) t.session) ∙ t.mine ∙ ap (λ (y : View). y.mine) is
-
--- the outcome by the session is that by the history seen
-pub outcome_seen : (v w x : View) (h : Home) (n : ℕ) (o : Option Outcome) → Took v w h → x ≡ record (given w h) { stage = Idle } → o ≡ outcome_at (outcomes_in (trace_of h.session.config h.session.word h.session.events)) n → o ≡ outcome_at (outcomes_in (trace_of x.config x.word x.seen)) n
-outcome_seen v w x h n o t ended is =
-    is ∙ ap (λ (s : History). outcome_at (outcomes_in (trace_of s.config s.word h.session.events)) n) t.session
-    ∙ ap (λ (y : View). outcome_at (outcomes_in (trace_of y.config y.word y.seen)) n) (sym ended)

@@ -3,3 +3,4 @@ pub mod Steps
 pub mod Calls
 pub mod Claims
 pub mod Closes
+pub mod Sends

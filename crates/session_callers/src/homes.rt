@@ -1,5 +1,5 @@
 //! One step of the session, and the count of its submissions.
-ghost use Rattle.std.specs.Prelude.{◌≡◌, OnOk, IfErr, IfOk};
+ghost use Rattle.std.specs.Prelude.{◌≡◌, OnOk, OnErr, IfErr, IfOk, IsSome};
 ghost use Rattle.shared_session.specs.Replay.{trace_of, outcomes_in, outcome_at};
 ghost use Rattle.session_callers.specs.Rule.{submits, submissions_in};
 ghost use Rattle.session_callers.specs.Steps.{IsCounted, Stepped, HasTaken, HasRefused};
@@ -45,18 +45,23 @@ pub fn step_home(
     }
 }
 
-/// A copy of the outcome of a submission.
+/// A copy of the outcome of a submission. Memory can be refused only to a copy.
 pub fn outcome_in(
     alloc: Global,
     session: &Session,
     submission: u32,
 ) -> Result<Option<Outcome>, AllocError>
-    ensures { IfOk result (λ outcome.
+    ensures ok { IfOk result (λ outcome.
         outcome
         ≡ outcome_at
         (outcomes_in (trace_of session.now.config session.now.word session.now.events))
         submission
         ) }
+    ensures refused { OnErr result (IsSome (
+        outcome_at
+        (outcomes_in (trace_of session.now.config session.now.word session.now.events))
+        submission
+        )) }
 {
     match session.outcome_of(submission) {
         Some(outcome) => match outcome.clone(alloc) {

@@ -1,12 +1,13 @@
 ghost use Rattle.std.specs.Prelude.{◌≡◌, ℕ, ◌+◌, ◌-◌, ◌^◌, ◌<◌, ◌≤◌, [], ◌∷◌, ◌++◌, IfOk, IfErr, OnOk, OnErr, length};
-ghost use Rattle.std.specs.Prelude.{Some, IsErrOf};
+ghost use Rattle.std.specs.Prelude.{Some, IsErrOf, IsSome};
 ghost use Rattle.driver_model.specs.Config.{first_fault};
-ghost use Rattle.shared_session.specs.Replay.{opening_actions, trace_of, outcomes_in, outcome_at};
+ghost use Rattle.shared_session.specs.Replay.{opening_actions};
 ghost use Rattle.shared_session.specs.Replay.{IsSound};
 ghost use Rattle.shared_session.specs.declared.session.Failure.TheVariants.{Sound};
 ghost use Rattle.session_callers.specs.Rule.{history, newcomer};
 ghost use Rattle.session_callers.specs.Calls.{Turned, Added, Refused, RefusedInTurn, submission_event, joined_by, with_claim};
 ghost use Rattle.session_callers.specs.Claims.{MatchClaim};
+ghost use Rattle.session_callers.specs.Sends.{outcome_seen};
 
 use crate::board::{Home, Origin, Turns, View};
 use crate::caller::Caller;
@@ -202,7 +203,7 @@ impl SharedSession {
         }
     }
 
-    /// The outcome of a submission by the history then seen, if it has one.
+    /// The outcome of a submission by the history then seen, if it has one. Memory can be refused only to a copy of it.
     pub fn outcome_as<R: Wait>(
         &self,
         rt: &R,
@@ -214,11 +215,8 @@ impl SharedSession {
         ensures table { caller.new.table ≡ caller.old.table }
         ensures turned { Turned caller.old.view caller.new.view }
         ensures mine { caller.new.view.mine ≡ caller.old.view.mine }
-        ensures outcome { IfOk result (λ outcome.
-            outcome ≡ outcome_at (outcomes_in (
-            trace_of caller.new.view.config caller.new.view.word caller.new.view.seen
-            )) submission
-            ) }
+        ensures outcome { IfOk result (λ outcome. outcome ≡ outcome_seen caller.new.view submission) }
+        ensures refused { OnErr result (IsSome (outcome_seen caller.new.view submission)) }
     {
         let board = &self.table.shared;
         let home = begin(rt, board, &mut caller.seat);
@@ -315,7 +313,29 @@ impl SharedSession {
         caller.front
     }
 
-    /// Submits as `submit_as` does, and answers a future of the outcome. A refusal is one of some turn of the caller.
+    /// A future of the outcome of a submission. The caller is lent to it, and free again once it is dropped.
+    pub fn wait_as<'a, R: Wait>(
+        &'a self,
+        rt: &'a R,
+        alloc: Global,
+        caller: &'a mut Caller,
+        submission: u32,
+    ) -> PendingSend<'a, R>
+        ensures lent { result.caller.ghost_name ≡ caller.entry.ghost_name }
+        ensures made { (result.caller.now ≡ caller.old) × (result.shared.now ≡ self.now)
+            × (result.number ≡ submission) }
+    {
+        PendingSend {
+            shared: self,
+            rt,
+            alloc,
+            caller,
+            number: submission,
+        }
+    }
+
+    /// Submits as `submit_as` does, and waits as `wait_as` does. A refusal is one of some turn of the caller. The clauses
+    /// leave open what the caller knows after it; those of `submit_as` and `wait_as` say that too.
     pub fn send_as<'a, R: Wait>(
         &'a self,
         rt: &'a R,
@@ -326,6 +346,9 @@ impl SharedSession {
         out: &mut Vec<Action>,
     ) -> Result<PendingSend<'a, R>, StepError>
         requires { caller.old.table ≡ self.now.table.shared.table_id }
+        ensures lent { IfOk result (λ p.
+            (p.caller.ghost_name ≡ caller.entry.ghost_name) × (p.shared.now ≡ self.now)
+            ) }
         ensures sent { IfOk result (λ p.
             (p.caller.now.table ≡ caller.old.table)
             × Turned caller.old.view p.caller.now.view
@@ -337,12 +360,6 @@ impl SharedSession {
             ) }
     {
         let number = self.submit_as(rt, alloc, caller, what, word, out)?;
-        Ok(PendingSend {
-            shared: self,
-            rt,
-            alloc,
-            caller,
-            number,
-        })
+        Ok(self.wait_as(rt, alloc, caller, number))
     }
 }

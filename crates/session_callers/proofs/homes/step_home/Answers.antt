@@ -1,5 +1,5 @@
 use Rattle.std.proofs.Common.{refl, arith, ap, ◌+◌, ◌^◌, ◌<◌}
-use Rattle.std.specs.Prelude.{Err, Result}
+use Rattle.std.specs.Prelude.{Err}
 use Rattle.session_callers.specs.declared.board.Home.{Home}
 use Rattle.session_callers.proofs.Stepping.{count_fits, stepped_ok, stepped_err}
 use Rattle.session_callers.proofs.homes.step_home.Goals as goal

@@ -1,5 +1,4 @@
 use Rattle.std.proofs.Common.{ap, refl}
-use Rattle.session_callers.specs.declared.board.View.{View}
 use Rattle.session_callers.proofs.Turning.{on_ok, if_err, turned_as, added_as, refused_as}
 use Rattle.session_callers.proofs.session.SharedSession.take_turn.Goals as goal
 
