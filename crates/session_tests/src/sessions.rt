@@ -4,4 +4,5 @@ mod callers;
 mod events;
 mod meetings;
 mod pushes;
+mod sends;
 mod threads;
