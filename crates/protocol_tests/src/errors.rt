@@ -183,11 +183,11 @@ const OWNING: [(Owning, &str); 6] = [
 
 #[test]
 fn people_are_told_of_errors(rt: HostRuntime) -> Result<(), AllocError> {
-    for (of, text) in PLAIN {
-        assert!(rt; is_plain_told(of, text), "{text}");
+    for (of, text) in &PLAIN {
+        assert!(rt; is_plain_told(*of, text), "{text}");
     }
-    for (of, text) in OWNING {
-        assert!(rt; is_told(rt.alloc(), of, text)?, "{text}");
+    for (of, text) in &OWNING {
+        assert!(rt; is_told(rt.alloc(), *of, text)?, "{text}");
     }
     Ok(())
 }
@@ -252,8 +252,8 @@ fn errors_tell_their_parts(rt: HostRuntime) -> Result<(), AllocError> {
     let alloc = rt.alloc();
     assert!(rt; is_late_shown(alloc)?);
     assert!(rt; is_moved(alloc)?);
-    for (detail, wanted) in LEADS {
-        assert!(rt; leads(alloc, detail, wanted)?);
+    for (detail, wanted) in &LEADS {
+        assert!(rt; leads(alloc, detail, *wanted)?);
     }
     Ok(())
 }

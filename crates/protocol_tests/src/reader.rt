@@ -429,8 +429,8 @@ const LONG: [(u8, usize, u8, &str, &str); 19] = [
 
 #[test]
 fn reads_lines_up_to_the_limit(rt: HostRuntime) -> Result<(), Fail> {
-    for (mark, count, byte, end, want) in LONG {
-        let is_so = is_long_read(rt.alloc(), mark, count, byte, end, want)?;
+    for (mark, count, byte, end, want) in &LONG {
+        let is_so = is_long_read(rt.alloc(), *mark, *count, *byte, end, want)?;
         assert!(rt; is_so, "{mark} and {count} times {byte}, then {end:?}");
     }
     Ok(())
@@ -485,8 +485,8 @@ const DEEP: [(&str, usize, &str, &str); 14] = [
 
 #[test]
 fn reads_aggregates_up_to_the_depth(rt: HostRuntime) -> Result<(), Fail> {
-    for (piece, count, end, shown) in DEEP {
-        let is_so = is_deep_read(rt.alloc(), piece, count, end, shown)?;
+    for (piece, count, end, shown) in &DEEP {
+        let is_so = is_deep_read(rt.alloc(), piece, *count, end, shown)?;
         assert!(rt; is_so, "{count} times {piece:?}, then {end:?}");
     }
     Ok(())
@@ -529,7 +529,7 @@ fn refuses_what_is_beyond_its_limits(rt: HostRuntime) -> Result<(), Fail> {
         count: 0,
         depth: 1,
     };
-    for (text, want) in LEAST {
+    for (text, want) in &LEAST {
         let is_so = is_read_within(rt.alloc(), least, text, want)?;
         assert!(rt; is_so, "{text:?}");
     }
@@ -554,9 +554,9 @@ const KINDS: [(&[u8], bool); 12] = [
 
 #[test]
 fn six_kinds_have_a_reply(rt: HostRuntime) -> Result<(), Fail> {
-    for (text, has_reply) in KINDS {
+    for (text, has_reply) in &KINDS {
         let kind = PushKind::of_text(Bytes::from_slice(rt.alloc(), text)?);
-        assert_eq!(rt; kind.has_reply(), has_reply);
+        assert_eq!(rt; kind.has_reply(), *has_reply);
     }
     Ok(())
 }

@@ -96,11 +96,14 @@ fn refusal(error: &RedisError) -> Option<u32> {
 
 /// The limit of the limiter that is built; 0 where there is none, and none where the limit is refused.
 fn limit_of(limit: Option<u32>) -> Option<u32> {
-    match build_concurrency_limiter(limit) {
+    let built = build_concurrency_limiter(limit);
+    let limit = match &built {
         Ok(Some(limiter)) => Some(limiter.limit()),
         Ok(None) => Some(0),
-        Err(error) => refusal(&error),
-    }
+        Err(error) => refusal(error),
+    };
+    drop(built);
+    limit
 }
 
 /// Limits, and those of the limiters that are built.
@@ -118,11 +121,11 @@ fn setups_and_permits_are_made(rt: HostRuntime) -> Result<(), AllocError> {
     assert!(rt;
         ProtocolVersion::RESP3.supports_resp3() && !ProtocolVersion::RESP2.supports_resp3()
     );
-    for (count, limit, permits) in PERMITS {
-        assert_eq!(rt; permit_vec_capacity(count, limit), permits);
+    for (count, limit, permits) in &PERMITS {
+        assert_eq!(rt; permit_vec_capacity(*count, *limit), *permits);
     }
-    for (limit, wanted) in LIMITS {
-        assert_eq!(rt; limit_of(limit), wanted);
+    for (limit, wanted) in &LIMITS {
+        assert_eq!(rt; limit_of(*limit), *wanted);
     }
     Ok(())
 }

@@ -76,7 +76,7 @@ const VALUES: [(&[u8], &str); 25] = [
 
 #[test]
 fn values_are_written_copied_and_shown(rt: HostRuntime) -> Result<(), AllocError> {
-    for (text, shown) in VALUES {
+    for (text, shown) in &VALUES {
         assert!(rt; is(rt.alloc(), text, shown)?, "{shown}");
     }
     Ok(())
@@ -111,7 +111,7 @@ fn are_named() -> bool {
 
 #[test]
 fn errors_are_extracted(rt: HostRuntime) -> Result<(), AllocError> {
-    for (text, wanted) in EXTRACTED {
+    for (text, wanted) in &EXTRACTED {
         assert!(rt; is_extracted(rt.alloc(), text, wanted)?, "{wanted}");
     }
     assert!(rt; are_named());

@@ -80,6 +80,19 @@ fn is_told(
     Ok(error.server_error().is_some() == of_server && text.as_str() == wanted)
 }
 
+/// Whether no number was read, and the refusal says this.
+fn is_refusal_told(
+    alloc: Global,
+    read: &Result<i64, ConvertError>,
+    of_server: bool,
+    wanted: &str,
+) -> Result<bool, AllocError> {
+    match read {
+        Ok(_) => Ok(false),
+        Err(error) => is_told(alloc, error, of_server, wanted),
+    }
+}
+
 /// Whether a text is refused as a number so.
 fn is_refused(
     alloc: Global,
@@ -88,10 +101,10 @@ fn is_refused(
     wanted: &str,
 ) -> Result<bool, AllocError> {
     let value = value_of(alloc, text)?;
-    match i64::from_redis_value(alloc, value) {
-        Ok(_) => Ok(false),
-        Err(error) => is_told(alloc, &error, of_server, wanted),
-    }
+    let read = i64::from_redis_value(alloc, value);
+    let refused = is_refusal_told(alloc, &read, of_server, wanted);
+    drop(read);
+    refused
 }
 
 /// Values that are no numbers, whether each is a server's error, and what people are told.
@@ -107,9 +120,9 @@ const REFUSALS: [(&[u8], bool, &str); 3] = [
 
 #[test]
 fn refusals_tell_the_error(rt: HostRuntime) -> Result<(), AllocError> {
-    for (text, of_server, wanted) in REFUSALS {
+    for (text, of_server, wanted) in &REFUSALS {
         assert!(rt;
-            is_refused(rt.alloc(), text, of_server, wanted)?,
+            is_refused(rt.alloc(), text, *of_server, wanted)?,
             "{wanted}"
         );
     }
