@@ -1,25 +1,12 @@
-//! Tests of what a cluster's client decides, by public calls alone: slots and commands, the nodes of routes, the client and its
-//! builder, what follows the end of a try, recoveries, where tries go, and results of several nodes.
+//! Tests of slots, of the routes of commands, and of what a map of slots makes of them, by public calls alone.
 #![tactic(auto)]
 
 #[cfg(test)]
-mod choice;
-#[cfg(test)]
-mod client;
-#[cfg(test)]
 mod commands;
-#[cfg(test)]
-mod fan_outs;
-#[cfg(test)]
-mod nodes;
 #[cfg(test)]
 mod part_commands;
 #[cfg(test)]
-mod recoveries;
-#[cfg(test)]
 mod replies;
-#[cfg(test)]
-mod retries;
 #[cfg(test)]
 mod routes;
 #[cfg(test)]

@@ -30,6 +30,22 @@ fn give(
     is_part(alloc, &cmd, parts, k, wanted)
 }
 
+/// Whether the parts of a route give that part of the command of a text.
+fn route_gives(
+    alloc: Global,
+    routing: &Option<RoutingInfo>,
+    text: &str,
+    k: usize,
+    wanted: Option<&str>,
+) -> Result<bool, AllocError> {
+    match routing {
+        Some(RoutingInfo::MultiNode(MultipleNodeRoutingInfo::MultiSlot(parts), _)) => {
+            give(alloc, parts, text, k, wanted)
+        }
+        _ => Ok(false),
+    }
+}
+
 /// Whether the parts of one command's route give that part of another command.
 fn gives(
     alloc: Global,
@@ -38,34 +54,44 @@ fn gives(
     k: usize,
     wanted: Option<&str>,
 ) -> Result<bool, AllocError> {
-    match &routing(alloc, text)? {
-        Some(RoutingInfo::MultiNode(MultipleNodeRoutingInfo::MultiSlot(parts), _)) => {
-            give(alloc, parts, other, k, wanted)
-        }
-        _ => Ok(false),
-    }
+    let routing = routing(alloc, text)?;
+    let gives = route_gives(alloc, &routing, other, k, wanted);
+    drop(routing);
+    gives
 }
 
 const MGET: &str = "MGET foo baz {foo}bar";
 
 const MSET: &str = "MSET foo 1 baz 2 {foo}bar 3";
 
+/// A command, the place of a part of its route, and the part.
+const PARTS: [(&str, usize, &str); 4] = [
+    (MGET, 0, "MGET foo {foo}bar"),
+    (MGET, 1, "MGET baz"),
+    (MSET, 0, "MSET foo 1 {foo}bar 3"),
+    (MSET, 1, "MSET baz 2"),
+];
+
 #[test]
 fn parts_have_commands(rt: HostRuntime) -> Result<(), AllocError> {
-    let alloc = rt.alloc();
-    assert!(rt; gives(alloc, MGET, MGET, 0, Some("MGET foo {foo}bar"))?);
-    assert!(rt; gives(alloc, MGET, MGET, 1, Some("MGET baz"))?);
-    assert!(rt; gives(alloc, MSET, MSET, 0, Some("MSET foo 1 {foo}bar 3"))?);
-    assert!(rt; gives(alloc, MSET, MSET, 1, Some("MSET baz 2"))?);
+    for row in &PARTS {
+        assert!(rt; gives(rt.alloc(), row.0, row.0, row.1, Some(row.2))?);
+    }
     Ok(())
 }
 
+/// Other commands, the place of a part of the route of `MGET`, and the part.
+const OTHERS: [(&str, usize, Option<&str>); 4] = [
+    (MGET, 2, None),
+    ("GET foo", 0, None),
+    ("MGET foo baz", 0, None),
+    ("MGET foo baz", 1, Some("MGET baz")),
+];
+
 #[test]
 fn other_parts_have_none(rt: HostRuntime) -> Result<(), AllocError> {
-    let alloc = rt.alloc();
-    assert!(rt; gives(alloc, MGET, MGET, 2, None)?);
-    assert!(rt; gives(alloc, MGET, "GET foo", 0, None)?);
-    assert!(rt; gives(alloc, MGET, "MGET foo baz", 0, None)?);
-    assert!(rt; gives(alloc, MGET, "MGET foo baz", 1, Some("MGET baz"))?);
+    for row in &OTHERS {
+        assert!(rt; gives(rt.alloc(), MGET, row.0, row.1, row.2)?);
+    }
     Ok(())
 }

@@ -29,7 +29,7 @@ const RESP3: &[u8] = b"*3\r\n\
     *4\r\n$1\r\n?\r\n:30003\r\n$40\r\n044ec91f325b7595e76dbcb18cc688b6a5b434a1\r\n%0\r\n";
 
 /// The value that some bytes are.
-pub fn value(alloc: Global, bytes: &[u8]) -> Result<Option<Value>, AllocError> {
+fn value(alloc: Global, bytes: &[u8]) -> Result<Option<Value>, AllocError> {
     let mut reader = Reader::new(alloc);
     reader.feed(bytes)?;
     match reader.next_value(alloc) {

@@ -28,8 +28,10 @@ enum Told {
     Primary(&'static [u8]),
 }
 
-/// Rows of one node: the first and the last slot, the host and the port, and what is told where `answer.host` answered.
-const ROWS: [(i64, i64, Host, i64, Told); 16] = [
+/// A row of one node: the first and the last slot, the host and the port, and what is told where `answer.host` answered.
+type NodeRow = (i64, i64, Host, i64, Told);
+
+const ROWS: [NodeRow; 9] = [
     (
         0,
         100,
@@ -57,6 +59,9 @@ const ROWS: [(i64, i64, Host, i64, Told); 16] = [
     (5, 5, Host::Bulk(b"h"), 0, Told::Primary(b"h")),
     (0, 16_383, Host::Bulk(b"h"), 65_535, Told::Primary(b"h")),
     (0, 100, Host::Bulk(b"?"), 7000, Told::NoRow),
+];
+
+const REFUSED: [NodeRow; 7] = [
     (2, 1, Host::Bulk(b"h"), 1, Told::Refused),
     (-1, 1, Host::Bulk(b"h"), 1, Told::Refused),
     (0, 16_384, Host::Bulk(b"h"), 1, Told::Refused),
@@ -134,7 +139,7 @@ fn row_reply(
 }
 
 /// Whether the reply of a case tells what the case wants.
-fn tells(alloc: Global, case: &(i64, i64, Host, i64, Told)) -> Result<bool, AllocError> {
+fn tells(alloc: Global, case: &NodeRow) -> Result<bool, AllocError> {
     let reply = row_reply(alloc, case.0, case.1, case.2, case.3)?;
     let got = parse_slots(alloc, &reply, b"answer.host");
     drop(reply);
@@ -146,6 +151,14 @@ fn tells(alloc: Global, case: &(i64, i64, Host, i64, Told)) -> Result<bool, Allo
 #[test]
 fn rows_are_told(rt: HostRuntime) -> Result<(), AllocError> {
     for case in &ROWS {
+        assert!(rt; tells(rt.alloc(), case)?);
+    }
+    Ok(())
+}
+
+#[test]
+fn rows_are_refused(rt: HostRuntime) -> Result<(), AllocError> {
+    for case in &REFUSED {
         assert!(rt; tells(rt.alloc(), case)?);
     }
     Ok(())
@@ -191,8 +204,8 @@ const ODD: [Odd; 5] = [
 
 #[test]
 fn other_shapes_are_refused(rt: HostRuntime) -> Result<(), AllocError> {
-    for odd in ODD {
-        assert!(rt; is_refused(rt.alloc(), odd)?);
+    for odd in &ODD {
+        assert!(rt; is_refused(rt.alloc(), *odd)?);
     }
     Ok(())
 }
@@ -481,11 +494,15 @@ fn stand_in(alloc: Global, slot: u16, addr: SlotAddr, wanted: &[u32]) -> Result<
 
 #[test]
 fn replicas_stand_in(rt: HostRuntime) -> Result<(), Fail> {
-    let alloc = rt.alloc();
-    assert!(rt; stand_in(alloc, 1500, SlotAddr::ReplicaOptional, &[3, 4, 2])?);
-    assert!(rt; stand_in(alloc, 1500, SlotAddr::ReplicaRequired, &[3, 4])?);
-    assert!(rt; stand_in(alloc, 1500, SlotAddr::Master, &[])?);
-    assert!(rt; stand_in(alloc, 1001, SlotAddr::ReplicaOptional, &[])?);
+    assert!(rt; stand_in(rt.alloc(), 1500, SlotAddr::ReplicaOptional, &[3, 4, 2])?);
+    assert!(rt; stand_in(rt.alloc(), 1500, SlotAddr::ReplicaRequired, &[3, 4])?);
+    Ok(())
+}
+
+#[test]
+fn nothing_stands_in_elsewhere(rt: HostRuntime) -> Result<(), Fail> {
+    assert!(rt; stand_in(rt.alloc(), 1500, SlotAddr::Master, &[])?);
+    assert!(rt; stand_in(rt.alloc(), 1001, SlotAddr::ReplicaOptional, &[])?);
     Ok(())
 }
 
@@ -649,10 +666,17 @@ fn place_in_map(alloc: Global, text: &[u8]) -> Result<Option<u32>, SlotsError> {
     }
 }
 
+/// Addresses, and their places.
+const PLACES: [(&[u8], Option<u32>); 3] = [
+    (b"node2:1", Some(2)),
+    (b"replica3:1", Some(4)),
+    (b"node2:2", None),
+];
+
 #[test]
 fn addresses_have_places(rt: HostRuntime) -> Result<(), Fail> {
-    assert_eq!(rt; place_in_map(rt.alloc(), b"node2:1")?, Some(2));
-    assert_eq!(rt; place_in_map(rt.alloc(), b"replica3:1")?, Some(4));
-    assert_eq!(rt; place_in_map(rt.alloc(), b"node2:2")?, None);
+    for row in &PLACES {
+        assert!(rt; place_in_map(rt.alloc(), row.0)? == row.1);
+    }
     Ok(())
 }

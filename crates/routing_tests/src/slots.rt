@@ -1,4 +1,3 @@
-use crate::nodes::is_at;
 use containers::Bytes;
 use slot_hash::{AddressError, NodeAddress, key_slot};
 use std::alloc::{AllocError, Global};
@@ -41,31 +40,28 @@ fn keys_have_the_slots_of_their_tags(rt: HostRuntime) {
     }
 }
 
-/// Texts with the host and the port of the address that they are, or nothing.
-const ADDRESSES: [(&[u8], Option<(&[u8], u16)>); 16] = [
-    (b"dead::cafe:beef:30001", Some((b"dead::cafe:beef", 30001))),
+/// Texts with the host and the port of the address that they are.
+const ADDRESSES: [(&[u8], &[u8], u16); 7] = [
+    (b"dead::cafe:beef:30001", b"dead::cafe:beef", 30001),
     (
         b"[fe80::cafe:beef%en1]:30001",
-        Some((b"fe80::cafe:beef%en1", 30001)),
+        b"fe80::cafe:beef%en1",
+        30001,
     ),
-    (b"127.0.0.1:60", Some((b"127.0.0.1", 60))),
-    (b"h:0", Some((b"h", 0))),
-    (b"h:65535", Some((b"h", 65535))),
-    (b"h:065535", Some((b"h", 65535))),
-    (b"[a:1", Some((b"[a", 1))),
-    (b"h:65536", None),
-    (b"h:", None),
-    (b"h:+1", None),
-    (b"h:1a", None),
-    (b"h", None),
-    (b"", None),
-    (b":0", None),
-    (b"[]:6379", None),
-    (b"\xFF:1", None),
+    (b"127.0.0.1:60", b"127.0.0.1", 60),
+    (b"h:0", b"h", 0),
+    (b"h:65535", b"h", 65535),
+    (b"h:065535", b"h", 65535),
+    (b"[a:1", b"[a", 1),
+];
+
+/// Texts that are no addresses.
+const NO_ADDRESSES: [&[u8]; 9] = [
+    b"h:65536", b"h:", b"h:+1", b"h:1a", b"h", b"", b":0", b"[]:6379", b"\xFF:1",
 ];
 
 fn is_address(address: &NodeAddress, wanted: &(&[u8], u16)) -> bool {
-    is_at(address, wanted.0, wanted.1)
+    address.host.as_slice() == wanted.0 && address.port == wanted.1
 }
 
 /// Whether a copy of an address has that host and that port.
@@ -108,7 +104,15 @@ fn is_answer(
 #[test]
 fn texts_are_addresses(rt: HostRuntime) -> Result<(), AllocError> {
     for row in &ADDRESSES {
-        assert!(rt; is_answer(rt.alloc(), row.0, &row.1)?);
+        assert!(rt; is_answer(rt.alloc(), row.0, &Some((row.1, row.2)))?);
+    }
+    Ok(())
+}
+
+#[test]
+fn other_texts_are_no_addresses(rt: HostRuntime) -> Result<(), AllocError> {
+    for text in &NO_ADDRESSES {
+        assert!(rt; is_answer(rt.alloc(), text, &None)?);
     }
     Ok(())
 }
@@ -145,13 +149,17 @@ fn order(alloc: Global, one: &[u8], other: &[u8]) -> Result<Option<Ordering>, Al
     }
 }
 
+/// Two addresses, and how the first stands to the second.
+const ORDERS: [(&[u8], &[u8], Ordering); 3] = [
+    (b"a:2", b"b:1", Ordering::Less),
+    (b"a:10", b"a:9", Ordering::Greater),
+    (b"a:1", b"a:1", Ordering::Equal),
+];
+
 #[test]
 fn addresses_have_an_order(rt: HostRuntime) -> Result<(), AllocError> {
-    assert_eq!(rt; order(rt.alloc(), b"a:2", b"b:1")?, Some(Ordering::Less));
-    assert_eq!(rt;
-        order(rt.alloc(), b"a:10", b"a:9")?,
-        Some(Ordering::Greater)
-    );
-    assert_eq!(rt; order(rt.alloc(), b"a:1", b"a:1")?, Some(Ordering::Equal));
+    for row in &ORDERS {
+        assert!(rt; order(rt.alloc(), row.0, row.1)? == Some(row.2));
+    }
     Ok(())
 }

@@ -17,14 +17,27 @@ fn has(
     words.kind == kind && words.response == Some(Some(response)) && words.overall == overall
 }
 
+/// The same of what a session is asked with, if it is.
+fn have(
+    asked: Result<ClusterSettings, OpenError>,
+    kind: ClusterKind,
+    response: u64,
+    overall: Option<OverallResponseTimeout>,
+) -> Result<bool, OpenError> {
+    let words = asked?;
+    let has = has(&words, kind, response, overall);
+    drop(words);
+    Ok(has)
+}
+
 fn is_asked(alloc: Global, client: &ClusterClient) -> Result<bool, OpenError> {
-    let words = client.get_async_connection(alloc)?;
-    Ok(has(&words, ClusterKind::Cluster, 7, None))
+    let asked = client.get_async_connection(alloc);
+    have(asked, ClusterKind::Cluster, 7, None)
 }
 
 fn is_asked_generically(alloc: Global, client: &ClusterClient) -> Result<bool, OpenError> {
-    let words = client.get_async_generic_connection(alloc)?;
-    Ok(has(&words, ClusterKind::Cluster, 7, None))
+    let asked = client.get_async_generic_connection(alloc);
+    have(asked, ClusterKind::Cluster, 7, None)
 }
 
 /// A whole request's time stays as it was built.
@@ -32,14 +45,14 @@ const SEVEN: Option<OverallResponseTimeout> = Some(OverallResponseTimeout::Expli
 
 fn is_asked_with_five(alloc: Global, client: &ClusterClient) -> Result<bool, OpenError> {
     let five = ClusterConfig::new().set_response_timeout(5);
-    let words = client.get_async_connection_with_config(alloc, &five)?;
-    Ok(has(&words, ClusterKind::Cluster, 5, SEVEN))
+    let asked = client.get_async_connection_with_config(alloc, &five);
+    have(asked, ClusterKind::Cluster, 5, SEVEN)
 }
 
 fn is_pending_with_five(alloc: Global, client: &ClusterClient) -> Result<bool, OpenError> {
     let five = ClusterConfig::new().set_response_timeout(5);
-    let words = client.get_pending_async_connection_with_config(alloc, &five)?;
-    Ok(has(&words, ClusterKind::Pending, 5, SEVEN))
+    let asked = client.get_pending_async_connection_with_config(alloc, &five);
+    have(asked, ClusterKind::Pending, 5, SEVEN)
 }
 
 /// Whether a client that has seven milliseconds to answer is asked so in each way.
@@ -57,7 +70,9 @@ fn is_quick_asked(alloc: Global) -> Result<bool, OpenError> {
         .response_timeout(7)
         .build(alloc)?;
     let overall = client.overall_response_timeout();
-    Ok(is_asked_in_each_way(alloc, &client)? && overall == Some(7))
+    let asked = is_asked_in_each_way(alloc, &client);
+    drop(client);
+    Ok(asked? && overall == Some(7))
 }
 
 /// An address of this host that leaves the library's name out.
@@ -81,15 +96,21 @@ fn asked_of(alloc: Global, host: &[u8]) -> Result<ClusterSettings, OpenError> {
     let mut nodes = Vec::new(alloc);
     let node = nameless(alloc, host)?;
     nodes.push(node).map_err(AllocError::from)?;
-    ClusterClient::new(alloc, nodes)?.get_async_connection(alloc)
+    let client = ClusterClient::new(alloc, nodes)?;
+    let asked = client.get_async_connection(alloc);
+    drop(client);
+    asked
 }
 
 /// Whether a client of a node of this host is asked so, or refused since no URL is its address.
 fn is_asked_of(alloc: Global, host: &[u8], has_url: bool) -> bool {
-    match asked_of(alloc, host) {
+    let asked = asked_of(alloc, host);
+    let is_so = match &asked {
         Ok(words) => has_url && words.lib == Some(false) && words.nodes.len() == 1,
-        Err(error) => !has_url && error == OpenError::Config(ConfigName::Url),
-    }
+        Err(error) => !has_url && *error == OpenError::Config(ConfigName::Url),
+    };
+    drop(asked);
+    is_so
 }
 
 #[test]

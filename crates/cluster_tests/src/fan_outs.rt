@@ -1,13 +1,25 @@
 use crate::nodes::address;
-use crate::replies::value;
 use command_table::{
     KeyIndices, MultipleNodeRoutingInfo, ResponsePolicy, Route, SlotAddr, SlotParts,
 };
 use containers::Bytes;
 use fan_out::{FoldResult, PartEnd, PartResult, PartResults, RoundEnd, fold_parts};
 use redis_error::RedisError;
+use resp_read::{ReadError, Reader};
+use resp_value::Value;
 use resp_write::canonical_text;
 use std::alloc::{AllocError, Global};
+
+/// The value that a text is, if it is a whole one.
+fn value(alloc: Global, text: &[u8]) -> Result<Option<Value>, AllocError> {
+    let mut reader = Reader::new(alloc);
+    reader.feed(text)?;
+    match reader.next_value(alloc) {
+        Ok(value) => Ok(value),
+        Err(ReadError::Parse) => Ok(None),
+        Err(ReadError::NoMemory) => Err(AllocError),
+    }
+}
 
 /// The end that a text is: the name of an error, or a value's bytes. No bytes are none.
 fn end(alloc: Global, text: &[u8]) -> Result<Option<RoundEnd>, AllocError> {
@@ -188,13 +200,22 @@ const CASES: [Case; 12] = [
     },
 ];
 
+/// What these parts are together, as a text.
+fn folded(alloc: Global, case: &Case, parts: &PartResults) -> Result<Bytes, AllocError> {
+    let routing = routing(alloc, case.places)?;
+    let result = fold_parts(alloc, case.policy, &routing, parts);
+    drop(routing);
+    let result = result?;
+    let text = result_text(alloc, &result);
+    drop(result);
+    text
+}
+
 /// What the parts of a case are together, as a text.
 fn told(alloc: Global, case: &Case) -> Result<Bytes, AllocError> {
     let parts = parts(alloc, case.ends)?;
-    let routing = routing(alloc, case.places)?;
-    let result = fold_parts(alloc, case.policy, &routing, &parts)?;
-    let text = result_text(alloc, &result);
-    drop(result);
+    let text = folded(alloc, case, &parts);
+    drop(parts);
     text
 }
 

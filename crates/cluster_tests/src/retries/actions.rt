@@ -12,7 +12,10 @@ enum Doing {
 }
 
 /// Two actions, and the two as one.
-const JOINED: [(Doing, Doing, Doing); 8] = [
+type Joined = (Doing, Doing, Doing);
+
+/// Two repairs, of which the addresses of both are repaired in order.
+const REPAIRS: [Joined; 2] = [
     (
         Doing::Nodes(&[(b"a", 1)]),
         Doing::Nodes(&[(b"b", 1)]),
@@ -23,6 +26,10 @@ const JOINED: [(Doing, Doing, Doing); 8] = [
         Doing::Nodes(&[(b"a", 9), (b"b", 1)]),
         Doing::Nodes(&[(b"a", 9), (b"a", 10), (b"aa", 1), (b"b", 1)]),
     ),
+];
+
+/// Other actions, of which one is both.
+const JOINED: [Joined; 6] = [
     (
         Doing::Nodes(&[(b"a", 1), (b"b", 1)]),
         Doing::Slots,
@@ -80,11 +87,19 @@ fn is_action(action: &PollFlushAction, doing: &Doing) -> bool {
 }
 
 /// Whether the first two actions are the third as one.
-fn joins(alloc: Global, case: &(Doing, Doing, Doing)) -> Result<bool, AllocError> {
+fn joins(alloc: Global, case: &Joined) -> Result<bool, AllocError> {
     let first = action(alloc, case.0)?;
     let next = action(alloc, case.1)?;
     let both = first.change_state(next)?;
     Ok(is_action(&both, &case.2))
+}
+
+#[test]
+fn repairs_join(rt: HostRuntime) -> Result<(), AllocError> {
+    for case in &REPAIRS {
+        assert!(rt; joins(rt.alloc(), case)?);
+    }
+    Ok(())
 }
 
 #[test]
@@ -120,7 +135,7 @@ fn holds(set: &AddressSet, is_whole: bool) -> bool {
     if is_whole {
         return are_nodes(set, PUT_IN[0]);
     }
-    for nodes in PUT_IN {
+    for nodes in &PUT_IN {
         if are_nodes(set, nodes) {
             return true;
         }

@@ -68,11 +68,14 @@ fn is_refused(name: ConfigName, wanted: Wanted) -> bool {
 
 /// Whether that becomes of the client of these nodes, with that set.
 fn comes_to(alloc: Global, urls: &str, set: Set, wanted: Wanted) -> bool {
-    match built(alloc, urls, set) {
-        Ok(client) => is_built(&client, wanted),
-        Err(OpenError::Config(name)) => is_refused(name, wanted),
+    let built = built(alloc, urls, set);
+    let is_so = match &built {
+        Ok(client) => is_built(client, wanted),
+        Err(OpenError::Config(name)) => is_refused(*name, wanted),
         Err(_) => false,
-    }
+    };
+    drop(built);
+    is_so
 }
 
 /// Three nodes of one database.
@@ -158,10 +161,13 @@ fn has_node<T: IntoConnectionInfo + Drop>(
 ) -> Result<bool, AllocError> {
     let mut nodes = Vec::new(alloc);
     nodes.push(name)?;
-    match ClusterClient::new(alloc, nodes) {
-        Ok(client) => Ok(has_host(client.initial_nodes(), host)),
-        Err(_) => Ok(false),
-    }
+    let made = ClusterClient::new(alloc, nodes);
+    let has = match &made {
+        Ok(client) => has_host(client.initial_nodes(), host),
+        Err(_) => false,
+    };
+    drop(made);
+    Ok(has)
 }
 
 /// Whether a client of the node of a URL has that host.
@@ -171,14 +177,22 @@ fn url_has_node(alloc: Global, url: &str, host: &[u8]) -> Result<bool, AllocErro
 }
 
 #[test]
-fn clients_are_built_and_refused(rt: HostRuntime) -> Result<(), AllocError> {
-    let alloc = rt.alloc();
-    for (urls, set, wanted) in ROWS {
-        assert!(rt; comes_to(alloc, urls, set, wanted), "{urls}");
+fn clients_are_built_and_refused(rt: HostRuntime) {
+    for (urls, set, wanted) in &ROWS {
+        assert!(rt; comes_to(rt.alloc(), urls, *set, *wanted), "{urls}");
     }
-    assert!(rt; has_node(alloc, "redis://h:7000", b"h")?);
-    assert!(rt; url_has_node(alloc, "redis://h:7000", b"h")?);
-    assert!(rt; has_node(alloc, ("h", 7000), b"h")?);
-    assert!(rt; !has_node(alloc, ("", 7000), b"")?);
+}
+
+#[test]
+fn urls_name_nodes(rt: HostRuntime) -> Result<(), AllocError> {
+    assert!(rt; has_node(rt.alloc(), "redis://h:7000", b"h")?);
+    assert!(rt; url_has_node(rt.alloc(), "redis://h:7000", b"h")?);
+    Ok(())
+}
+
+#[test]
+fn hosts_with_ports_name_nodes(rt: HostRuntime) -> Result<(), AllocError> {
+    assert!(rt; has_node(rt.alloc(), ("h", 7000), b"h")?);
+    assert!(rt; !has_node(rt.alloc(), ("", 7000), b"")?);
     Ok(())
 }

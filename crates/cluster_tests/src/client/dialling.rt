@@ -32,8 +32,8 @@ fn pair(alloc: Global, nodes: (Node, Node)) -> Result<(NodeAddress, NodeAddress)
 
 fn map(alloc: Global) -> Result<Vec<(NodeAddress, NodeAddress)>, AllocError> {
     let mut map = Vec::new(alloc);
-    for nodes in PAIRS {
-        map.push(pair(alloc, nodes)?)?;
+    for nodes in &PAIRS {
+        map.push(pair(alloc, *nodes)?)?;
     }
     Ok(map)
 }
@@ -56,13 +56,15 @@ fn dials(alloc: Global, params: &ClusterParams, nodes: (Node, Node)) -> Result<b
 /// The same of a client with that map.
 fn client_dials(alloc: Global, nodes: (Node, Node)) -> Result<bool, OpenError> {
     let client = client(alloc)?;
-    Ok(dials(alloc, client.params(), nodes)?)
+    let dials = dials(alloc, client.params(), nodes);
+    drop(client);
+    Ok(dials?)
 }
 
 #[test]
 fn other_addresses_are_dialled(rt: HostRuntime) -> Result<(), OpenError> {
-    for nodes in DIALLED {
-        assert!(rt; client_dials(rt.alloc(), nodes)?);
+    for nodes in &DIALLED {
+        assert!(rt; client_dials(rt.alloc(), *nodes)?);
     }
     Ok(())
 }

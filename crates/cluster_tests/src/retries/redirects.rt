@@ -135,25 +135,45 @@ fn linked(pipeline: Pipeline, address: NodeAddress) -> CmdArg {
     }
 }
 
+/// Whether a command follows redirects, and goes by its slot again once it is reset.
+fn returns_to_slot(alloc: Global, arg: &mut CmdArg) -> Result<bool, AllocError> {
+    let follows = follows_each(alloc, arg)?;
+    arg.reset_routing();
+    Ok(follows && has_redirect(arg, &None) && goes_by_slot(arg))
+}
+
+fn command_returns(alloc: Global) -> Result<bool, AllocError> {
+    let mut arg = command(cmd(alloc, b"GET")?);
+    let returns = returns_to_slot(alloc, &mut arg);
+    drop(arg);
+    returns
+}
+
 #[test]
 fn a_command_follows_redirects_until_it_is_reset(rt: HostRuntime) -> Result<(), AllocError> {
-    let mut arg = command(cmd(rt.alloc(), b"GET")?);
-    assert!(rt; follows_each(rt.alloc(), &mut arg)?);
-    arg.reset_routing();
-    let reset = has_redirect(&arg, &None) && goes_by_slot(&arg);
-    assert!(rt; reset);
+    assert!(rt; command_returns(rt.alloc())?);
     Ok(())
+}
+
+/// Whether a pipeline over a link follows redirects, and goes by the link's address once it is reset twice.
+fn returns_to_address(alloc: Global, arg: &mut CmdArg) -> Result<bool, AllocError> {
+    let follows = follows_each(alloc, arg)?;
+    arg.reset_routing();
+    arg.reset_routing();
+    Ok(follows && has_redirect(arg, &None) && goes_by_address(arg))
+}
+
+fn pipeline_returns(alloc: Global) -> Result<bool, AllocError> {
+    let node = address(alloc, b"a", 1)?;
+    let mut arg = linked(pipeline(alloc)?, node);
+    let returns = returns_to_address(alloc, &mut arg);
+    drop(arg);
+    returns
 }
 
 #[test]
 fn a_link_becomes_its_address(rt: HostRuntime) -> Result<(), AllocError> {
-    let node = address(rt.alloc(), b"a", 1)?;
-    let mut arg = linked(pipeline(rt.alloc())?, node);
-    assert!(rt; follows_each(rt.alloc(), &mut arg)?);
-    arg.reset_routing();
-    arg.reset_routing();
-    let reset = has_redirect(&arg, &None) && goes_by_address(&arg);
-    assert!(rt; reset);
+    assert!(rt; pipeline_returns(rt.alloc())?);
     Ok(())
 }
 
@@ -165,12 +185,22 @@ fn to_all(cmd: Cmd) -> CmdArg {
     }
 }
 
+/// Whether a request goes to several nodes also behind a redirect.
+fn stays(alloc: Global, arg: &mut CmdArg) -> Result<bool, AllocError> {
+    arg.set_redirect(alloc, redirection(&Some((b"foo:1234", false))))?;
+    arg.reset_routing();
+    Ok(single(arg).is_none())
+}
+
+fn fan_out_stays(alloc: Global) -> Result<bool, AllocError> {
+    let mut arg = to_all(cmd(alloc, b"DBSIZE")?);
+    let stays = stays(alloc, &mut arg);
+    drop(arg);
+    stays
+}
+
 #[test]
 fn a_fan_out_is_not_redirected(rt: HostRuntime) -> Result<(), AllocError> {
-    let mut arg = to_all(cmd(rt.alloc(), b"DBSIZE")?);
-    arg.set_redirect(rt.alloc(), redirection(&Some((b"foo:1234", false))))?;
-    arg.reset_routing();
-    let single = single(&arg).is_some();
-    assert!(rt; !single);
+    assert!(rt; fan_out_stays(rt.alloc())?);
     Ok(())
 }

@@ -121,24 +121,43 @@ fn is_all(words: &ClusterSettings) -> bool {
 /// Whether a copy of the words says everything that is set.
 fn is_all_copied(alloc: Global, words: &ClusterSettings) -> Result<bool, AllocError> {
     let copy = words.clone(alloc)?;
-    Ok(is_all(&copy))
+    let is_all = is_all(&copy);
+    drop(copy);
+    Ok(is_all)
+}
+
+/// Whether the words say everything that is set, and a copy of them too.
+fn are_all(alloc: Global, words: &ClusterSettings) -> Result<bool, AllocError> {
+    let copied = is_all_copied(alloc, words)?;
+    Ok(copied && is_all(words))
 }
 
 /// Whether a copy of a client is asked with everything that is set.
 fn is_all_asked(alloc: Global, client: &ClusterClient) -> Result<bool, OpenError> {
     let copy = client.clone(alloc)?;
-    let words = copy.get_async_connection(alloc)?;
-    Ok(is_all(&words) && is_all_copied(alloc, &words)?)
+    let asked = copy.get_async_connection(alloc);
+    drop(copy);
+    let words = asked?;
+    let are_all = are_all(alloc, &words);
+    drop(words);
+    Ok(are_all?)
 }
 
 fn is_full_client_asked(alloc: Global) -> Result<bool, OpenError> {
     let client = client(alloc)?;
-    is_all_asked(alloc, &client)
+    let is_asked = is_all_asked(alloc, &client);
+    drop(client);
+    is_asked
 }
 
 #[test]
 fn everything_that_is_set_is_asked(rt: HostRuntime) -> Result<(), OpenError> {
     assert!(rt; is_full_client_asked(rt.alloc())?);
+    Ok(())
+}
+
+#[test]
+fn a_configuration_stays_as_it_was(rt: HostRuntime) -> Result<(), OpenError> {
     let config = ClusterConfig::new().set_response_timeout(5);
     let copy = config.set_connection_timeout(6).set_push_sender();
     assert!(rt; config.connection_timeout.is_none());

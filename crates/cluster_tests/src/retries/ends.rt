@@ -32,6 +32,10 @@ fn waits_are_drawn_between_their_bounds(rt: HostRuntime) {
     for row in &UPPERS {
         assert_eq!(rt; cluster_retry_wait_upper_ms(row.0, row.1, row.2), row.3);
     }
+}
+
+#[test]
+fn waits_grow_with_the_retries(rt: HostRuntime) {
     let params = RetryParams::default();
     for row in &WAITS {
         assert_eq!(rt; params.wait_time_for_retry(row.0, row.1), row.2);
@@ -87,7 +91,8 @@ type Case = (
     RecoveryAction,
 );
 
-const FOLLOWED: [Case; 30] = [
+/// Redirects of a server.
+const REDIRECTS: [Case; 7] = [
     (
         Went::ToNode,
         Ended::Refused(b"ASK", b"123 foo:1234"),
@@ -151,6 +156,10 @@ const FOLLOWED: [Case; 30] = [
         Some((1, b"a:2", false)),
         RecoveryAction::RebuildSlots,
     ),
+];
+
+/// Other ends at one node.
+const ENDS: [Case; 15] = [
     (
         Went::ToNode,
         Ended::Refused(b"READONLY", b"x"),
@@ -286,6 +295,10 @@ const FOLLOWED: [Case; 30] = [
         None,
         RecoveryAction::None,
     ),
+];
+
+/// Ends at several nodes, or at none.
+const ENDS_ELSEWHERE: [Case; 8] = [
     (
         Went::ToSeveral,
         Ended::Refused(b"MOVED", b"123 foo:1234"),
@@ -411,21 +424,42 @@ fn is_chosen(chosen: &Chosen<'_>, case: &Case) -> bool {
         && chosen.action == case.6
 }
 
+/// Whether that follows an end.
+fn follows_end(alloc: Global, case: &Case, end: &RoundEnd) -> Result<bool, AllocError> {
+    let target = target(alloc, case.0)?;
+    Ok(is_chosen(
+        &choose_response(&target, end, case.2, &RetryParams::default()),
+        case,
+    ))
+}
+
 /// Whether that follows the end.
 fn follows(alloc: Global, case: &Case) -> Result<bool, AllocError> {
-    let target = target(alloc, case.0)?;
     let end = end(alloc, case.1)?;
-    let follows = is_chosen(
-        &choose_response(&target, &end, case.2, &RetryParams::default()),
-        case,
-    );
+    let follows = follows_end(alloc, case, &end);
     drop(end);
-    Ok(follows)
+    follows
 }
 
 #[test]
-fn ends_are_followed_by_the_table(rt: HostRuntime) -> Result<(), AllocError> {
-    for case in &FOLLOWED {
+fn redirects_are_followed_by_the_table(rt: HostRuntime) -> Result<(), AllocError> {
+    for case in &REDIRECTS {
+        assert!(rt; follows(rt.alloc(), case)?);
+    }
+    Ok(())
+}
+
+#[test]
+fn other_ends_are_followed_by_the_table(rt: HostRuntime) -> Result<(), AllocError> {
+    for case in &ENDS {
+        assert!(rt; follows(rt.alloc(), case)?);
+    }
+    Ok(())
+}
+
+#[test]
+fn ends_elsewhere_are_followed_by_the_table(rt: HostRuntime) -> Result<(), AllocError> {
+    for case in &ENDS_ELSEWHERE {
         assert!(rt; follows(rt.alloc(), case)?);
     }
     Ok(())
