@@ -248,12 +248,16 @@ const LEADS: [(&[u8], Option<(u16, &[u8])>); 4] = [
 ];
 
 #[test]
-fn errors_tell_their_parts(rt: HostRuntime) -> Result<(), AllocError> {
-    let alloc = rt.alloc();
-    assert!(rt; is_late_shown(alloc)?);
-    assert!(rt; is_moved(alloc)?);
+fn details_lead_to_nodes(rt: HostRuntime) -> Result<(), AllocError> {
     for (detail, wanted) in &LEADS {
-        assert!(rt; leads(alloc, detail, *wanted)?);
+        assert!(rt; leads(rt.alloc(), detail, *wanted)?);
     }
+    Ok(())
+}
+
+#[test]
+fn errors_tell_their_parts(rt: HostRuntime) -> Result<(), AllocError> {
+    assert!(rt; is_late_shown(rt.alloc())?);
+    assert!(rt; is_moved(rt.alloc())?);
     Ok(())
 }

@@ -1,25 +1,16 @@
-//! Tests of values, the protocol, conversions, addresses, credentials and subscriptions, by public calls alone. What URLs are,
-//! and what setups say and come to, is shown by the cases of tests/openings and tests/setup.
+//! Tests of values, of errors, of how the protocol is read and written, and of subscriptions, by public calls alone.
 #![tactic(auto)]
 
 #[cfg(test)]
-mod addresses;
-#[cfg(test)]
 mod arguments;
 #[cfg(test)]
-mod authentication;
-#[cfg(test)]
 mod commands;
-#[cfg(test)]
-mod conversions;
 #[cfg(test)]
 mod errors;
 #[cfg(test)]
 mod making;
 #[cfg(test)]
 mod reader;
-#[cfg(test)]
-mod settings;
 #[cfg(test)]
 mod threads;
 #[cfg(test)]

@@ -195,6 +195,11 @@ fn reads_the_examples_of_the_protocol_page(rt: HostRuntime) -> Result<(), Fail> 
     for text in &EXAMPLES {
         assert!(rt; is_read_cut(rt.alloc(), text, text)?, "{text:?}");
     }
+    Ok(())
+}
+
+#[test]
+fn reads_other_spellings_of_that_page(rt: HostRuntime) -> Result<(), Fail> {
     assert_eq!(rt; first_other(rt.alloc(), &OTHER_SPELLINGS)?, None);
     Ok(())
 }
@@ -552,11 +557,18 @@ const KINDS: [(&[u8], bool); 12] = [
     (b"Subscribe", false),
 ];
 
+/// Whether the kind of a text has a reply.
+fn has_reply(alloc: Global, text: &[u8]) -> Result<bool, AllocError> {
+    let kind = PushKind::of_text(Bytes::from_slice(alloc, text)?);
+    let has_reply = kind.has_reply();
+    drop(kind);
+    Ok(has_reply)
+}
+
 #[test]
-fn six_kinds_have_a_reply(rt: HostRuntime) -> Result<(), Fail> {
-    for (text, has_reply) in &KINDS {
-        let kind = PushKind::of_text(Bytes::from_slice(rt.alloc(), text)?);
-        assert_eq!(rt; kind.has_reply(), *has_reply);
+fn six_kinds_have_a_reply(rt: HostRuntime) -> Result<(), AllocError> {
+    for (text, wanted) in &KINDS {
+        assert!(rt; has_reply(rt.alloc(), text)? == *wanted);
     }
     Ok(())
 }

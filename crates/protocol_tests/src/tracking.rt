@@ -1,5 +1,5 @@
 use crate::making::has_bytes;
-use resp_write::Cmd;
+use resp_write::{Cmd, Pipeline};
 use std::alloc::{AllocError, Global};
 use sub_tracker::SubscriptionTracker;
 
@@ -22,14 +22,24 @@ fn track(
     }
 }
 
+/// The pipeline after these commands.
+fn tracked(
+    alloc: Global,
+    tracker: &mut SubscriptionTracker,
+    commands: &[&[&[u8]]],
+) -> Result<Pipeline, AllocError> {
+    for words in commands {
+        track(alloc, tracker, words)?;
+    }
+    tracker.get_subscription_pipeline(alloc)
+}
+
 /// Whether these are the bytes of the pipeline after these commands.
 fn leaves(alloc: Global, commands: &[&[&[u8]]], wanted: &[u8]) -> Result<bool, AllocError> {
     let mut tracker = SubscriptionTracker::new(alloc);
-    for words in commands {
-        track(alloc, &mut tracker, words)?;
-    }
-    let pipeline = tracker.get_subscription_pipeline(alloc)?;
-    has_bytes(alloc, &pipeline, wanted)
+    let pipeline = tracked(alloc, &mut tracker, commands);
+    drop(tracker);
+    has_bytes(alloc, &pipeline?, wanted)
 }
 
 /// Commands of all families, whatever the case of their names, and one that is none of the six.

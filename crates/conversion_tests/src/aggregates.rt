@@ -1,4 +1,4 @@
-use crate::conversions::rows::{Row, are, are_pairs};
+use crate::rows::{Row, are, are_pairs};
 use containers::Bytes;
 use resp_value::Value;
 use std::alloc::{AllocError, Global};

@@ -1,11 +1,11 @@
 use crate::addresses::redis;
-use crate::making::has_bytes;
 use connection_info::{AsyncConnectionConfig, ProtocolVersion};
 use connection_setup::{
     SetupResult, build_concurrency_limiter, check_setup, permit_vec_capacity, setup_messages,
 };
 use redis_error::{ErrorKind, RedisError};
 use resp_value::{Value, Values};
+use resp_write::Pipeline;
 use std::alloc::{AllocError, Global};
 
 /// Connections without and with settings.
@@ -49,12 +49,19 @@ fn settings_are_kept(rt: HostRuntime) -> Result<(), AllocError> {
     Ok(())
 }
 
+/// Whether a setup is two commands, of which the second selects the database -1.
+fn selects(alloc: Global, said: &Pipeline) -> Result<bool, AllocError> {
+    let packed = said.get_packed_pipeline(alloc)?;
+    let wanted: &[u8] = b"*2\r\n$5\r\nHELLO\r\n$1\r\n3\r\n*2\r\n$6\r\nSELECT\r\n$2\r\n-1\r\n";
+    Ok(packed.as_slice() == wanted && said.len() == 2)
+}
+
 /// Whether the setup of a database below 0, which no URL names, is said and is well.
 fn is_selected(alloc: Global) -> Result<bool, AllocError> {
     let info = redis(alloc, &(b"h", Some(b"u"), None, -1))?;
-    let said = setup_messages(alloc, &info, true)?;
-    let wanted: &[u8] = b"*2\r\n$5\r\nHELLO\r\n$1\r\n3\r\n*2\r\n$6\r\nSELECT\r\n$2\r\n-1\r\n";
-    Ok(has_bytes(alloc, &said, wanted)? && said.len() == 2)
+    let said = setup_messages(alloc, &info, true);
+    drop(info);
+    selects(alloc, &said?)
 }
 
 /// Two replies that are well.
@@ -115,17 +122,29 @@ const LIMITS: [(Option<u32>, Option<u32>); 4] = [
 ];
 
 #[test]
-fn setups_and_permits_are_made(rt: HostRuntime) -> Result<(), AllocError> {
+fn setups_are_made(rt: HostRuntime) -> Result<(), AllocError> {
     assert!(rt; is_selected(rt.alloc())?);
     assert!(rt; is_ready(rt.alloc())?);
+    Ok(())
+}
+
+#[test]
+fn one_protocol_is_resp3(rt: HostRuntime) {
     assert!(rt;
         ProtocolVersion::RESP3.supports_resp3() && !ProtocolVersion::RESP2.supports_resp3()
     );
+}
+
+#[test]
+fn permits_are_made(rt: HostRuntime) {
     for (count, limit, permits) in &PERMITS {
         assert_eq!(rt; permit_vec_capacity(*count, *limit), *permits);
     }
+}
+
+#[test]
+fn limits_are_refused_or_kept(rt: HostRuntime) {
     for (limit, wanted) in &LIMITS {
         assert_eq!(rt; limit_of(*limit), *wanted);
     }
-    Ok(())
 }

@@ -1,10 +1,21 @@
-use crate::making::value_of;
 use resp_convert::{ConvertError, FromRedisValue, KeyValues};
+use resp_read::Reader;
+use resp_value::Value;
 use std::alloc::{AllocError, Global};
 use std::fmt::Debug;
 
 /// The text of a value, and how what it becomes is shown: what is read of it, or the value that is given back.
 pub type Row = (&'static [u8], &'static str);
+
+/// The value of a text.
+pub fn value_of(alloc: Global, text: &[u8]) -> Result<Value, AllocError> {
+    let mut reader = Reader::new(alloc);
+    reader.feed(text)?;
+    match reader.next_value(alloc) {
+        Ok(Some(value)) => Ok(value),
+        Ok(None) | Err(_) => Err(AllocError),
+    }
+}
 
 /// How the value of a text is shown as a type.
 fn shown<T: FromRedisValue + Debug + Drop>(

@@ -1,5 +1,4 @@
-use crate::conversions::rows::{Row, are};
-use crate::making::value_of;
+use crate::rows::{Row, are, value_of};
 use containers::Bytes;
 use resp_convert::{ConvertError, FromRedisValue};
 use resp_value::Value;

@@ -1,4 +1,4 @@
-use crate::conversions::rows::{Row, are};
+use crate::rows::{Row, are};
 use std::alloc::{AllocError, Global};
 
 const I8: [Row; 2] = [
