@@ -1,10 +1,11 @@
-ghost use Rattle.std.specs.Prelude.{◌≡◌, ◌⊎◌, ◌<◌, ◌+◌, ◌^◌, ◌∷◌, [], ◌++◌, length, false, decimal};
+ghost use Rattle.std.specs.Prelude.{◌≡◌, ◌⊎◌, ◌<◌, ◌+◌, ◌^◌, ◌∷◌, [], ◌++◌, length, true, false, decimal};
 ghost use Rattle.std.specs.Prelude.{OnOk, OnSome, IfOk, IfSome};
 ghost use Rattle.legal_trace.specs.Book.{Book, book, entered_each};
 ghost use Rattle.shared_session.specs.Replay.{opening_actions, state_after, trace_of, IsSound};
 ghost use Rattle.shared_session.specs.Replay.{is_bad_after, is_spent_after};
 ghost use Rattle.shared_session.specs.Turn.{actions_of};
 ghost use Rattle.shared_session.specs.declared.session.Failure.TheVariants.{Sound};
+ghost use Rattle.trace_text.specs.Groups.{comes_of_link};
 ghost use Rattle.session_program.specs.Notes.{bad_event_words, bad_words, event_words, line_note};
 ghost use Rattle.session_program.specs.Offers.{IsOfferOf};
 
@@ -48,6 +49,25 @@ fn push_event(text: &mut Bytes, kind: &EventKind) -> Result<(), AllocError>
     match kind {
         EventKind::Submit { submission: _ } => text.extend_from_slice(b"submit"),
         EventKind::Cancel { submission } => push_words(text, b"cancel ", u64::from(*submission)),
+        EventKind::Fired { timer } => push_words(text, b"fired ", u64::from(*timer)),
+        EventKind::Creds { source, auth: _ } => push_words(text, b"creds ", u64::from(*source)),
+        EventKind::CredsError { source, text: _ } => {
+            push_words(text, b"creds-err ", u64::from(*source))
+        }
+        EventKind::CredsEnd { source } => push_words(text, b"creds-end ", u64::from(*source)),
+        EventKind::Timeout { ms: _ } => text.extend_from_slice(b"timeout"),
+        EventKind::DropStream => text.extend_from_slice(b"drop-stream"),
+        EventKind::Shutdown => text.extend_from_slice(b"shutdown"),
+        _ => push_link_event(text, kind),
+    }
+}
+
+/// Appends what comes of a link, as far as its numbers.
+fn push_link_event(text: &mut Bytes, kind: &EventKind) -> Result<(), AllocError>
+    requires { comes_of_link kind.now ≡ true }
+    ensures { OnOk result (text.new ≡ text.old ++ event_words kind.now) }
+{
+    match kind {
         EventKind::Connected { link } => push_words(text, b"connected ", u64::from(*link)),
         EventKind::Refused { link, fault: _ } => push_words(text, b"refused ", u64::from(*link)),
         EventKind::Wrote { link, count } => {
@@ -62,15 +82,7 @@ fn push_event(text: &mut Bytes, kind: &EventKind) -> Result<(), AllocError>
         EventKind::WriteFault { link, fault: _ } => {
             push_words(text, b"write-fault ", u64::from(*link))
         }
-        EventKind::Fired { timer } => push_words(text, b"fired ", u64::from(*timer)),
-        EventKind::Creds { source, auth: _ } => push_words(text, b"creds ", u64::from(*source)),
-        EventKind::CredsError { source, text: _ } => {
-            push_words(text, b"creds-err ", u64::from(*source))
-        }
-        EventKind::CredsEnd { source } => push_words(text, b"creds-end ", u64::from(*source)),
-        EventKind::Timeout { ms: _ } => text.extend_from_slice(b"timeout"),
-        EventKind::DropStream => text.extend_from_slice(b"drop-stream"),
-        EventKind::Shutdown => text.extend_from_slice(b"shutdown"),
+        _ => unreachable!(),
     }
 }
 

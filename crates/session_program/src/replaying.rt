@@ -140,6 +140,7 @@ fn take_turn(
     let number = u64::from(session.events_taken()) + 1;
     if session.is_bad(&event) {
         *note = bad_note(alloc, session, &event.kind);
+        drop(event);
         return Err(Stop::BadEvent(number));
     }
     actions.clear();

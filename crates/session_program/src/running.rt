@@ -1,12 +1,15 @@
-ghost use Rattle.std.specs.Prelude.{◌≡◌, ◌⊎◌, ◌≤◌, ◌++◌, ℕ, List, [], true, false, codes};
+ghost use Rattle.std.specs.Prelude.{◌≡◌, ◌⊎◌, ◌≤◌, ◌++◌, ℕ, List, [], true, false, codes, Ok, Option};
 ghost use Rattle.std.specs.Prelude.{OnOk, IfOk, IfErr, IfSome, IsErrOf};
 ghost use Rattle.outside.specs.Ends.{Rose, Gained, GainedPart};
 ghost use Rattle.shared_session.specs.Replay.{trace_of, AreGood, AreUnspent, IsSound};
 ghost use Rattle.trace_text.specs.Show.{show};
+ghost use Rattle.script_text.specs.Script.{script_of};
+ghost use Rattle.text_laws.specs.Fits.{AreBytes};
 ghost use Rattle.session_program.specs.Does.{Does};
+ghost use Rattle.session_program.specs.Reading.{Decides};
 ghost use Rattle.program_ends.specs.Lines.{usage_line};
 ghost use Rattle.session_program.specs.Notes.{IsBadNoteOf, IsOwn, IsWritten, Notes, live_note, open_count};
-ghost use Rattle.program_ends.specs.Sides.{side};
+ghost use Rattle.program_ends.specs.Sides.{side, Side};
 ghost use Rattle.session_program.specs.Stops.{Told, stop_line};
 ghost use Rattle.live_lines.specs.Does.{DoesLive};
 ghost use Rattle.live_lines.specs.Plans.{dial_limit};
@@ -122,6 +125,28 @@ fn replay_script<K: Sink>(
 /// How a command ended, and what is said of its script.
 type Ending = (Status, Bytes);
 
+/// Replays a script that was read from a source, whatever the source is.
+fn replay_noted<K: Sink>(alloc: Global, script: Script, sink: &mut K) -> Ending
+    ensures does { (source : Side) (source' : Side) (kept : List ℕ)
+        → Decides source.bytes source'.bytes kept → script_of kept ≡ Ok script → AreBytes kept
+        → Does Command.Replay result.0 source source'
+        (side (K.held sink.old) (K.fault_count sink.old))
+        (side (K.held sink.new) (K.fault_count sink.new)) }
+    ensures own { (source : Side) (left : Option (List ℕ)) (kept : List ℕ)
+        → Decides source.bytes left kept → script_of kept ≡ Ok script
+        → IsOwn result.0 source result.1 }
+{
+    let mut note = Bytes::new(alloc);
+    match replay_script(alloc, script, sink, &mut note) {
+        Ok(count) => (Status::Done, done_note(alloc, count)),
+        Err(Stop::Config(name)) => (Status::Config, config_note(alloc, name)),
+        Err(Stop::BadEvent(_)) => (Status::BadEvent, note),
+        Err(Stop::NoMemory) => (Status::NoMemory, Bytes::new(alloc)),
+        Err(Stop::WriteFault) => (Status::WriteFault, Bytes::new(alloc)),
+        Err(Stop::Spent(_)) => (Status::Spent, Bytes::new(alloc)),
+    }
+}
+
 /// Reads a script to the source's end, and replays it.
 fn replay_source<S: Source, K: Sink>(alloc: Global, source: &mut S, sink: &mut K) -> Ending
     ensures does { Does Command.Replay result.0
@@ -154,15 +179,7 @@ fn replay_source<S: Source, K: Sink>(alloc: Global, source: &mut S, sink: &mut K
         Err(ScriptError::NoMemory) => return (Status::NoMemory, Bytes::new(alloc)),
     };
     drop(intake);
-    let mut note = Bytes::new(alloc);
-    match replay_script(alloc, script, sink, &mut note) {
-        Ok(count) => (Status::Done, done_note(alloc, count)),
-        Err(Stop::Config(name)) => (Status::Config, config_note(alloc, name)),
-        Err(Stop::BadEvent(_)) => (Status::BadEvent, note),
-        Err(Stop::NoMemory) => (Status::NoMemory, Bytes::new(alloc)),
-        Err(Stop::WriteFault) => (Status::WriteFault, Bytes::new(alloc)),
-        Err(Stop::Spent(_)) => (Status::Spent, Bytes::new(alloc)),
-    }
+    replay_noted(alloc, script, sink)
 }
 
 /// Does what the words ask for, but for what is said on its side.
