@@ -192,16 +192,17 @@ fn submitted<R: Threads + Wait + Sync>(
     }
 }
 
-/// A live run: the callers of the plan submit the lines, each on a thread of its own, line i by caller i modulo their number;
-/// then the session is driven over the world until it ends.
-pub fn fly<R: Threads + Wait + Sync, W: World>(
+/// A live run of so many lines.
+fn fly_counted<R: Threads + Wait + Sync, W: World>(
     rt: &R,
     alloc: Global,
     plan: Plan,
     lines: Vec<(Submission, u64)>,
+    count: u32,
     world: &mut W,
 ) -> Result<Flight, FlightError>
-    requires { Each (IsAllowed (kind_of plan.config)) lines.items }
+    requires allowed { Each (IsAllowed (kind_of plan.config)) lines.items }
+    requires count { count ≡ length lines.items }
     ensures flight { IfOk result (
         IsFlight plan lines.items (W.told world.old) (W.told world.new)
         ) }
@@ -209,11 +210,6 @@ pub fn fly<R: Threads + Wait + Sync, W: World>(
         IsNoFlight plan lines.items (W.told world.old) (W.told world.new)
         ) }
 {
-    let Ok(count) = u32::try_from(lines.len()) else {
-        drop(plan);
-        drop(lines);
-        return Err(FlightError::NoMemory);
-    };
     let mut actions = Vec::new(alloc);
     let word = world.word();
     let (session, numbers, keeper) = match submitted(rt, alloc, plan, word, lines, &mut actions) {
@@ -236,4 +232,29 @@ pub fn fly<R: Threads + Wait + Sync, W: World>(
             Err(refused(error))
         }
     }
+}
+
+/// A live run: the callers of the plan submit the lines, each on a thread of its own, line i by caller i modulo their number;
+/// then the session is driven over the world until it ends.
+pub fn fly<R: Threads + Wait + Sync, W: World>(
+    rt: &R,
+    alloc: Global,
+    plan: Plan,
+    lines: Vec<(Submission, u64)>,
+    world: &mut W,
+) -> Result<Flight, FlightError>
+    requires { Each (IsAllowed (kind_of plan.config)) lines.items }
+    ensures flight { IfOk result (
+        IsFlight plan lines.items (W.told world.old) (W.told world.new)
+        ) }
+    ensures err { IfErr result (
+        IsNoFlight plan lines.items (W.told world.old) (W.told world.new)
+        ) }
+{
+    let Ok(count) = u32::try_from(lines.len()) else {
+        drop(plan);
+        drop(lines);
+        return Err(FlightError::NoMemory);
+    };
+    fly_counted(rt, alloc, plan, lines, count, world)
 }
