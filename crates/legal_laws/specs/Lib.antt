@@ -4,6 +4,7 @@ pub mod Next
 pub mod Segments
 pub mod Creation
 pub mod Starts
+pub mod Places
 pub mod Opened
 pub mod Sources
 pub mod Renewals

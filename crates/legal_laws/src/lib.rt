@@ -10,6 +10,7 @@ ghost use Rattle.legal_laws.specs.Answers.{AnswersEach};
 ghost use Rattle.legal_laws.specs.Next.{OneIsNextBehind};
 ghost use Rattle.legal_laws.specs.Creation.{TellsOfOpening};
 ghost use Rattle.legal_laws.specs.Starts.{StartsRise, LeftStartNoMore};
+ghost use Rattle.legal_laws.specs.Places.{StartsByPlace};
 ghost use Rattle.legal_laws.specs.Opened.{StartsOpened};
 ghost use Rattle.legal_laws.specs.Sources.{StartsNoneLacking};
 ghost use Rattle.legal_laws.specs.Renewals.{TellsInTurn};
@@ -132,6 +133,15 @@ pub fn no_message_starts_past_the_boundary()
 /// numbers of their submissions.
 pub fn starts_follow_the_submissions()
     ensures { OfEachLegal StartsRise }
+{}
+
+/// Does nothing. Its contract: in a legal trace the messages of each link, of submissions and of new
+/// credentials, start in the order of their places. A submission takes its place in the turn in which
+/// it is shown to wait for room, or is answered without a message, or else starts, and new
+/// credentials take theirs in the turn in which they become due; within a turn these come first, and
+/// then the submissions by their numbers.
+pub fn starts_follow_the_places()
+    ensures { OfEachLegal StartsByPlace }
 {}
 
 /// Does nothing. Its contract: in a legal trace no message of a submission starts behind an outcome
