@@ -1,5 +1,6 @@
 -- A reader goes on in its course.
-use Rattle.std.proofs.Common.{◌≡◌, ℕ, ◌≤◌, ◌+◌, ◌-◌, ◌*◌, List, [], ◌∷◌, ◌++◌, length, length-append, length-drop, ap, ◌∙◌, arith}
+use Rattle.std.proofs.Common.{◌≡◌, ℕ, ◌≤◌, ◌+◌, ◌-◌, ◌*◌, List, [], ◌∷◌, ◌++◌, length, length-append, length-drop, take, ap, ◌∙◌, arith}
+use Rattle.std.proofs.lemmas.List.{take-append-le, take_all}
 use Rattle.resp_value.specs.declared.value.Value.{Value}
 use Rattle.resp_value.specs.View.{data_of}
 use Rattle.resp_read.specs.Limits.{bounds, AreAllowed}
@@ -70,3 +71,12 @@ costs_ended limits old new counted after_counted before after state h sound is c
 -- the bytes of a piece are counted with those before it
 pub costs_fed : (rest piece : List ℕ) (counted before after unseen_after : ℕ) → after + 2 * unseen_after ≤ before + 2 * (length (rest ++ piece) - counted) → after + 2 * unseen_after ≤ before + 2 * (length rest - counted) + 2 * length piece
 costs_fed rest piece counted before after unseen_after costs = let size = length-append rest piece in omega (arith, size, costs)
+
+-- a list that is cut to its old length is what it was
+pub taken_back : (before more after cut : List Value) (count : ℕ) → after ≡ before ++ more → count ≡ length before → cut ≡ take count after → cut ≡ before
+taken_back before more after cut count is counted taken =
+    taken
+    ∙ ap (λ (n : ℕ). take n after) counted
+    ∙ ap (take (length before)) is
+    ∙ take-append-le (length before) before more (omega arith)
+    ∙ take_all (length before) before (omega arith)

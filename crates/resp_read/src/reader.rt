@@ -1,4 +1,4 @@
-ghost use Rattle.std.specs.Prelude.{◌≡◌, ◌+◌, ◌-◌, ◌*◌, ◌≤◌, ◌<◌, [], ◌++◌, length, OnOk, OnErr, IsOk, IsErr, IsTrue, ◌↔◌};
+ghost use Rattle.std.specs.Prelude.{◌≡◌, ◌+◌, ◌-◌, ◌*◌, ◌≤◌, ◌<◌, [], ◌++◌, length, OnOk, OnErr, IsErrOf, IsOk, IsErr, IsTrue, ◌↔◌};
 ghost use Rattle.resp_read.specs.declared.reader.Health.TheVariants.{Sound, Malformed, NoMemory};
 ghost use Rattle.resp_read.specs.Limits.{default_limits, nearest_allowed, AreAllowed};
 ghost use Rattle.resp_read.specs.State.{unseen};
@@ -275,7 +275,7 @@ impl Reader {
     ///
     /// # Errors
     /// `Parse`: what is left behind the values appended begins no value within the limits, whatever follows. `NoMemory`: memory
-    /// was refused, now or before; some of the values may have been appended. After either the reader reads no further.
+    /// was refused, now or before, and `out` is as it was. After either the reader reads no further.
     pub fn pump<L: Ledger>(
         &mut self,
         alloc: Global,
@@ -287,6 +287,7 @@ impl Reader {
             → Pumps self.old.limits (self.old.rest ++ piece.now) out.old.items result self.new out.new.items }
         ensures failed { (self.old.health ≡ Sound → ⊥)
             → FailsAgain result self.old self.new out.old.items out.new.items }
+        ensures memory { IsErrOf result ReadError.NoMemory → out.new.items ≡ out.old.items }
         ensures costs { steps.new + 2 * unseen self.new
             ≤ steps.old + 2 * unseen self.old + 2 * length piece.now }
     {
@@ -300,7 +301,7 @@ impl Reader {
         }
     }
 
-    /// Appends every value that is whole.
+    /// Appends every value that is whole. Where memory is refused, `out` is as it was.
     fn read_all<L: Ledger>(
         &mut self,
         alloc: Global,
@@ -309,8 +310,10 @@ impl Reader {
     ) -> Result<(), ReadError>
         requires { self.old.health ≡ Sound }
         ensures pumps { Pumps self.old.limits self.old.rest out.old.items result self.new out.new.items }
+        ensures memory { IsErrOf result ReadError.NoMemory → out.new.items ≡ out.old.items }
         ensures costs { steps.new + 2 * unseen self.new ≤ steps.old + 2 * unseen self.old }
     {
+        let before = out.len();
         match self.course.next_all(alloc, self.limits, out, steps) {
             Ok(()) => {
                 self.seen = self.course.looked_at();
@@ -323,6 +326,7 @@ impl Reader {
                 Err(ReadError::Parse)
             }
             Err(Refusal::NoMemory) => {
+                out.truncate(before);
                 self.seen = self.course.left();
                 self.health = Health::NoMemory;
                 Err(ReadError::NoMemory)

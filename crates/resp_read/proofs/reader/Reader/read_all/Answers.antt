@@ -1,11 +1,12 @@
-use Rattle.std.proofs.Common.{◌≡◌, refl, sym, ap, ◌∙◌, subst}
+use Rattle.std.proofs.Common.{◌≡◌, [], length, refl, sym, ap, ◌∙◌, subst, arith}
+use Rattle.std.proofs.lemmas.List.{append-nil}
 use Rattle.resp_read.specs.State.{ReaderState}
 use Rattle.resp_read.specs.Limits.{reading, AreAllowed}
 use Rattle.resp_read.specs.Courses.{rest_of}
 use Rattle.resp_read.specs.Reads.{ReadsEachWithin, IsProperPrefixWithin}
 use Rattle.resp_read.specs.declared.limits.Limits.{Limits}
 use Rattle.resp_read.proofs.WithinLaws.{prefix_from_short, malformed_from_bad}
-use Rattle.resp_read.proofs.ReaderLaws.{reads_each}
+use Rattle.resp_read.proofs.ReaderLaws.{reads_each, taken_back}
 use Rattle.resp_read.proofs.reader.Reader.read_all.Goals as goal
 
 pub returns-in-Ok-clause-pumps : goal.returns-in-Ok-clause-pumps
@@ -40,9 +41,17 @@ returns-in-Err-Bad-clause-pumps g c =
 
 pub returns-in-Err-NoMemory-clause-pumps : goal.returns-in-Err-NoMemory-clause-pumps
 returns-in-Err-NoMemory-clause-pumps g c =
-    let r = c.self.inside in
-    let all = rw c.in-Err-NoMemory.field-0-is at c.in-Err-NoMemory.ensures.appends in (
-      (all.0, all.1, all.2, subst (λ (p : ReaderState). ReadsEachWithin p.limits p.rest all.0 all.1) c.self.view_is (reads_each r.limits (rest_of r.course) all.0 all.1 all.3)),
+    let all = rw c.in-Err-NoMemory.field-0-is at c.in-Err-NoMemory.ensures.appends in
+    let before = c.args.out.now.items in
+    let counted : c.len-before.result ≡ length before = (let o = c.args.out.now.ok in let t = c.len-before.ensures in omega (arith, o, t)) in
+    let same = taken_back before all.0 c.next_all.new.out.items c.truncate.new.self.items c.len-before.result all.2 counted c.truncate.ensures.items in (
+      ([], c.args.self.now.rest, same ∙ sym (append-nil before), refl),
       refl,
       ap (λ (p : ReaderState). p.limits) c.self.view_is,
     )
+
+pub returns-in-Err-NoMemory-clause-memory : goal.returns-in-Err-NoMemory-clause-memory
+returns-in-Err-NoMemory-clause-memory g c =
+    let all = rw c.in-Err-NoMemory.field-0-is at c.in-Err-NoMemory.ensures.appends in
+    let counted : c.len-before.result ≡ length c.args.out.now.items = (let o = c.args.out.now.ok in let t = c.len-before.ensures in omega (arith, o, t)) in
+    λ _. taken_back c.args.out.now.items all.0 c.next_all.new.out.items c.truncate.new.self.items c.len-before.result all.2 counted c.truncate.ensures.items
