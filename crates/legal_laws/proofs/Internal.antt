@@ -1,5 +1,7 @@
 pub mod Served
 pub mod Repeats
+pub mod Serving
+pub mod Since
 pub mod Brought
 pub mod Renewed
 pub mod Telling

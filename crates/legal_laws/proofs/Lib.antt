@@ -5,3 +5,4 @@ pub mod Submissions
 pub mod Generations
 pub mod Traces
 pub mod Waits
+pub mod Counts

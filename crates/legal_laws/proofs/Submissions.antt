@@ -8,9 +8,12 @@ pub mod HandedIn
 pub mod InLine
 pub mod Overdue
 pub mod Seated
+pub mod Sitting
+pub mod Places
 pub mod Permits
 pub mod Timers
 pub mod Rising
+pub mod ByPlace
 pub mod Leaving
 pub mod Fired
 pub mod Rounding

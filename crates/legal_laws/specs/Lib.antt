@@ -4,6 +4,7 @@ pub mod Next
 pub mod Segments
 pub mod Creation
 pub mod Starts
+pub mod Places
 pub mod Opened
 pub mod Sources
 pub mod Renewals
@@ -18,4 +19,5 @@ pub mod Rounds
 pub mod Resubscription
 pub mod Late
 pub mod Waits
+pub mod Counts
 pub mod Laws

@@ -10,6 +10,7 @@ ghost use Rattle.legal_laws.specs.Answers.{AnswersEach};
 ghost use Rattle.legal_laws.specs.Next.{OneIsNextBehind};
 ghost use Rattle.legal_laws.specs.Creation.{TellsOfOpening};
 ghost use Rattle.legal_laws.specs.Starts.{StartsRise, LeftStartNoMore};
+ghost use Rattle.legal_laws.specs.Places.{StartsByPlace};
 ghost use Rattle.legal_laws.specs.Opened.{StartsOpened};
 ghost use Rattle.legal_laws.specs.Sources.{StartsNoneLacking};
 ghost use Rattle.legal_laws.specs.Renewals.{TellsInTurn};
@@ -25,6 +26,7 @@ ghost use Rattle.legal_laws.specs.Generations.{ComesBack};
 ghost use Rattle.legal_laws.specs.Rounds.{KeepsRounds};
 ghost use Rattle.legal_laws.specs.Resubscription.{SubscribesAsItWas};
 ghost use Rattle.legal_laws.specs.Late.{LateIsNothing};
+ghost use Rattle.legal_laws.specs.Counts.{GivesFewBehind, HasNumbersLeft, NoneRunsOut};
 
 /// Does nothing. Its contract: what a legal trace tells of each link is legal by itself. What the
 /// book of any trace has of a link is what these lines come to.
@@ -132,6 +134,15 @@ pub fn no_message_starts_past_the_boundary()
 /// numbers of their submissions.
 pub fn starts_follow_the_submissions()
     ensures { OfEachLegal StartsRise }
+{}
+
+/// Does nothing. Its contract: in a legal trace the messages of each link, of submissions and of new
+/// credentials, start in the order of their places. A submission takes its place in the turn in which
+/// it is shown to wait for room, or is answered without a message, or else starts, and new
+/// credentials take theirs in the turn in which they become due; within a turn these come first, and
+/// then the submissions by their numbers.
+pub fn starts_follow_the_places()
+    ensures { OfEachLegal StartsByPlace }
 {}
 
 /// Does nothing. Its contract: in a legal trace no message of a submission starts behind an outcome
@@ -246,4 +257,14 @@ pub fn what_is_subscribed_is_subscribed_again()
 /// ended is announced, and that is all.
 pub fn a_link_that_has_ended_shows_nothing()
     ensures { OfEachLegal LateIsNothing }
+{}
+
+/// Does nothing. Its contract: behind actions that may stand, the numbers that were given out are
+/// bounded by the turns that began. There are no more submissions than turns, two links more at most,
+/// and of timers, sources of credentials, messages of a link and its new credentials no more than is
+/// said. So none runs out within a billion turns, nor in a legal trace of fewer events.
+pub fn numbers_are_bounded_by_turns()
+    ensures given { (front : List Action) → GivesFewBehind front }
+    ensures left { (front : List Action) → HasNumbersLeft front }
+    ensures late { NoneRunsOut }
 {}

@@ -8,6 +8,7 @@ pub mod Causes
 pub mod Spoken
 pub mod Books
 pub mod Moves
+pub mod Ahead
 pub mod Monitors
 pub mod Setups
 pub mod Watching

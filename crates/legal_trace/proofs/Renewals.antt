@@ -62,7 +62,7 @@ taken_more l rest more k s stands shaped taken =
     (ap (λ (ds : List Data). is_done (verdict_of Confirmation ds)) cuts ∙ both_right (is_full l k) (is_done (verdict_of Confirmation (cut l k Confirmation))) taken)
 
 -- a start among these tells new credentials, and has that number, where the first of them has the number n
-abbrev IsLast : List Start → ℕ → Option ℕ → Type 0
+abbrev pub IsLast : List Start → ℕ → Option ℕ → Type 0
 IsLast ss n o = (k : ℕ) × (s : Start) × (o ≡ Some (n + k)) × (slice_get ss k ≡ Some s) × (is_of_renewal s.owner ≡ true)
 
 -- numbers that count from one further on
@@ -74,7 +74,7 @@ from_here : (n : ℕ) → Some n ≡ Some (n + 0)
 from_here n = ap Some (let e : n ≡ n + 0 = omega arith in e)
 
 -- the last that does is among them, or was before
-last_or : (ss : List Start) (n : ℕ) (old : Option ℕ) → (last_renewal ss n old ≡ old) ⊎ IsLast ss n (last_renewal ss n old)
+pub last_or : (ss : List Start) (n : ℕ) (old : Option ℕ) → (last_renewal ss n old ≡ old) ⊎ IsLast ss n (last_renewal ss n old)
 last_or [] n old = inl refl
 last_or (s ∷ ss) n old = elim (last_or ss (suc n) (if is_of_renewal s.owner then Some n else old)) [
   | inl same ↦

@@ -1,5 +1,5 @@
 -- The book of a trace: all that it says, by one fold over its actions. Links and submissions go by their numbers.
-use Rattle.std.specs.Prelude.{ℕ, ◌+◌, ◌-◌, ◌==◌, max, Bool, true, false, ◌&&◌, ◌||◌, not, List, [], ◌∷◌, ◌++◌, Option, Some, None, is_some, slice_get, if◌then◌else◌}
+use Rattle.std.specs.Prelude.{ℕ, ◌+◌, ◌-◌, ◌==◌, max, Bool, true, false, ◌&&◌, ◌||◌, not, List, [], ◌∷◌, ◌++◌, Option, Some, None, is_none, is_some, slice_get, if◌then◌else◌}
 use Rattle.driver_model.specs.declared.config.Config.{Config}
 use Rattle.driver_model.specs.declared.action.Action.{Action}
 use Rattle.driver_model.specs.declared.action.Action.TheVariants as action
@@ -28,10 +28,10 @@ use Rattle.driver_model.specs.Hearing.{hears_messages}
 use Rattle.connection_info.specs.Protocol.{is_resp3}
 use Rattle.credentials.specs.Credentials.{Credentials}
 use Rattle.redis_error.specs.declared.redis_error.RedisError.{RedisError}
-use Rattle.legal_trace.specs.Ledger.{Ledger, Start, Line, asks, hears, begins, offers, ends, blank_ledger, setup_count, setup_message, monitor_message, renewal_due, renewal_message, noted_each, tells, parts, sources, times, repeats_timed}
+use Rattle.legal_trace.specs.Ledger.{Ledger, Start, Line, asks, hears, begins, offers, ends, blank_ledger, setup_count, setup_message, monitor_message, renewal_due, renewal_message, noted, noted_each, tells, parts, sources, times, repeats_timed}
 use Rattle.resp_value.specs.declared.push_kind.PushKind.{PushKind}
 use Rattle.driver_model.specs.Push.{is_disconnection}
-use Rattle.legal_trace.specs.Story.{Story, blank_story, bytes_of, shape, is_open, handed_in, carried, left, holds, clocked, rounds, fires, tried, waits, answered}
+use Rattle.legal_trace.specs.Story.{Story, blank_story, bytes_of, shape, is_open, has_place, handed_in, carried, left, holds, clocked, rounds, fires, tried, waits, answered}
 use Rattle.sub_tracker.specs.Subscribed.{Request}
 use Rattle.legal_trace.specs.Managers.{settings_in, is_last}
 use Rattle.legal_trace.specs.Again.{again_message, confirmed, repeats_in}
@@ -43,7 +43,8 @@ use Rattle.legal_trace.specs.Again.{again_message, confirmed, repeats_in}
 -- the link that submissions go to; how many generations began, and how many attempts of the current one failed before the one that
 -- runs; the timer of the wait behind a failed attempt, while that goes on; for how many connects a timer was asked; whether the
 -- creation failed; the subscription calls that were confirmed, in order; and the errors that submissions were answered with in the
--- turn that runs, since they go to that link
+-- turn that runs, since they go to that link; and in which turn each submission took its place in the queue of its link, where it has
+-- one, and in which the new credentials of each link became due that are to be told next, or were last
 pub record Book : Type 0 where
   pub config : Option Config
   pub links : ℕ
@@ -65,9 +66,11 @@ pub record Book : Type 0 where
   pub failed : Bool
   pub tracked : List Request
   pub errors : List RedisError
+  pub placed : ℕ → Option ℕ
+  pub since : ℕ → ℕ
 
 abbrev pub blank_book : Book
-blank_book = record { config = None; links = 0; link = λ n. blank_ledger; submissions = 0; story = λ n. blank_story; timers = []; sources = []; created = 0; timeout = None; shut = false; turns = 0; running = None; current = 0; generation = 0; attempt = 0; rest = None; timed = 0; failed = false; tracked = []; errors = [] }
+blank_book = record { config = None; links = 0; link = λ n. blank_ledger; submissions = 0; story = λ n. blank_story; timers = []; sources = []; created = 0; timeout = None; shut = false; turns = 0; running = None; current = 0; generation = 0; attempt = 0; rest = None; timed = 0; failed = false; tracked = []; errors = []; placed = λ n. None; since = λ l. 0 }
 
 -- what is said to a server before the first request, where a configuration tells it
 abbrev pub info_in : Option Config → RedisConnectionInfo
@@ -317,11 +320,28 @@ counted b (action.Wait who kind) = b
 counted b (action.Start l message who count len) = b
 counted b (action.Outcome n o) = record b { tracked = b.tracked ++ confirmed (b.story n).submission o; errors = b.errors ++ faults_in o }
 
+-- since which turn a submission has its place, where it has one: it keeps the one that it took first, or takes it in the turn that runs
+abbrev pub placed_since : Bool → Option ℕ → ℕ → Option ℕ
+placed_since false old turn = None
+placed_since true None turn = Some turn
+placed_since true (Some place) turn = Some place
+
+-- since when new credentials of a link are due, of what it was before the turn of that number and what the turn makes of it
+abbrev pub due_since : ℕ → Ledger → Ledger → ℕ → ℕ
+due_since old before behind number = if is_some (renewal_due behind) && is_none (renewal_due before) then number else old
+
+-- and behind an action: what a turn tells makes them due, and nothing else
+abbrev pub since_after : Book → ℕ → Action → ℕ
+since_after b l (action.Turn number (cause.Event e)) = due_since (b.since l) (b.link l) (noted (b.link l) (hears number (news_of b.timers b.sources l e.kind))) number
+since_after b l _ = b.since l
+
 -- what one more action adds
 abbrev pub entered : Book → Action → Book
 entered b a = record (counted b a) {
   link = λ n. noted_each (b.link n) (lines_of b n a);
   story = λ n. story_after b n a;
+  placed = λ n. placed_since (has_place (story_after b n a)) (b.placed n) (b.turns - 1);
+  since = λ l. since_after b l a;
 }
 
 abbrev pub entered_each : Book → List Action → Book

@@ -37,7 +37,7 @@ use Rattle.legal_trace.specs.Managers.{settings_in, is_lazy}
 use Rattle.legal_trace.specs.Again.{again_message}
 use Rattle.legal_trace.specs.Book.{Book, blank_book, book, entered, has_generations, hearing_in, info_in}
 use Rattle.legal_trace.specs.Owed.{owed}
-use Rattle.legal_trace.specs.Steps.{waits, rounds, takes, asks, tells, starts, is_due, is_held_back, next_step}
+use Rattle.legal_trace.specs.Steps.{waits, rounds, takes, asks, tells, starts, is_due, is_held_back, is_renewal_held, next_step}
 use Rattle.legal_trace.specs.Events.{is_bad_event}
 
 -- submission n is handed in, and neither answered nor cancelled
@@ -195,9 +195,9 @@ RepeatsAreStarted b = (l : ℕ) → again_due (b.link l) ≡ true → is_held_ba
 abbrev pub RenewalsAreTimed : Book → Type 0
 RenewalsAreTimed b = (l : ℕ) → answer_time b.config ≢ None → renewals_asked (b.link l) ≤ (b.link l).creds.timed
 
--- new credentials that are to be told have started, but where the link is held back
+-- new credentials that are to be told have started, but where the link is held back, or somebody is ahead of them
 abbrev pub RenewalsAreStarted : Book → Type 0
-RenewalsAreStarted b = (l : ℕ) (c : Credentials) → renewal_due (b.link l) ≡ Some c → is_held_back b (b.link l) ≡ true
+RenewalsAreStarted b = (l : ℕ) (c : Credentials) → renewal_due (b.link l) ≡ Some c → is_renewal_held b l ≡ true
 
 -- the event has had its own effect, setups have started, and so have MONITOR, what is subscribed again and new credentials, which
 -- have their timers
@@ -479,7 +479,8 @@ pub record MayTimeRenewal (b : Book) (t ms : ℕ) (what : Purpose) : Type 0 wher
   pub next : t ≡ length b.timers
   pub is_for : what ≡ purpose.Renewal l (b.link l).creds.timed
 
--- new credentials are told to the server of a link that isn't held back, before the messages of all submissions
+-- new credentials are told to the server of a link that isn't held back, once those have started that were ahead of them, and before the
+-- messages of all other submissions
 pub record MayRenew (b : Book) (l message count len : ℕ) : Type 0 where
   pub applied : IsApplied b
   pub setups : SetupsAreStarted b
@@ -489,8 +490,8 @@ pub record MayRenew (b : Book) (l message count len : ℕ) : Type 0 where
   pub timed : RenewalsAreTimed b
   pub credentials : Credentials
   pub due : renewal_due (b.link l) ≡ Some credentials
-  pub free : is_held_back b (b.link l) ≡ false
-  pub in_order : (m : ℕ) (c : Credentials) → m < l → renewal_due (b.link m) ≡ Some c → is_held_back b (b.link m) ≡ true
+  pub free : is_renewal_held b l ≡ false
+  pub in_order : (m : ℕ) (c : Credentials) → m < l → renewal_due (b.link m) ≡ Some c → is_renewal_held b m ≡ true
   pub next : message ≡ length (b.link l).starts
   pub needs_its_items : count ≡ need_of (renewal_message credentials).shape
   pub long_as_its_bytes : len ≡ length (renewal_message credentials).bytes

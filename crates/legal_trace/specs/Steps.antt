@@ -78,7 +78,7 @@ abbrev pub line_before : Option ℕ → (ℕ → Story) → ℕ → ℕ → ℕ
 line_before limit story l zero = 0
 line_before limit story l (suc n) = line_before limit story l n + (if is_in_line limit l (story n) then 1 else 0)
 
--- new credentials that are to be told and have not started stand in line on their link, before all submissions
+-- new credentials that are to be told and have not started stand in line on their link, before all submissions that take a place from then on
 abbrev pub renewals_in_line : Ledger → ℕ
 renewals_in_line l = if is_some (renewal_due l) then 1 else 0
 
@@ -159,3 +159,21 @@ next_step b n =
     if dials l then waits wait.Connect
     else if l.up then (if is_set_up l then step_ready b n s else waits (unready_wait l))
     else step_down l.asked
+
+-- a place that was taken in a turn before that one
+abbrev pub is_taken_before : ℕ → Option ℕ → Bool
+is_taken_before turn None = false
+is_taken_before turn (Some place) = nat_lt place turn
+
+-- submission n is ahead of the new credentials of link l: it took its place there in a turn before they became due, and makes a step
+abbrev pub is_ahead : Book → ℕ → ℕ → Bool
+is_ahead b l n = is_taken_before (b.since l) (b.placed n) && (((b.story n).link == l) && (is_unstarted (b.story n) && is_due (next_step b n)))
+
+-- one of the first n numbers is such a one
+abbrev pub any_below : (ℕ → Bool) → ℕ → Bool
+any_below which zero = false
+any_below which (suc n) = any_below which n || which n
+
+-- new credentials of link l wait where it is held back, or somebody is ahead of them
+abbrev pub is_renewal_held : Book → ℕ → Bool
+is_renewal_held b l = is_held_back b (b.link l) || any_below (is_ahead b l) b.submissions

@@ -107,7 +107,7 @@ served_connect b m host port l may links asked h =
     (λ t. absurd (not_both (b.link l).asked (let same : m ≡ l = eq_from m l t in let next : m ≡ b.links = may.next in (links.unasked l (omega (arith, same, next))).0) asked)) h
 
 -- so behind each action
-served_on : (b : Book) (a : Action) (l : ℕ) → MayStand b a → HasLinks b → (b.link l).asked ≡ true → IsServed (b.link l) → IsServed ((entered b a).link l)
+pub served_on : (b : Book) (a : Action) (l : ℕ) → MayStand b a → HasLinks b → (b.link l).asked ≡ true → IsServed (b.link l) → IsServed ((entered b a).link l)
 served_on b a l may links asked h = by_test (is_connecting a) (IsServed ((entered b a).link l))
     (λ t. let c = connect_of a t in subst (λ x. IsServed ((entered b x).link l)) (sym c.3) (served_connect b c.0 c.1 c.2 l (subst (MayStand b) c.3 may) links asked h))
     (λ f. served_plain b a l f h)

@@ -66,7 +66,7 @@ no_more : (count : ℕ) (l : Ledger) → HasTimers count l → HasTimers (count 
 no_more count l h = subst (λ n. HasTimers n l) (let e : count ≡ count + 0 = omega arith in e) h
 
 -- a timer that may be asked for, for new credentials
-renewal_of : (b : Book) (t ms l k : ℕ) → MayTimer b t ms (purpose.Renewal l k) → MayTimeRenewal b t ms (purpose.Renewal l k)
+pub renewal_of : (b : Book) (t ms l k : ℕ) → MayTimer b t ms (purpose.Renewal l k) → MayTimeRenewal b t ms (purpose.Renewal l k)
 renewal_of b t ms l k (inl (inl may)) = absurd (let x : false ≡ true = ap is_of_connect may.is_for in cc x)
 renewal_of b t ms l k (inl (inr may)) = absurd (let x : false ≡ true = ap is_rest may.is_for in cc x)
 renewal_of b t ms l k (inr (inl may)) = absurd (let x : false ≡ true = ap is_response may.is_for in cc x)
@@ -88,7 +88,7 @@ renewal_of b t ms l k (inr (inr (inr may))) = absurd (let x : false ≡ true = a
     is_repeat (purpose.Resubscription m) = true
 
 -- of two that are one, the links are
-same_link : (l m k j : ℕ) → purpose.Renewal l k ≡ purpose.Renewal m j → l ≡ m
+pub same_link : (l m k j : ℕ) → purpose.Renewal l k ≡ purpose.Renewal m j → l ≡ m
 same_link l m k j e = cc e
 
 -- it is of the next that have none
@@ -107,7 +107,7 @@ one_more true count l asked h = record { counted = ap (λ n. n + 1) h.counted; u
 one_more false count l asked h = no_more count l h
 
 -- a link that wants a timer was asked for
-asked_timers : (b : Book) (l : ℕ) → Sound b → (b.link l).creds.timed < renewals_asked (b.link l) → (b.link l).asked ≡ true
+pub asked_timers : (b : Book) (l : ℕ) → Sound b → (b.link l).creds.timed < renewals_asked (b.link l) → (b.link l).asked ≡ true
 asked_timers b l sound i = by_test (b.link l).asked ((b.link l).asked ≡ true) (λ t. t)
     (λ f. absurd (
     let none : renewal_count (b.link l).starts ≡ 0 = ap renewal_count ((sound.shaped l).none f) in

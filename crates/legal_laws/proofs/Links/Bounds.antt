@@ -13,6 +13,7 @@ use Rattle.legal_trace.specs.Story.{is_no_error}
 use Rattle.legal_trace.specs.Book.{Book, blank_book, book}
 use Rattle.legal_trace.specs.Steps.{configured, queue_size, permits_in, line_before, is_held_back, is_outside}
 use Rattle.legal_trace.specs.Legal.{MayStand, MayAnswer, MayTell, MayStart, AllStand, CanMove, IsApplied, event_causes, Legal}
+use Rattle.legal_trace.proofs.Ahead.{renewal_is_free}
 use Rattle.legal_trace.proofs.Books.{stand_front, stand_behind}
 use Rattle.legal_laws.specs.Starts.{IsStart, StartsOn, HasPlace, StaysWithin}
 use Rattle.legal_laws.proofs.Traces.Configured.{configured_behind}
@@ -43,7 +44,7 @@ free_from bound u e = by_test (nat_lt 0 u) ((u ≡ 0) ⊎ (u < bound))
 -- where a message starts the event was applied, and its link isn't held back
 start_free : (b : Book) (a : Action) (l : ℕ) → MayStand b a → StartsOn l a → IsApplied b × (is_held_back b (b.link l) ≡ false)
 start_free b (action.Start m k owner.Setup count len) l may on = (may.applied, subst (λ j. is_held_back b (b.link j) ≡ false) on may.free)
-start_free b (action.Start m k owner.Auth count len) l may on = (may.applied, subst (λ j. is_held_back b (b.link j) ≡ false) on may.free)
+start_free b (action.Start m k owner.Auth count len) l may on = (may.applied, subst (λ j. is_held_back b (b.link j) ≡ false) on (renewal_is_free b m may.free))
 start_free b (action.Start m k owner.Resub count len) l may on = (may.applied, subst (λ j. is_held_back b (b.link j) ≡ false) on may.free)
 start_free b (action.Start m k owner.Monitor count len) l may on = (may.applied, subst (λ j. is_held_back b (b.link j) ≡ false) on may.free)
 start_free b (action.Start m k (owner.Try n round) count len) l may on =

@@ -18,14 +18,15 @@ use Rattle.driver_model.specs.declared.news.LinkFault.TheVariants as fault
 use Rattle.driver_model.specs.declared.outcome.Outcome.TheVariants as outcome
 use Rattle.driver_model.specs.News.{News, silence, connected, refused, overdue, took, came, failed, authorized, denied, deserted, renewed, unrenewed, late, unrepeated, dropped, shut, for_link, news_of}
 use Rattle.legal_trace.specs.Ledger.{Ledger, End, Ending, asks, hears, begins, offers, ends, sources, noted, with_news, refused_in, bytes_came, is_over, is_fault, is_full, is_set_up, is_ready, is_cut, dials, ending, ending_alive, ending_asked, ending_by, ending_unready, ending_up, error_in, failure_in, setup_result, setup_due, monitor_due, next_notice, renewal_due, renewals_asked, source_due, IsOffered, awaits_credentials, authorized_by, may_renew, renewed_by, unrenewed_by, is_renewal_open, lost_by, is_repeating, unrepeated_by, again_due}
-use Rattle.legal_trace.specs.Story.{Story, Try, bytes_of, last_of, shape}
+use Rattle.legal_trace.specs.Story.{Story, Try, has_place, bytes_of, last_of, shape}
 use Rattle.legal_trace.specs.Owed.{owed, owed_to_try, owed_to_message, owed_waiting}
 use Rattle.legal_trace.specs.Steps.{is_due, is_held_back, next_step}
 use Rattle.legal_trace.specs.Managers.{settings_in, is_last}
 use Rattle.legal_trace.specs.Again.{repeats_in}
 use Rattle.legal_trace.proofs.Clocks.{timer_tells}
-use Rattle.legal_trace.specs.Book.{Book, blank_book, book, entered, entered_each, after_event, has_generations, hearing_in, info_in, kind_in, message_of, rest_after, shuts, submitted_by, timeout_after, wanted_in}
+use Rattle.legal_trace.specs.Book.{Book, blank_book, book, entered, entered_each, after_event, due_since, placed_since, has_generations, hearing_in, info_in, kind_in, message_of, rest_after, shuts, submitted_by, timeout_after, wanted_in}
 use Rattle.legal_trace.specs.Legal.{MayStand, AllStand, Legal, IsOpen, IsStarted, IsWaiting, IsSettled, NoneEnds, current_link, is_attempt, is_lost_in, is_caused, begins_first, generation_due, rest_due, link_due}
+use Rattle.legal_trace.proofs.Ahead.{held_where_moved, held_with_link}
 use Rattle.legal_trace.proofs.Ledgers.{mine_keeps, UpIsNotOver}
 use Rattle.legal_trace.proofs.Plain.{same_some}
 use Rattle.legal_trace.proofs.Came.{holds_bytes}
@@ -120,9 +121,9 @@ Alike b link news = (n : ℕ) → link n ≡ record (b.link n) { heard = news n 
 abbrev HearsLate : Book → (ℕ → News) → Type 0
 HearsLate b news = (n : ℕ) → (is_over (b.link n) ≡ true) ⊎ (news n ≡ silence)
 
--- a book in which another turn begins, in which nothing else changes
-abbrev passed : Book → ℕ → Option Cause → Option ℕ → (ℕ → Ledger) → Book
-passed b turns running timeout link = record b { turns = turns; running = running; timeout = timeout; errors = []; link = link }
+-- a book in which another turn begins, in which nothing else changes, whatever it says of when places were taken, or new credentials became due
+abbrev passed : Book → ℕ → Option Cause → Option ℕ → (ℕ → Option ℕ) → (ℕ → ℕ) → (ℕ → Ledger) → Book
+passed b turns running timeout placed since link = record b { turns = turns; running = running; timeout = timeout; errors = []; placed = placed; since = since; link = link }
 
 -- an error that wasn't there isn't
 no_error : (o : Option RedisError) (x : Option Ending) → ending_by o x ≡ None → ending_by o None ≡ None
@@ -171,18 +172,18 @@ late_ends l news up h none = elim h [
 ]
 
 -- what a submission is owed stays
-try_alike : (b : Book) (turns : ℕ) (r : Option Cause) (o : Option ℕ) (link : ℕ → Ledger) (news : ℕ → News) → Alike b link news → (s : Story) (t : Option Try) → owed_to_try (passed b turns r o link) s t ≡ owed_to_try b s t
-try_alike b turns r o link news same s None = ap (owed_waiting b.shut) (same s.link)
-try_alike b turns r o link news same s (Some t) = ap (λ (l : Ledger). owed_to_message l t.message (shape s)) (same t.link)
+try_alike : (b : Book) (turns : ℕ) (r : Option Cause) (o : Option ℕ) (placed : ℕ → Option ℕ) (since : ℕ → ℕ) (link : ℕ → Ledger) (news : ℕ → News) → Alike b link news → (s : Story) (t : Option Try) → owed_to_try (passed b turns r o placed since link) s t ≡ owed_to_try b s t
+try_alike b turns r o placed since link news same s None = ap (owed_waiting b.shut) (same s.link)
+try_alike b turns r o placed since link news same s (Some t) = ap (λ (l : Ledger). owed_to_message l t.message (shape s)) (same t.link)
 
-owed_alike : (b : Book) (turns : ℕ) (r : Option Cause) (o : Option ℕ) (link : ℕ → Ledger) (news : ℕ → News) → Alike b link news → (n : ℕ) → owed (passed b turns r o link) n ≡ owed b n
-owed_alike b turns r o link news same n =
+owed_alike : (b : Book) (turns : ℕ) (r : Option Cause) (o : Option ℕ) (placed : ℕ → Option ℕ) (since : ℕ → ℕ) (link : ℕ → Ledger) (news : ℕ → News) → Alike b link news → (n : ℕ) → owed (passed b turns r o placed since link) n ≡ owed b n
+owed_alike b turns r o placed since link news same n =
     ap (λ x. if (b.story n).late then Some (outcome.Fault error.Closed) else if (b.story n).unspoken then Some (outcome.Fault error.Resp3Required) else if length (bytes_of (b.story n)) == 0 then Some (outcome.Fault error.EmptyCommand) else if (b.story n).overdue then Some (outcome.Fault (error.Io kind.TimedOut)) else x)
-    (try_alike b turns r o link news same (b.story n) (last_of (b.story n).tries))
+    (try_alike b turns r o placed since link news same (b.story n) (last_of (b.story n).tries))
 
 -- and its next step
-step_alike : (b : Book) (turns : ℕ) (r : Option Cause) (o : Option ℕ) (link : ℕ → Ledger) (news : ℕ → News) → Alike b link news → (n : ℕ) → next_step (passed b turns r o link) n ≡ next_step b n
-step_alike b turns r o link news same n = ap (λ (l : Ledger). next_step (record b { link = λ j. l }) n) (same (b.story n).link)
+step_alike : (b : Book) (turns : ℕ) (r : Option Cause) (o : Option ℕ) (placed : ℕ → Option ℕ) (since : ℕ → ℕ) (link : ℕ → Ledger) (news : ℕ → News) → Alike b link news → (n : ℕ) → next_step (passed b turns r o placed since link) n ≡ next_step b n
+step_alike b turns r o placed since link news same n = ap (λ (l : Ledger). next_step (record b { link = λ j. l }) n) (same (b.story n).link)
 
 -- what ended before this turn wasn't lost in it
 lost_not : (k : ℕ) (o : Option End) → ((end : End) → o ≡ Some end → end.turn ≢ k) → is_lost_in k o ≡ false
@@ -199,16 +200,16 @@ abbrev due_by : Book → Bool → Bool
 due_by b by = has_generations b && (not b.failed && (not b.shut && by))
 
 -- none is where none was and nothing is lost
-generated_alike : (b : Book) (turns : ℕ) (r : Option Cause) (o : Option ℕ) (link : ℕ → Ledger) → is_lost_in (turns - 1) (link b.current).end ≡ false → generation_due b ≡ false → generation_due (passed b turns r o link) ≡ false
-generated_alike b turns r o link lost none =
-    by_test (b.generation == 0) (generation_due (passed b turns r o link) ≡ false)
-    (λ first. ap (due_by b) (taken_if (b.generation == 0) (begins_first b) (is_caused (passed b turns r o link)) first) ∙ (sym (ap (due_by b) (taken_if (b.generation == 0) (begins_first b) (is_caused b) first)) ∙ none))
-    (λ later. ap (due_by b) (left_if (b.generation == 0) (begins_first b) (is_caused (passed b turns r o link)) later)
-    ∙ last_fails (has_generations b) (not b.failed) (not b.shut) (is_caused (passed b turns r o link)) (not_caused (is_resp3 (info_in b.config).protocol) (is_lost_in (turns - 1) (link b.current).end) lost))
+generated_alike : (b : Book) (turns : ℕ) (r : Option Cause) (o : Option ℕ) (placed : ℕ → Option ℕ) (since : ℕ → ℕ) (link : ℕ → Ledger) → is_lost_in (turns - 1) (link b.current).end ≡ false → generation_due b ≡ false → generation_due (passed b turns r o placed since link) ≡ false
+generated_alike b turns r o placed since link lost none =
+    by_test (b.generation == 0) (generation_due (passed b turns r o placed since link) ≡ false)
+    (λ first. ap (due_by b) (taken_if (b.generation == 0) (begins_first b) (is_caused (passed b turns r o placed since link)) first) ∙ (sym (ap (due_by b) (taken_if (b.generation == 0) (begins_first b) (is_caused b) first)) ∙ none))
+    (λ later. ap (due_by b) (left_if (b.generation == 0) (begins_first b) (is_caused (passed b turns r o placed since link)) later)
+    ∙ last_fails (has_generations b) (not b.failed) (not b.shut) (is_caused (passed b turns r o placed since link)) (not_caused (is_resp3 (info_in b.config).protocol) (is_lost_in (turns - 1) (link b.current).end) lost))
 
 -- a message that started is as it was
-started_alike : (b : Book) (turns : ℕ) (r : Option Cause) (o : Option ℕ) (link : ℕ → Ledger) (news : ℕ → News) → Alike b link news → (n : ℕ) → IsStarted b n → IsStarted (passed b turns r o link) n
-started_alike b turns r o link news same n h = record {
+started_alike : (b : Book) (turns : ℕ) (r : Option Cause) (o : Option ℕ) (placed : ℕ → Option ℕ) (since : ℕ → ℕ) (link : ℕ → Ledger) (news : ℕ → News) → Alike b link news → (n : ℕ) → IsStarted b n → IsStarted (passed b turns r o placed since link) n
+started_alike b turns r o placed since link news same n h = record {
   try = h.try;
   last = h.last;
   up = ap (λ (l : Ledger). l.up) (same h.try.link) ∙ h.up;
@@ -216,14 +217,14 @@ started_alike b turns r o link news same n h = record {
   offered = subst IsOffered (sym (same h.try.link)) h.offered;
 }
 
-waiting_alike : (b : Book) (turns : ℕ) (r : Option Cause) (o : Option ℕ) (link : ℕ → Ledger) (news : ℕ → News) → Alike b link news → (n : ℕ) → IsWaiting b n → IsWaiting (passed b turns r o link) n
-waiting_alike b turns r o link news same n h = record { unstarted = h.unstarted; kind = h.kind; shown = h.shown; holds = step_alike b turns r o link news same n ∙ h.holds }
+waiting_alike : (b : Book) (turns : ℕ) (r : Option Cause) (o : Option ℕ) (placed : ℕ → Option ℕ) (since : ℕ → ℕ) (link : ℕ → Ledger) (news : ℕ → News) → Alike b link news → (n : ℕ) → IsWaiting b n → IsWaiting (passed b turns r o placed since link) n
+waiting_alike b turns r o placed since link news same n h = record { unstarted = h.unstarted; kind = h.kind; shown = h.shown; holds = step_alike b turns r o placed since link news same n ∙ h.holds }
 
 -- so a turn that is settled is still where another begins
 settled_alike :
-    (b : Book) (turns : ℕ) (r : Option Cause) (o : Option ℕ) (link : ℕ → Ledger) (news : ℕ → News) → Alike b link news → HearsLate b news → ((l : ℕ) → UpIsNotOver (b.link l))
-    → is_lost_in (turns - 1) (link b.current).end ≡ false → IsSettled b → IsSettled (passed b turns r o link)
-settled_alike b turns r o link news same late_ones up lost h =
+    (b : Book) (turns : ℕ) (r : Option Cause) (o : Option ℕ) (placed : ℕ → Option ℕ) (since : ℕ → ℕ) (link : ℕ → Ledger) (news : ℕ → News) → Alike b link news → HearsLate b news → ((l : ℕ) → UpIsNotOver (b.link l))
+    → is_lost_in (turns - 1) (link b.current).end ≡ false → IsSettled b → IsSettled (passed b turns r o placed since link)
+settled_alike b turns r o placed since link news same late_ones up lost h =
     let begun = h.written.moved.begun in
     let applied = begun.applied in
     let shown = applied.shown in
@@ -233,7 +234,7 @@ settled_alike b turns r o link news same late_ones up lost h =
           begun = record {
             applied = record {
               shown = record {
-                answered = λ n is. owed_alike b turns r o link news same n ∙ shown.answered n is;
+                answered = λ n is. owed_alike b turns r o placed since link news same n ∙ shown.answered n is;
                 ended = λ l. ap ending (same l) ∙ late_ends (b.link l) (news l) (up l) (late_ones l) (shown.ended l);
                 created = record {
                   lazy = shown.created.lazy;
@@ -245,7 +246,7 @@ settled_alike b turns r o link news same late_ones up lost h =
                 sourced = λ l. ap source_due (same l) ∙ shown.sourced l;
               };
               rested = ap (λ (x : Ledger). has_generations b && is_attempt x.end) (same b.current) ∙ applied.rested;
-              generated = generated_alike b turns r o link lost applied.generated;
+              generated = generated_alike b turns r o placed since link lost applied.generated;
               linked = ap (λ (x : Ledger). if has_generations b then nat_lt 0 b.generation && (not x.asked && (is_none b.rest && not b.shut)) else b.links == 0) (same b.current) ∙ applied.linked;
               timed = applied.timed;
             };
@@ -254,15 +255,15 @@ settled_alike b turns r o link news same late_ones up lost h =
             repeats_timed = λ l some due. ap (λ (x : Ledger). x.again.timed) (same l) ∙ begun.repeats_timed l some (sym (ap again_due (same l)) ∙ due);
             repeated = λ l due. ap (is_held_back b) (same l) ∙ begun.repeated l (sym (ap again_due (same l)) ∙ due);
             timed = λ l some. subst (λ (x : Ledger). renewals_asked x ≤ x.creds.timed) (sym (same l)) (begun.timed l some);
-            renewed = λ l c due. ap (is_held_back b) (same l) ∙ begun.renewed l c (sym (ap renewal_due (same l)) ∙ due);
+            renewed = λ l c due. held_with_link (passed b turns r o placed since link) l (ap (is_held_back b) (same l) ∙ held_where_moved b l h.written.moved.moved (begun.renewed l c (sym (ap renewal_due (same l)) ∙ due)));
           };
-          moved = λ n can. h.written.moved.moved n (record { unstarted = can.unstarted; due = sym (ap is_due (step_alike b turns r o link news same n)) ∙ can.due });
+          moved = λ n can. h.written.moved.moved n (record { unstarted = can.unstarted; due = sym (ap is_due (step_alike b turns r o placed since link news same n)) ∙ can.due });
         };
         offered = λ l is_up. subst IsOffered (sym (same l)) (h.written.offered l (sym (ap (λ (x : Ledger). x.up) (same l)) ∙ is_up));
       };
       goes = λ n is. elim (h.goes n is) [
-        | inl started ↦ inl (started_alike b turns r o link news same n started)
-        | inr waiting ↦ inr (waiting_alike b turns r o link news same n waiting)
+        | inl started ↦ inl (started_alike b turns r o placed since link news same n started)
+        | inr waiting ↦ inr (waiting_alike b turns r o placed since link news same n waiting)
       ];
     }
 
@@ -308,17 +309,25 @@ rest_stays f None none some = none
 rest_stays f (Some t) none some = some t
 
 -- so it is where one link hears something to which it is deaf
-settled_by : (b : Book) (k l : ℕ) (x : News) (r : Option Cause) (s : ℕ) (o : Option ℕ) (is_shut : Bool) (rest : Option ℕ) → IsQuiet b → is_over (b.link l) ≡ true → with_news (b.link l) k x ≡ b.link l → s ≡ b.submissions → is_shut ≡ b.shut → rest ≡ b.rest
-    → IsSettled (record b { turns = b.turns + 1; running = r; submissions = s; timeout = o; shut = is_shut; rest = rest; errors = []; link = λ n. record (with_news (b.link n) k (for_link (l == n) x)) { heard = for_link (l == n) x } })
-settled_by b k l x r s o is_shut rest h over deaf numbers shuts_none waits =
+settled_by : (b : Book) (k l : ℕ) (x : News) (r : Option Cause) (s : ℕ) (o : Option ℕ) (is_shut : Bool) (rest : Option ℕ) (placed : ℕ → Option ℕ) (since : ℕ → ℕ) → IsQuiet b → is_over (b.link l) ≡ true → with_news (b.link l) k x ≡ b.link l → s ≡ b.submissions → is_shut ≡ b.shut → rest ≡ b.rest
+    → IsSettled (record b { turns = b.turns + 1; running = r; submissions = s; timeout = o; shut = is_shut; rest = rest; errors = []; placed = placed; since = since; link = λ n. record (with_news (b.link n) k (for_link (l == n) x)) { heard = for_link (l == n) x } })
+settled_by b k l x r s o is_shut rest placed since h over deaf numbers shuts_none waits =
     let link : ℕ → Ledger = λ n. record (with_news (b.link n) k (for_link (l == n) x)) { heard = for_link (l == n) x } in
     let news : ℕ → News = λ n. for_link (l == n) x in
     let same : Alike b link news = one_hears b k l x deaf in
-    let here : IsSettled (passed b (b.turns + 1) r o link) =
-    settled_alike b (b.turns + 1) r o link news same (one_late b l x over) h.sound.up (late_is_no_loss b link news same h.past h.later) h.settled in
-    subst (λ m. IsSettled (record b { turns = b.turns + 1; running = r; submissions = m; timeout = o; shut = is_shut; rest = rest; errors = []; link = link })) (sym numbers)
-    (subst (λ d. IsSettled (record b { turns = b.turns + 1; running = r; timeout = o; shut = d; rest = rest; errors = []; link = link })) (sym shuts_none)
-    (subst (λ w. IsSettled (record b { turns = b.turns + 1; running = r; timeout = o; rest = w; errors = []; link = link })) (sym waits) here))
+    let here : IsSettled (passed b (b.turns + 1) r o placed since link) =
+    settled_alike b (b.turns + 1) r o placed since link news same (one_late b l x over) h.sound.up (late_is_no_loss b link news same h.past h.later) h.settled in
+    subst (λ m. IsSettled (record b { turns = b.turns + 1; running = r; submissions = m; timeout = o; shut = is_shut; rest = rest; errors = []; placed = placed; since = since; link = link })) (sym numbers)
+    (subst (λ d. IsSettled (record b { turns = b.turns + 1; running = r; timeout = o; shut = d; rest = rest; errors = []; placed = placed; since = since; link = link })) (sym shuts_none)
+    (subst (λ w. IsSettled (record b { turns = b.turns + 1; running = r; timeout = o; rest = w; errors = []; placed = placed; since = since; link = link })) (sym waits) here))
+
+-- since when new credentials are due behind the turn of an event
+abbrev due_behind : Book → ℕ → EventKind → ℕ → ℕ
+due_behind b k e l = due_since (b.since l) (b.link l) (noted (b.link l) (hears k (news_of b.timers b.sources l e))) k
+
+-- and since when submissions have their places
+abbrev placed_behind : Book → EventKind → ℕ → Option ℕ
+placed_behind b e n = placed_since (has_place (after_event b n e)) (b.placed n) (b.turns - 1)
 
 -- the book behind the turn of an event
 abbrev behind : Book → ℕ → EventKind → Option Cause → Book
@@ -332,34 +341,36 @@ behind b k e r = record b {
   errors = [];
   link = λ n. noted (b.link n) (hears k (news_of b.timers b.sources n e));
   story = λ n. after_event b n e;
+  placed = placed_behind b e;
+  since = due_behind b k e;
 }
 
 -- an event of a link that has ended leaves all settled
 late_settled : (b : Book) (k : ℕ) (e : EventKind) (r : Option Cause) → IsQuiet b → IsLate b e → IsSettled (behind b k e r)
 late_settled b k (event.Connected l) r h over =
-    settled_by b k l connected r (b.submissions + 0) (timeout_after (kind_in b.config) b.timeout (event.Connected l)) (b.shut || false) (rest_after b.rest (event.Connected l)) h over
+    settled_by b k l connected r (b.submissions + 0) (timeout_after (kind_in b.config) b.timeout (event.Connected l)) (b.shut || false) (rest_after b.rest (event.Connected l)) (placed_behind b (event.Connected l)) (due_behind b k (event.Connected l)) h over
     (taken_if (is_over (b.link l)) (b.link l) (record (b.link l) { up = true }) over)
     (none_more b.submissions) (or_false b.shut) (rest_stays (λ w. rest_after w (event.Connected l)) b.rest refl (λ t. refl))
 late_settled b k (event.Refused l f) r h over =
-    settled_by b k l (refused f) r (b.submissions + 0) (timeout_after (kind_in b.config) b.timeout (event.Refused l f)) (b.shut || false) (rest_after b.rest (event.Refused l f)) h over
+    settled_by b k l (refused f) r (b.submissions + 0) (timeout_after (kind_in b.config) b.timeout (event.Refused l f)) (b.shut || false) (rest_after b.rest (event.Refused l f)) (placed_behind b (event.Refused l f)) (due_behind b k (event.Refused l f)) h over
     (left_if (dials (b.link l)) (refused_in (b.link l) k (error.Io f)) (b.link l) (not_dialling (b.link l).asked (b.link l).up (is_over (b.link l)) over))
     (none_more b.submissions) (or_false b.shut) (rest_stays (λ w. rest_after w (event.Refused l f)) b.rest refl (λ t. refl))
 late_settled b k (event.Wrote l count) r h over =
-    settled_by b k l (took count) r (b.submissions + 0) (timeout_after (kind_in b.config) b.timeout (event.Wrote l count)) (b.shut || false) (rest_after b.rest (event.Wrote l count)) h over
+    settled_by b k l (took count) r (b.submissions + 0) (timeout_after (kind_in b.config) b.timeout (event.Wrote l count)) (b.shut || false) (rest_after b.rest (event.Wrote l count)) (placed_behind b (event.Wrote l count)) (due_behind b k (event.Wrote l count)) h over
     (left_if (b.link l).up (record (b.link l) { taken = (b.link l).taken ++ take count (b.link l).offer; offer = [] }) (b.link l) (over_is_down (b.link l) (h.sound.up l) over))
     (none_more b.submissions) (or_false b.shut) (rest_stays (λ w. rest_after w (event.Wrote l count)) b.rest refl (λ t. refl))
 late_settled b k (event.Bytes l piece) r h over =
-    settled_by b k l (came piece) r (b.submissions + 0) (timeout_after (kind_in b.config) b.timeout (event.Bytes l piece)) (b.shut || false) (rest_after b.rest (event.Bytes l piece)) h over
+    settled_by b k l (came piece) r (b.submissions + 0) (timeout_after (kind_in b.config) b.timeout (event.Bytes l piece)) (b.shut || false) (rest_after b.rest (event.Bytes l piece)) (placed_behind b (event.Bytes l piece)) (due_behind b k (event.Bytes l piece)) h over
     (left_if (b.link l).up (bytes_came (b.link l) piece) (b.link l) (over_is_down (b.link l) (h.sound.up l) over))
     (none_more b.submissions) (or_false b.shut) (rest_stays (λ w. rest_after w (event.Bytes l piece)) b.rest refl (λ t. refl))
 late_settled b k (event.Ended l) r h over =
-    settled_by b k l (failed fault.Ended) r (b.submissions + 0) (timeout_after (kind_in b.config) b.timeout (event.Ended l)) (b.shut || false) (rest_after b.rest (event.Ended l)) h over refl
+    settled_by b k l (failed fault.Ended) r (b.submissions + 0) (timeout_after (kind_in b.config) b.timeout (event.Ended l)) (b.shut || false) (rest_after b.rest (event.Ended l)) (placed_behind b (event.Ended l)) (due_behind b k (event.Ended l)) h over refl
     (none_more b.submissions) (or_false b.shut) (rest_stays (λ w. rest_after w (event.Ended l)) b.rest refl (λ t. refl))
 late_settled b k (event.ReadFault l f) r h over =
-    settled_by b k l (failed (fault.Io f)) r (b.submissions + 0) (timeout_after (kind_in b.config) b.timeout (event.ReadFault l f)) (b.shut || false) (rest_after b.rest (event.ReadFault l f)) h over refl
+    settled_by b k l (failed (fault.Io f)) r (b.submissions + 0) (timeout_after (kind_in b.config) b.timeout (event.ReadFault l f)) (b.shut || false) (rest_after b.rest (event.ReadFault l f)) (placed_behind b (event.ReadFault l f)) (due_behind b k (event.ReadFault l f)) h over refl
     (none_more b.submissions) (or_false b.shut) (rest_stays (λ w. rest_after w (event.ReadFault l f)) b.rest refl (λ t. refl))
 late_settled b k (event.WriteFault l f) r h over =
-    settled_by b k l (failed (fault.Io f)) r (b.submissions + 0) (timeout_after (kind_in b.config) b.timeout (event.WriteFault l f)) (b.shut || false) (rest_after b.rest (event.WriteFault l f)) h over refl
+    settled_by b k l (failed (fault.Io f)) r (b.submissions + 0) (timeout_after (kind_in b.config) b.timeout (event.WriteFault l f)) (b.shut || false) (rest_after b.rest (event.WriteFault l f)) (placed_behind b (event.WriteFault l f)) (due_behind b k (event.WriteFault l f)) h over refl
     (none_more b.submissions) (or_false b.shut) (rest_stays (λ w. rest_after w (event.WriteFault l f)) b.rest refl (λ t. refl))
 late_settled b k _ r h over = absurd over
 

@@ -76,15 +76,15 @@ place_stays b a may sound n i same on h =
     }
 
 -- an open submission wasn't told
-open_is_untold : (s : Story) → is_open s ≡ true → is_told s ≡ true → ⊥
+pub open_is_untold : (s : Story) → is_open s ≡ true → is_told s ≡ true → ⊥
 open_is_untold s o t = let x : false ≡ true = sym (ap is_no_error (open_has_none s o)) ∙ both_right (not (is_awaited s)) (is_no_error s.outcomes) t in cc x
 
 -- so whoever goes to the next link has no place
-carried_is_unplaced : (s : Story) (l : ℕ) → is_open s ≡ true → has_place (carried s l) ≡ true → ⊥
+pub carried_is_unplaced : (s : Story) (l : ℕ) → is_open s ≡ true → has_place (carried s l) ≡ true → ⊥
 carried_is_unplaced s l o t = elim (one_holds (is_room None) (is_told s) t) [ inl r ↦ cc r | inr told ↦ open_is_untold s o told ]
 
 -- and whoever has one stays on its link
-placed_stays : (b : Book) (a : Action) → MayStand b a → (n : ℕ) → n < b.submissions → has_place ((entered b a).story n) ≡ true → Stays b (b.story n) ((entered b a).story n)
+pub placed_stays : (b : Book) (a : Action) → MayStand b a → (n : ℕ) → n < b.submissions → has_place ((entered b a).story n) ≡ true → Stays b (b.story n) ((entered b a).story n)
 placed_stays b a may n i t = elim (follows b a may n i).on [
   | inl stays ↦ stays
   | inr goes ↦ absurd (carried_is_unplaced (b.story n) b.links goes.1 (subst (λ s. has_place s ≡ true) goes.2 t))
@@ -171,7 +171,7 @@ place_from before after room told h = elim (one_holds (is_room after.waiting) (i
 ]
 
 -- so no event gives a place
-event_placed : (b : Book) (n : ℕ) (kind : EventKind) → n < b.submissions → has_place (after_event b n kind) ≡ true → has_place (b.story n) ≡ true
+pub event_placed : (b : Book) (n : ℕ) (kind : EventKind) → n < b.submissions → has_place (after_event b n kind) ≡ true → has_place (b.story n) ≡ true
 event_placed b n kind i h = place_from (b.story n) (after_event b n kind) (event_rooms b n kind) (event_told b n kind i) h
 
 -- what comes by an event is not told
@@ -181,7 +181,7 @@ new_is_untold b n kind stories i t =
     let e : false ≡ true = sym (ap is_no_error none) ∙ both_right (not (is_awaited (after_event b n kind))) (is_no_error (after_event b n kind).outcomes) t in cc e
 
 -- nor has it a place
-new_is_unplaced : (b : Book) (n : ℕ) (kind : EventKind) → HasStories b → b.submissions ≤ n → has_place (after_event b n kind) ≡ true → ⊥
+pub new_is_unplaced : (b : Book) (n : ℕ) (kind : EventKind) → HasStories b → b.submissions ≤ n → has_place (after_event b n kind) ≡ true → ⊥
 new_is_unplaced b n kind stories i h = elim (one_holds (is_room (after_event b n kind).waiting) (is_told (after_event b n kind)) h) [
   | inl r ↦ let x : false ≡ true = sym (ap (λ (s : Story). is_room s.waiting) (stories n i)) ∙ event_rooms b n kind r in cc x
   | inr t ↦ new_is_untold b n kind stories i t

@@ -40,7 +40,7 @@ pub fires_keeps : (P : Story → Type 0) (s : Story) → (is_open s ≡ true →
 fires_keeps P s over h = chosen P (is_open s) (record s { overdue = true }) s over (λ f. h)
 
 -- it stays with each event
-event_keeps : (P : Story → Type 0) (b : Book) (n : ℕ) (kind : EventKind) → KeptByEvents P b n → P (b.story n) → P (after_event b n kind)
+pub event_keeps : (P : Story → Type 0) (b : Book) (n : ℕ) (kind : EventKind) → KeptByEvents P b n → P (b.story n) → P (after_event b n kind)
 event_keeps P b n (event.Submit what) kept h = chosen P (b.submissions == n) (handed_in (b.story n) what b.shut (is_unspoken b what) (max 1 b.generation) b.current b.timeout) (b.story n) (kept.handed what) (λ f. h)
 event_keeps P b n (event.Cancel m) kept h = chosen P (m == n) (left (b.story n)) (b.story n) (λ t. kept.left) (λ f. h)
 event_keeps P b n (event.Fired t) kept h = chosen P (is_clock_of n (slice_get b.timers t)) (fires (b.story n)) (b.story n) (kept.fired t) (λ f. h)

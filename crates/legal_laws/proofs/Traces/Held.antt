@@ -16,6 +16,8 @@ use Rattle.legal_trace.specs.Steps.{waits as shows}
 use Rattle.legal_trace.specs.Owed.{owed_to_message, owed_to_try, owed_waiting}
 use Rattle.legal_trace.specs.Book.{Book, entered, if_mine, message_of, is_clock_of, is_rest, is_of_connect, faults_in, timer_lines}
 use Rattle.legal_trace.specs.Legal.{MayTell, MayStart, MaySetUp, link_of, NoneIsOwed, IsApplied, IsBegun, IsMoved, IsWritten, MayRenew, MayWait, MayWatch, MayRepeat}
+use Rattle.credentials.specs.Credentials.{Credentials}
+use Rattle.legal_trace.proofs.Ahead.{held_where_moved, held_with_link}
 use Rattle.legal_trace.proofs.Clocks.{timer_keeps, timer_own, timer_tells}
 use Rattle.legal_trace.proofs.Ledgers.{mine_keeps}
 use Rattle.legal_trace.proofs.Setups.{set_begins, ends_where_set, begun_undecided, due_is_unset, setup_stays, ungreeted_is_unset}
@@ -271,6 +273,10 @@ tell_applied b m o may = record {
   timed = may.begun.applied.timed;
 }
 
+-- where all is moved, new credentials that are to be told wait on links that are held back
+held_renewals : (b : Book) → IsMoved b → (l : ℕ) (c : Credentials) → renewal_due (b.link l) ≡ Some c → is_held_back b (b.link l) ≡ true
+held_renewals b done l c due = held_where_moved b l done.moved (done.begun.renewed l c due)
+
 -- a write leaves the event applied and all moved
 write_applied : (b : Book) (l : ℕ) (bytes : List ℕ) → IsApplied b → IsApplied (entered b (action.Write l bytes))
 write_applied b l bytes done = record {
@@ -296,26 +302,29 @@ write_applied b l bytes done = record {
   timed = done.timed;
 }
 
--- setups stay started, and so do MONITOR, what is subscribed again and new credentials
-write_begun : (b : Book) (l : ℕ) (bytes : List ℕ) → IsBegun b → IsBegun (entered b (action.Write l bytes))
-write_begun b l bytes done = record {
-  applied = write_applied b l bytes done.applied;
-  setups = λ j k. mine_keeps (λ x. setup_due x ≡ Some k → is_held_back b x ≡ true) (l == j) (b.link j) (offers bytes) (λ t. done.setups j k) (done.setups j k);
-  monitors = λ j. mine_keeps (λ x. monitor_due x ≡ true → is_held_back b x ≡ true) (l == j) (b.link j) (offers bytes) (λ t. done.monitors j) (done.monitors j);
-  repeats_timed = λ j set. mine_keeps (λ (x : Ledger). again_due x ≡ true → x.again.timed ≡ true) (l == j) (b.link j) (offers bytes) (λ t. done.repeats_timed j set) (done.repeats_timed j set);
-  repeated = λ j. mine_keeps (λ x. again_due x ≡ true → is_held_back b x ≡ true) (l == j) (b.link j) (offers bytes) (λ t. done.repeated j) (done.repeated j);
-  timed = λ j set. mine_keeps (λ (x : Ledger). renewals_asked x ≤ x.creds.timed) (l == j) (b.link j) (offers bytes) (λ t. done.timed j set) (done.timed j set);
-  renewed = λ j c. mine_keeps (λ x. renewal_due x ≡ Some c → is_held_back b x ≡ true) (l == j) (b.link j) (offers bytes) (λ t. done.renewed j c) (done.renewed j c);
-}
-
 -- a write leaves each submission its next step
 written_step : (b : Book) (l n : ℕ) (bytes : List ℕ) → next_step (entered b (action.Write l bytes)) n ≡ next_step b n
 written_step b l n bytes = mine_keeps (λ x. step_of b.config (b.story n) (line_before (permits_in b.config) b.story (b.story n).link n) (permits_held b.story (b.story n).link b.submissions) x ≡ next_step b n) (l == (b.story n).link) (link_of b n) (offers bytes) (λ t. refl) refl
 
+-- setups stay started, and so do MONITOR, what is subscribed again and, where all is moved, new credentials
+write_begun : (b : Book) (l : ℕ) (bytes : List ℕ) → IsMoved b → IsBegun (entered b (action.Write l bytes))
+write_begun b l bytes all =
+    let done : IsBegun b = all.begun in
+    record {
+      applied = write_applied b l bytes done.applied;
+      setups = λ j k. mine_keeps (λ x. setup_due x ≡ Some k → is_held_back b x ≡ true) (l == j) (b.link j) (offers bytes) (λ t. done.setups j k) (done.setups j k);
+      monitors = λ j. mine_keeps (λ x. monitor_due x ≡ true → is_held_back b x ≡ true) (l == j) (b.link j) (offers bytes) (λ t. done.monitors j) (done.monitors j);
+      repeats_timed = λ j set. mine_keeps (λ (x : Ledger). again_due x ≡ true → x.again.timed ≡ true) (l == j) (b.link j) (offers bytes) (λ t. done.repeats_timed j set) (done.repeats_timed j set);
+      repeated = λ j. mine_keeps (λ x. again_due x ≡ true → is_held_back b x ≡ true) (l == j) (b.link j) (offers bytes) (λ t. done.repeated j) (done.repeated j);
+      timed = λ j set. mine_keeps (λ (x : Ledger). renewals_asked x ≤ x.creds.timed) (l == j) (b.link j) (offers bytes) (λ t. done.timed j set) (done.timed j set);
+      renewed = λ j c due. held_with_link (entered b (action.Write l bytes)) j
+          (mine_keeps (λ x. renewal_due x ≡ Some c → is_held_back b x ≡ true) (l == j) (b.link j) (offers bytes) (λ t. held_renewals b all j c) (held_renewals b all j c) due);
+    }
+
 -- so nothing moves behind a write that couldn't before
 pub write_moved : (b : Book) (l : ℕ) (bytes : List ℕ) → IsMoved b → IsMoved (entered b (action.Write l bytes))
 write_moved b l bytes done = record {
-  begun = write_begun b l bytes done.begun;
+  begun = write_begun b l bytes done;
   moved = λ n m. done.moved n (record { unstarted = m.unstarted; due = sym (ap is_due (written_step b l n bytes)) ∙ m.due });
 }
 
@@ -443,7 +452,7 @@ wait_unstarted b m round kind n = chosen (λ s. is_unstarted s ≡ is_unstarted 
 pub wait_written : (b : Book) (m round : ℕ) (kind : WaitKind) → MayWait b m kind → IsWritten b → IsWritten (entered b (action.Wait (owner.Try m round) kind))
 wait_written b m round kind may done = record {
   moved = record {
-    begun = record { applied = wait_applied b m round kind done.moved.begun.applied; setups = done.moved.begun.setups; monitors = done.moved.begun.monitors; repeats_timed = done.moved.begun.repeats_timed; repeated = done.moved.begun.repeated; timed = done.moved.begun.timed; renewed = done.moved.begun.renewed };
+    begun = record { applied = wait_applied b m round kind done.moved.begun.applied; setups = done.moved.begun.setups; monitors = done.moved.begun.monitors; repeats_timed = done.moved.begun.repeats_timed; repeated = done.moved.begun.repeated; timed = done.moved.begun.timed; renewed = λ l c due. held_with_link (entered b (action.Wait (owner.Try m round) kind)) l (held_renewals b done.moved l c due) };
     moved = λ n p. done.moved.moved n (record {
       unstarted = sym (wait_unstarted b m round kind n) ∙ p.unstarted;
       due = sym (ap is_due (wait_step b m round kind may n)) ∙ p.due;

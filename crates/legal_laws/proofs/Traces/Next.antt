@@ -28,7 +28,7 @@ use Rattle.legal_trace.specs.Ledger.{Heard, IsOffered, is_over, is_cut, unwritte
 use Rattle.legal_trace.specs.Story.{shape, bytes_of}
 use Rattle.legal_trace.specs.Owed.{owed}
 use Rattle.legal_trace.specs.Book.{Book, book}
-use Rattle.legal_trace.specs.Steps.{Step, waits, takes, asks, tells, starts, nothing, is_held_back, next_step, rounds}
+use Rattle.legal_trace.specs.Steps.{Step, waits, takes, asks, tells, starts, nothing, is_held_back, is_renewal_held, next_step, rounds}
 use Rattle.manager_config.specs.Backoff.{backoff}
 use Rattle.legal_trace.specs.Legal.{MayStand, MayConnect, MayTimeConnect, MayRest, MayGenerate, MayBeLazy, word_of, MayTime, MayTake, MayTimer, MayNeed, MayNotify, MayWatch, MayPart, MayPushBy, MayClose, MayBeCreated, MayFail, MayShowCreation, MayAnswer, MayTell, MayStart, MaySetUp, MayWrite, MayWait, IsOpen, IsWaiting, link_of, CanMove, MayTimeRenewal, MayRenew, MayRoundOn, MayRepeat, MayTimeRepeat}
 use Rattle.legal_trace.specs.Again.{again_message}
@@ -191,15 +191,15 @@ renewal_is b l message count len may =
     ∙ (ap (λ x. action.Start l (length (b.link l).starts) owner.Auth x len) may.needs_its_items
     ∙ ap (λ x. action.Start l (length (b.link l).starts) owner.Auth (need_of (renewal_message may.credentials).shape) x) may.long_as_its_bytes)
 
--- some are to be told on that link, which isn't held back
+-- some are to be told on that link, and don't wait
 abbrev pub IsRenewing : Book → ℕ → Type 0
-IsRenewing b l = (c : Credentials) × (renewal_due (b.link l) ≡ Some c) × (is_held_back b (b.link l) ≡ false)
+IsRenewing b l = (c : Credentials) × (renewal_due (b.link l) ≡ Some c) × (is_renewal_held b l ≡ false)
 
 -- two that are told are one
 one_renewal : (b : Book) (l m message other count need len size : ℕ) → MayRenew b l message count len → MayRenew b m other need size → action.Start l message owner.Auth count len ≡ action.Start m other owner.Auth need size
 one_renewal b l m message other count need len size h k =
     let e : l ≡ m = least_is_one (IsRenewing b) l m (h.credentials, h.due, h.free) (k.credentials, k.due, k.free)
-    (λ j i w. not_both (is_held_back b (b.link j)) w.2 (h.in_order j w.0 i w.1)) (λ j i w. not_both (is_held_back b (b.link j)) w.2 (k.in_order j w.0 i w.1)) in
+    (λ j i w. not_both (is_renewal_held b j) w.2 (h.in_order j w.0 i w.1)) (λ j i w. not_both (is_renewal_held b j) w.2 (k.in_order j w.0 i w.1)) in
     let same : h.credentials ≡ k.credentials = same_some h.credentials k.credentials (sym h.due ∙ (ap (λ j. renewal_due (b.link j)) e ∙ k.due)) in
     renewal_is b l message count len h ∙ (ap (λ j. renewal_on b j h.credentials) e ∙ (ap (renewal_on b m) same ∙ sym (renewal_is b m other need size k)))
 

@@ -17,7 +17,7 @@ use Rattle.legal_trace.specs.Ledger.{End, Ending, by_shutdown, by_fault, by_open
 use Rattle.legal_trace.specs.Story.{Try, last_of}
 use Rattle.legal_trace.specs.Managers.{settings_in, is_lazy}
 use Rattle.legal_trace.specs.Book.{Book, has_generations}
-use Rattle.legal_trace.specs.Steps.{is_held_back, next_step}
+use Rattle.legal_trace.specs.Steps.{is_held_back, is_renewal_held, next_step}
 use Rattle.legal_trace.specs.Legal.{MayStand, MayTimer, MayNeed, MayAnswer, MayTell, MayWrite, MayWait, MayShowCreation, MayPushBy, MayNotify, IsOpen, link_of, NoneIsOwed, VerdictsAreShown, NoneEnds, FailuresAreShown, ReadyIsShown, NoticesAreTold, SourcesAreAsked, EndsAreTold, IsShown, are_pushes_heard, current_link, rest_due, generation_due, link_due, SetupsAreStarted, MonitorsAreStarted, IsTimed, IsApplied, IsBegun, IsMoved, IsWritten, IsSettled, IsStarted, IsWaiting, CanMove, RenewalsAreTimed, RenewalsAreStarted, answer_time, RepeatsAreTimed, RepeatsAreStarted}
 use Rattle.legal_trace.proofs.Moves.{teller_moves, starter_moves, taker_moves, asker_moves, same_kind, ready_is_up}
 use Rattle.legal_trace.proofs.Managers.{untold_settings}
@@ -232,7 +232,7 @@ not_done b (action.Created e) may h = creation_not_done b e may h
 not_done b (action.Start l k owner.Setup count len) may h = not_both (is_held_back b (b.link l)) may.free (h l may.k may.due)
 not_done b (action.Start l k owner.Resub count len) may h = not_both (is_held_back b (b.link l)) may.free (h l may.due)
 not_done b (action.Start l k owner.Monitor count len) may h = not_both (is_held_back b (b.link l)) may.free (h l may.due)
-not_done b (action.Start l k owner.Auth count len) may h = not_both (is_held_back b (b.link l)) may.free (h l may.credentials may.due)
+not_done b (action.Start l k owner.Auth count len) may h = not_both (is_renewal_held b l) may.free (h l may.credentials may.due)
 not_done b (action.Start l k (owner.Try n round) count len) may h = h n (starter_moves b l k n count len may.1)
 not_done b (action.Write l bytes) may h = not_offered b l bytes may (h l may.up)
 not_done b (action.Wait owner.Setup kind) may h = absurd may

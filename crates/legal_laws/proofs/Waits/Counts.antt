@@ -10,6 +10,7 @@ use Rattle.legal_trace.specs.Book.{Book}
 use Rattle.legal_trace.specs.Steps.{is_due, next_step, configured, queue_size, is_held_back, permits_in, permits_on, permits_held, free_permits, is_let_in, is_in_line, line_before, renewals_in_line, is_outside}
 use Rattle.legal_trace.specs.Legal.{IsOpen, IsWaiting, IsWritten, CanMove, link_of}
 use Rattle.legal_trace.proofs.Moves.{both_hold, holds_some, is_timed, has_no_tries, open_or_told, free_is_due, told_is_due, one_holds}
+use Rattle.legal_trace.proofs.Ahead.{held_where_moved}
 use Rattle.legal_laws.specs.Waits.{held_of, IsOutOfPermits, is_seated, seated, IsOutOfPlaces}
 use Rattle.legal_laws.proofs.Submissions.InLine.{first_holds}
 use Rattle.legal_laws.proofs.Submissions.Seated.{told_place}
@@ -58,7 +59,7 @@ serves_alike b m n same s = record {
 }
 
 -- whoever is let in and waits there, and isn't outside, waits for room
-waits_in_place : (b : Book) (m : ℕ) → Serves b m → IsWaiting b m → is_let_in (permits_in b.config) (b.story m) ≡ true
+pub waits_in_place : (b : Book) (m : ℕ) → Serves b m → IsWaiting b m → is_let_in (permits_in b.config) (b.story m) ≡ true
     → renewals_in_line (link_of b m) + line_before (permits_in b.config) b.story (b.story m).link m < queue_size b → has_place (b.story m) ≡ true
 waits_in_place b m s waiting let_in room =
     let before : ℕ = renewals_in_line (link_of b m) + line_before (permits_in b.config) b.story (b.story m).link m in
@@ -166,7 +167,7 @@ none_in_line b n (suc k) rests s free none sized i =
     (λ f. let zero_more : counts ≡ 0 = left_if stands 1 0 f in omega (arith, line, zero_more))
 
 -- new credentials that are to be told are known
-some_credentials : (o : Option Credentials) → is_some o ≡ true → (c : Credentials) × (o ≡ Some c)
+pub some_credentials : (o : Option Credentials) → is_some o ≡ true → (c : Credentials) × (o ≡ Some c)
 some_credentials None e = absurd (cc e)
 some_credentials (Some c) e = (c, refl)
 
@@ -174,7 +175,7 @@ some_credentials (Some c) e = (c, refl)
 full_is_held : (b : Book) (n : ℕ) → Rests b n → Serves b n → 0 < queue_size b → queue_size b ≤ renewals_in_line (link_of b n) + line_before (permits_in b.config) b.story (b.story n).link n → is_held_back b (link_of b n) ≡ true
 full_is_held b n rests s sized full = by_test (is_held_back b (link_of b n)) (is_held_back b (link_of b n) ≡ true) (λ t. t)
     (λ free. by_test (is_some (renewal_due (link_of b n))) (is_held_back b (link_of b n) ≡ true)
-    (λ some. let c = some_credentials (renewal_due (link_of b n)) some in absurd (not_both (is_held_back b (link_of b n)) free (rests.written.moved.begun.renewed (b.story n).link c.0 c.1)))
+    (λ some. let c = some_credentials (renewal_due (link_of b n)) some in held_where_moved b (b.story n).link rests.written.moved.moved (rests.written.moved.begun.renewed (b.story n).link c.0 c.1))
     (λ none.
     let no_more : renewals_in_line (link_of b n) ≡ 0 = left_if (is_some (renewal_due (link_of b n))) 1 0 none in
     let line : line_before (permits_in b.config) b.story (b.story n).link n ≡ 0 = none_in_line b n n rests s free no_more sized (omega arith) in
