@@ -20,7 +20,7 @@ queue_unread s before [] = refl
 queue_unread s before (q ∷ qs) =
     chosen (holds_back s.link) (with_queue s (q ∷ qs)) (started_each (with_queue (started_one s q) before) qs) (started_each (started_one s q) qs) (queue_unread (started_one s q) before qs)
 
-free_one : (s : Starting) (q : Queued) (qs : List Queued) (held : Bool) → holds_back s.link ≡ held → held ≡ false → started_each s (q ∷ qs) ≡ started_each (started_one s q) qs
+pub free_one : (s : Starting) (q : Queued) (qs : List Queued) (held : Bool) → holds_back s.link ≡ held → held ≡ false → started_each s (q ∷ qs) ≡ started_each (started_one s q) qs
 free_one s q qs true is e = cc
 free_one s q qs false is e = rw is refl
 

@@ -1,5 +1,5 @@
 -- One link as plain data, and what each call does to it.
-use Rattle.std.specs.Prelude.{ℕ, ◌+◌, ◌^◌, nat_lt, nat_le, Bool, false, ◌&&◌, List, [], ◌∷◌, ◌++◌, length, Option, Some, None, if◌then◌else◌}
+use Rattle.std.specs.Prelude.{ℕ, ◌+◌, ◌^◌, nat_lt, nat_le, Bool, false, ◌&&◌, ◌||◌, not, List, [], ◌∷◌, ◌++◌, length, Option, Some, None, if◌then◌else◌}
 use Rattle.resp_read.specs.Values.{values, left_over, is_spoiled}
 use Rattle.driver_model.specs.Shape.{need_of}
 use Rattle.driver_model.specs.declared.news.LinkFault.{LinkFault}
@@ -59,6 +59,16 @@ abbrev pub first_in : List Queued → Option ℕ
 first_in [] = None
 first_in (q ∷ qs) = Some q.id
 
+-- who is the last of those behind it
+abbrev pub last_behind : ℕ → List Queued → ℕ
+last_behind id [] = id
+last_behind id (q ∷ qs) = last_behind q.id qs
+
+-- who is the last of a queue
+abbrev pub last_in : List Queued → Option ℕ
+last_in [] = None
+last_in (q ∷ qs) = Some (last_behind q.id qs)
+
 -- a message takes the last place of the queue
 abbrev pub enqueued : LinkState → Queued → LinkState
 enqueued s q = record s { queue = s.queue ++ q ∷ [] }
@@ -102,6 +112,26 @@ started_each s (q ∷ qs) =
 
 abbrev pub started_all : Starting → Starting
 started_all s = started_each s s.link.queue
+
+-- a message has a number up to this one: none has where there is none
+abbrev pub is_up_to : Option ℕ → ℕ → Bool
+is_up_to None id = false
+is_up_to (Some last) id = nat_le id last
+
+-- the first of a queue has one, if there is a first
+abbrev pub is_first_up_to : Option ℕ → List Queued → Bool
+is_first_up_to last [] = false
+is_first_up_to last (q ∷ qs) = is_up_to last q.id
+
+-- they start in the order of the queue, as long as they have a number up to this one, and nothing holds them back
+abbrev pub started_to_each : Option ℕ → Starting → List Queued → Starting
+started_to_each last s [] = record s { link = record s.link { queue = [] } }
+started_to_each last s (q ∷ qs) =
+    if holds_back s.link || not (is_up_to last q.id) then record s { link = record s.link { queue = q ∷ qs } }
+    else started_to_each last (started_one s q) qs
+
+abbrev pub started_to : Option ℕ → Starting → Starting
+started_to last s = started_to_each last s s.link.queue
 
 -- the number 2^32 - 1 was given to a message
 abbrev pub is_spent : LinkState → Bool

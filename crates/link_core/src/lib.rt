@@ -9,6 +9,7 @@ mod msg_reading;
 mod outbox;
 mod row;
 mod spare;
+mod starts;
 
 pub use driver_model::{LinkFault, PushInfo};
 pub use errors::{EnqueueError, StartError};

@@ -1,13 +1,12 @@
 ghost use Rattle.std.specs.Prelude.{◌≡◌, ◌≢◌, ◌<◌, ◌≤◌, true, false, [], ◌++◌, length, take};
 ghost use Rattle.std.specs.Prelude.{if◌then◌else◌, OnOk, OnErr, IfOk, IsErr, IsErrOf, ◌↔◌, not};
-ghost use Rattle.link_core.specs.Link.{holds_back};
 ghost use Rattle.link_core.specs.Waiting.{without, is_wanted};
 ghost use Rattle.link_core.specs.Ends.{queue_closed};
 ghost use Rattle.link_core.specs.Link.{pushes_among};
 
 use crate::dealing::{read_piece, take_into};
-use crate::errors::{EnqueueError, StartError};
-use crate::message::{NoticeAt, PushAt, Queued, Settled, Started};
+use crate::errors::EnqueueError;
+use crate::message::{NoticeAt, PushAt, Queued, Settled};
 use crate::outbox::Outbox;
 use crate::row::{Row, fail};
 use crate::spare::{Rest, Spare};
@@ -24,16 +23,16 @@ use std::sync::ledger::Blank;
 /// message that takes more.
 pub struct LinkCore {
     size: u32,
-    boundary: u64,
-    queue: Queue<Queued>,
-    row: Row,
-    started: u32,
-    outbox: Outbox,
+    pub(crate) boundary: u64,
+    pub(crate) queue: Queue<Queued>,
+    pub(crate) row: Row,
+    pub(crate) started: u32,
+    pub(crate) outbox: Outbox,
     reader: Reader,
     /// The list into which values are read.
     came: Spare<Value>,
     broken: bool,
-    failed: bool,
+    pub(crate) failed: bool,
 }
 
 impl Drop for LinkCore {
@@ -86,9 +85,7 @@ impl Model for LinkCore {
 
 impl LinkCore {
     ghost use Rattle.link_core.specs.Link.{fresh, is_full, is_full_beside, first_in, enqueued};
-    ghost use Rattle.link_core.specs.Link.{starting_with};
-    ghost use Rattle.link_core.specs.Link.{started_all};
-    ghost use Rattle.link_core.specs.Link.{begun, start_of, started_one, is_spent, offered_of, wrote_of, cancelled};
+    ghost use Rattle.link_core.specs.Link.{last_in, offered_of, wrote_of, cancelled};
     ghost use Rattle.link_core.specs.Link.{settling_with, closed_all, faulted};
     ghost use Rattle.link_core.specs.Link.{piece_read, came_all};
     ghost use Rattle.link_core.specs.Dealing.{is_awaiting};
@@ -212,6 +209,16 @@ impl LinkCore {
         Some(self.queue.at(0).id)
     }
 
+    /// The message that starts last of those that are in the queue, if one is.
+    pub fn last_queued(&self) -> Option<u64>
+        ensures { result ≡ last_in self.now.queue }
+    {
+        if self.queue.is_empty() {
+            return None;
+        }
+        Some(self.queue.at(self.queue.len() - 1).id)
+    }
+
     /// The place is taken first, so that the bytes are left where memory is refused.
     #[tactic(auto, using(crate::proofs::StartLemmas::last_set))]
     fn try_enqueue(
@@ -250,150 +257,6 @@ impl LinkCore {
             },
         );
         Ok(())
-    }
-
-    /// Starts messages in the order of the queue, as long as nothing holds them back, and appends the starts to `out`.
-    /// After an error `out` is as it was, and the link has failed.
-    pub fn start_ready(&mut self, alloc: Global, out: &mut Vec<Started>) -> Result<(), StartError>
-        ensures ok { OnOk result (
-            starting_with self.new out.new.items
-            ≡ started_all (starting_with self.old out.old.items)
-            ) }
-        ensures err { OnErr result (out.new.items ≡ out.old.items) }
-        ensures spent { IsErrOf result StartError.Spent
-            → is_spent (started_all (starting_with self.old out.old.items)).link ≡ true }
-        ensures unspent { OnOk result (is_spent self.new ≡ false) }
-        ensures no_memory { OnErr result (self.new.failed ≡ true) }
-        ensures failed { self.old.failed ≡ true → IsErrOf result StartError.NoMemory }
-    {
-        if self.failed {
-            return Err(StartError::NoMemory);
-        }
-        let before = out.len();
-        match self.start_each(alloc, out) {
-            Ok(()) => Ok(()),
-            Err(error) => {
-                self.failed = true;
-                out.truncate(before);
-                Err(error)
-            }
-        }
-    }
-
-    /// A message starts at once, before all that wait in the queue. `id` names it: no other message of this link that takes
-    /// items has it. Its verdict is wanted. After an error the link has failed.
-    pub fn start_first(
-        &mut self,
-        alloc: Global,
-        id: u64,
-        packed: Bytes,
-        shape: Shape,
-    ) -> Result<Started, StartError>
-        ensures ok { OnOk result (
-            self.new ≡ begun self.old
-            (record { id = id; packed = packed; shape = shape; awaited = true })
-            ) }
-        ensures start { IfOk result (λ start.
-            start ≡ start_of self.old.started
-            (record { id = id; packed = packed; shape = shape; awaited = true })
-            ) }
-        ensures spent { IsErrOf result StartError.Spent
-            → is_spent (begun self.old
-            (record { id = id; packed = packed; shape = shape; awaited = true })) ≡ true }
-        ensures unspent { OnOk result (is_spent self.new ≡ false) }
-        ensures no_memory { OnErr result (self.new.failed ≡ true) }
-        ensures failed { self.old.failed ≡ true → IsErrOf result StartError.NoMemory }
-    {
-        if self.failed {
-            return Err(StartError::NoMemory);
-        }
-        let message = Queued {
-            id,
-            packed,
-            shape,
-            awaited: true,
-        };
-        match self.begin(alloc, message) {
-            Ok(start) => Ok(start),
-            Err(error) => {
-                self.failed = true;
-                Err(error)
-            }
-        }
-    }
-
-    /// Whether no message starts: bytes are unwritten, and as many as the boundary.
-    pub fn is_held_back(&self) -> bool
-        ensures { result ≡ holds_back self.now }
-    {
-        let unwritten = self.outbox.unwritten.len() as u64;
-        unwritten > 0 && unwritten >= self.boundary
-    }
-
-    fn start_each(&mut self, alloc: Global, out: &mut Vec<Started>) -> Result<(), StartError>
-        ensures ok { OnOk result (
-            starting_with self.new out.new.items
-            ≡ started_all (starting_with self.old out.old.items)
-            ) }
-        ensures err { OnErr result (take (length out.old.items) out.new.items ≡ out.old.items) }
-        ensures spent { IsErrOf result StartError.Spent
-            → is_spent (started_all (starting_with self.old out.old.items)).link ≡ true }
-    {
-        'starts: while !self.is_held_back() {
-            match self.queue.pop_front() {
-                Some(message) => match self.start_one(alloc, message, out) {
-                    Ok(()) => {}
-                    Err(error) => return Err(error),
-                },
-                None => return Ok(()),
-            }
-        }
-        Ok(())
-    }
-
-    fn start_one(
-        &mut self,
-        alloc: Global,
-        message: Queued,
-        out: &mut Vec<Started>,
-    ) -> Result<(), StartError>
-        ensures ok { OnOk result (
-            starting_with self.new out.new.items
-            ≡ started_one (starting_with self.old out.old.items) message
-            ) }
-        ensures err { OnErr result (out.new.items ≡ out.old.items) }
-        ensures spent { IsErrOf result StartError.Spent
-            → is_spent (started_one (starting_with self.old out.old.items) message).link
-            ≡ true }
-    {
-        let start = match self.begin(alloc, message) {
-            Ok(start) => start,
-            Err(error) => return Err(error),
-        };
-        out.push(start).map_err(AllocError::from)?;
-        Ok(())
-    }
-
-    /// A message takes the next number, and takes items behind the others.
-    fn begin(&mut self, alloc: Global, message: Queued) -> Result<Started, StartError>
-        ensures ok { OnOk result (self.new ≡ begun self.old message) }
-        ensures start { IfOk result (λ start. start ≡ start_of self.old.started message) }
-        ensures spent { IsErrOf result StartError.Spent → is_spent (begun self.old message) ≡ true }
-    {
-        if self.started == u32::MAX {
-            return Err(StartError::Spent);
-        }
-        let len = message.packed.len() as u64;
-        self.outbox.add(message.packed.as_slice())?;
-        self.row.start(alloc, &message)?;
-        let start = Started {
-            msg: self.started,
-            id: message.id,
-            need: message.shape.need(),
-            len,
-        };
-        self.started += 1;
-        Ok(start)
     }
 
     /// Whether there were unwritten bytes and no unanswered offer. Then all of them are appended to `out`, and offered.
