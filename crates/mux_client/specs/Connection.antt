@@ -12,6 +12,7 @@ use Rattle.driver_model.specs.Config.{room_fault}
 use Rattle.driver_model.specs.declared.hearing.Hearing.{Hearing}
 use Rattle.driver_model.specs.declared.hearing.Hearing.TheVariants as hearing
 use Rattle.driver_model.specs.declared.outcome.Outcome.{Outcome}
+use Rattle.mux_conn.specs.declared.connection.MultiplexedConnection.{MultiplexedConnection as Core}
 use Rattle.mux_conn.specs.Renewals.{no_renewal}
 use Rattle.mux_conn.specs.Turn.{dialing}
 use Rattle.mux_client.specs.declared.connection.MultiplexedConnection.{MultiplexedConnection}
@@ -48,11 +49,15 @@ attached info link hears_what = record {
   early = [];
 }
 
+-- a connection by this configuration, whose connect isn't answered, as its link has it
+abbrev pub core_of : RedisConnectionInfo → AsyncConnectionConfig → Core
+core_of info c = dialing c.pipeline_buffer_size c.write_backpressure_boundary c.concurrency_limit (heard_by c.push_sender) info (no_renewal c.credentials_provider c.response_timeout)
+
 -- a connection whose connect isn't answered, without requests
 abbrev pub opened : RedisConnectionInfo → ℕ → AsyncConnectionConfig → MultiplexedConnection
 opened info link c = record {
   link = link;
-  core = dialing c.pipeline_buffer_size c.write_backpressure_boundary c.concurrency_limit (heard_by c.push_sender) info (no_renewal c.credentials_provider c.response_timeout);
+  core = core_of info c;
   timeout = c.response_timeout;
   outcomes = [];
   early = connect_timer c.connection_timeout;

@@ -1,7 +1,7 @@
 ghost use Rattle.std.specs.Prelude.{◌≡◌, Some, None, OnOk, IfOk, IfErr};
 ghost use Rattle.std.specs.Prelude.{option_copied, IsTrue, ◌↔◌};
 ghost use Rattle.mux_client.specs.Connection.{opened, attached, heard_by, fault_of, outcome_of};
-ghost use Rattle.mux_client.specs.Connection.{connect_timer, RefusesConnection};
+ghost use Rattle.mux_client.specs.Connection.{core_of, connect_timer, RefusesConnection};
 ghost use Rattle.mux_client.specs.Calls.{cancelled};
 ghost use Rattle.mux_conn.specs.Connection.{is_ready};
 ghost use Rattle.mux_conn.specs.Effects.{CanTake};
@@ -73,6 +73,27 @@ fn heard_by(pushes: bool) -> Hearing
     }
 }
 
+/// A connection by this configuration, whose connect isn't answered, as its link has it.
+fn core_of(
+    alloc: Global,
+    info: &RedisConnectionInfo,
+    config: &AsyncConnectionConfig,
+) -> Result<Core, AllocError>
+    ensures { IfOk result (λ c. c ≡ core_of info.now config.now) }
+{
+    let told = info.clone(alloc)?;
+    let renewal = Renewal::new(alloc, config.credentials_provider, config.response_timeout);
+    Core::new(
+        alloc,
+        config.pipeline_buffer_size,
+        config.write_backpressure_boundary,
+        config.concurrency_limit,
+        heard_by(config.push_sender),
+        told,
+        renewal,
+    )
+}
+
 /// The timer of a connect that is bounded.
 fn timer(alloc: Global, timeout: Option<u64>) -> Result<Seq<ConnectionAct>, AllocError>
     ensures { IfOk result (λ acts. acts ≡ connect_timer timeout) }
@@ -120,18 +141,8 @@ impl MultiplexedConnection {
         if let Some(name) = fault(info, config) {
             return Err(OpenError::Config(name));
         }
-        let told = info.clone(alloc)?;
         let early = timer(alloc, config.connection_timeout)?;
-        let renewal = Renewal::new(alloc, config.credentials_provider, config.response_timeout);
-        let core = Core::new(
-            alloc,
-            config.pipeline_buffer_size,
-            config.write_backpressure_boundary,
-            config.concurrency_limit,
-            heard_by(config.push_sender),
-            told,
-            renewal,
-        )?;
+        let core = core_of(alloc, info, config)?;
         Ok(MultiplexedConnection {
             link,
             core,

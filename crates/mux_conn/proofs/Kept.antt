@@ -5,7 +5,7 @@ use Rattle.driver_model.specs.declared.action.WaitKind.{WaitKind}
 use Rattle.driver_model.specs.declared.outcome.Outcome.{Outcome}
 use Rattle.driver_model.specs.declared.outcome.Outcome.TheVariants as outcome
 use Rattle.link_core.specs.declared.message.Started.{Started}
-use Rattle.link_core.specs.Link.{started_all}
+use Rattle.link_core.specs.Link.{started_all, started_to}
 use Rattle.link_core.specs.Outbox.{can_offer}
 use Rattle.mux_conn.specs.declared.connection.MultiplexedConnection.{MultiplexedConnection}
 use Rattle.mux_conn.specs.declared.life.Greeting.{Greeting}
@@ -14,8 +14,10 @@ use Rattle.mux_conn.specs.declared.life.Life.TheVariants.{Resting, Dialing, Want
 use Rattle.mux_conn.specs.declared.renewal.Renewal.{Renewal}
 use Rattle.mux_conn.specs.declared.request.Waiting.{Waiting}
 use Rattle.mux_conn.specs.Connection.{Work, with_link, with_setup, is_serving, admits_none, has_room}
+use Rattle.mux_conn.specs.Renewals.{started_ahead, started_ahead_at}
 use Rattle.mux_conn.specs.Requests.{is_open_at, is_waiting_at, is_unbegun_at, is_admitted_at, answered}
-use Rattle.mux_conn.specs.Passes.{shown_each, greeted_each, started, started_at, placed_at, told_at_place, seated, moved_up, moved_up_each, moved_up_all, still_admitted}
+use Rattle.mux_conn.specs.Starts.{shown_each}
+use Rattle.mux_conn.specs.Passes.{greeted_each, started, started_at, placed_at, told_at_place, seated, moved_up, moved_up_each, moved_up_all, still_admitted}
 use Rattle.mux_conn.specs.Passes.{permits_taken, took_shown, timer_asked, let_in, took, holding, put_behind, seated_or_behind, round_begun, rounds_of, rounds_begun, admitted_at, admitted, admitted_each, still_waiting, said, moved_all, passed}
 use Rattle.mux_conn.specs.Turn.{written, written_at, moved_wait, fresh_wait, wait_shown, moved_each_shown, fresh_each_shown, moved_shown, flushed}
 
@@ -50,6 +52,19 @@ started_kept_at w (Ready link) =
 
 started_kept : (w : Work) → renewal_of (started w) ≡ renewal_of w
 started_kept w = started_kept_at w w.conn.life
+
+ahead_kept_at : (w : Work) (life : Life) → renewal_of (started_ahead_at w life) ≡ renewal_of w
+ahead_kept_at w Resting = refl
+ahead_kept_at w Dialing = refl
+ahead_kept_at w (Wanting link) = refl
+ahead_kept_at w (Ended x) = refl
+ahead_kept_at w (SettingUp link greeting) = refl
+ahead_kept_at w (Ready link) =
+    let all = started_to w.conn.renewal.last (record { link = link; out = [] }) in
+    ap (λ (c : MultiplexedConnection). c.renewal) (shown_same (with_link w all.link) all.out)
+
+pub ahead_kept : (w : Work) → renewal_of (started_ahead w) ≡ renewal_of w
+ahead_kept w = ahead_kept_at w w.conn.life
 
 answered_kept : (w : Work) (p : ℕ) (o : Outcome) → renewal_of (answered w p o) ≡ renewal_of w
 answered_kept w p o = kept_either (is_open_at w.conn.requests p) (renewal_of w) _ w refl refl

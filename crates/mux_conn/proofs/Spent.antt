@@ -7,25 +7,27 @@ use Rattle.resp_value.specs.declared.value.Value.TheVariants.{Nil}
 use Rattle.driver_model.specs.declared.outcome.Outcome.{Outcome}
 use Rattle.driver_model.specs.declared.outcome.Outcome.TheVariants as outcome
 use Rattle.credentials.specs.Credentials.{Credentials}
-use Rattle.link_core.specs.Link.{LinkState, is_spent, holds_back, started_all}
+use Rattle.link_core.specs.Link.{LinkState, is_spent, holds_back, started_all, started_to}
 use Rattle.link_core.specs.Outbox.{can_offer}
 use Rattle.link_core.proofs.StartLemmas.{numbers_rise}
+use Rattle.link_core.proofs.BoundLemmas.{numbers_rise_to}
 use Rattle.mux_conn.specs.declared.connection.MultiplexedConnection.{MultiplexedConnection}
 use Rattle.mux_conn.specs.declared.life.Greeting.{Greeting}
 use Rattle.mux_conn.specs.declared.life.Life.{Life}
 use Rattle.mux_conn.specs.declared.life.Life.TheVariants.{Resting, Dialing, Wanting, SettingUp, Ready, Ended}
 use Rattle.mux_conn.specs.declared.renewal.Renewal.{Renewal}
 use Rattle.mux_conn.specs.declared.request.Waiting.{Waiting}
-use Rattle.mux_conn.specs.Connection.{Work, with_link, with_setup, is_ready, is_serving, is_due, admits_none, has_room, started_in, is_spent_in, runs_out, renewals_run_out, uses_up}
+use Rattle.mux_conn.specs.Connection.{Work, with_link, with_setup, is_ready, is_serving, is_due, admits_none, has_room, last_queued, started_in, is_spent_in, runs_out, renewals_run_out, uses_up}
 use Rattle.mux_conn.specs.Requests.{is_open_at, is_waiting_at, is_unbegun_at, is_admitted_at, answered}
 use Rattle.driver_model.specs.declared.action.WaitKind.{WaitKind}
 use Rattle.driver_model.specs.News.{News}
 use Rattle.mux_conn.specs.Effects.{applied}
-use Rattle.mux_conn.specs.Passes.{shown_each, greeted_each, started, started_at, placed_at, told_at_place, seated, moved_up, moved_up_each, moved_up_all, still_admitted}
+use Rattle.mux_conn.specs.Starts.{shown_each}
+use Rattle.mux_conn.specs.Passes.{greeted_each, started, started_at, placed_at, told_at_place, seated, moved_up, moved_up_each, moved_up_all, still_admitted}
 use Rattle.mux_conn.specs.Passes.{permits_taken, took, took_shown, timer_asked, let_in, holding, put_behind, seated_or_behind, round_begun, rounds_of, rounds_begun, admitted_at, admitted, admitted_each, admitted_all, still_waiting, said, moved_all, passed}
-use Rattle.mux_conn.specs.Renewals.{renewing, asked_next, renewal_timed, renewal_asked, renewal_moved, renewed}
+use Rattle.mux_conn.specs.Renewals.{renewing, asked_next, renewal_timed, renewal_asked, started_ahead, started_ahead_at, renewal_moved, renewal_told, renewed}
 use Rattle.mux_conn.specs.Repeats.{repeated}
-use Rattle.mux_conn.proofs.Kept.{shown_same, greeted_same, begun_kept, moved_kept, flushed_kept}
+use Rattle.mux_conn.proofs.Kept.{shown_same, greeted_same, ahead_kept, begun_kept, moved_kept, flushed_kept}
 use Rattle.mux_conn.specs.Turn.{written, written_at, moved_wait, fresh_wait, wait_shown, moved_each_shown, fresh_each_shown, moved_shown, fresh_shown, flushed, stepped}
 
 -- how many messages have started
@@ -218,7 +220,7 @@ renewal_timed_count w number (Some ms) = refl
 renewal_asked_count : (w : Work) → count (renewal_asked w) ≡ count w
 renewal_asked_count w =
     let r = w.conn.renewal in
-    count_either r.pending (count w) w (renewal_timed (renewing w (asked_next r)) r.asked r.within) refl (renewal_timed_count (renewing w (asked_next r)) r.asked r.within)
+    count_either r.pending (count w) w (renewal_timed (renewing w (asked_next r (last_queued w.conn.life))) r.asked r.within) refl (renewal_timed_count (renewing w (asked_next r (last_queued w.conn.life))) r.asked r.within)
 
 renewal_moved_rises : (w : Work) (life : Life) (cs : List Credentials) → w.conn.life ≡ life → count w ≤ count (renewal_moved w life cs)
 renewal_moved_rises w Resting cs e = le_refl (count w)
@@ -242,14 +244,85 @@ renewal_timed_life w number (Some ms) = refl
 renewal_asked_life : (w : Work) → (renewal_asked w).conn.life ≡ w.conn.life
 renewal_asked_life w =
     let r = w.conn.renewal in
-    life_either r.pending w.conn.life w (renewal_timed (renewing w (asked_next r)) r.asked r.within) refl (renewal_timed_life (renewing w (asked_next r)) r.asked r.within)
+    life_either r.pending w.conn.life w (renewal_timed (renewing w (asked_next r (last_queued w.conn.life))) r.asked r.within) refl (renewal_timed_life (renewing w (asked_next r (last_queued w.conn.life))) r.asked r.within)
+
+-- where the link is set up it still is behind the starts of those before them
+ready_ahead_at : (w : Work) (life : Life) → w.conn.life ≡ life → is_ready life ≡ true → is_ready (started_ahead_at w life).conn.life ≡ true
+ready_ahead_at w Resting e ready = ap is_ready e ∙ ready
+ready_ahead_at w Dialing e ready = ap is_ready e ∙ ready
+ready_ahead_at w (Wanting link) e ready = ap is_ready e ∙ ready
+ready_ahead_at w (SettingUp link greeting) e ready = ap is_ready e ∙ ready
+ready_ahead_at w (Ended x) e ready = ap is_ready e ∙ ready
+ready_ahead_at w (Ready link) e ready =
+    let all = started_to w.conn.renewal.last (record { link = link; out = [] }) in
+    ap (λ (c : MultiplexedConnection). is_ready c.life) (shown_same (with_link w all.link) all.out)
+
+pub ready_ahead : (w : Work) → is_ready w.conn.life ≡ true → is_ready (started_ahead (renewal_asked w)).conn.life ≡ true
+ready_ahead w ready =
+    let asked = renewal_asked w in
+    ready_ahead_at asked asked.conn.life refl (ap is_ready (renewal_asked_life w) ∙ ready)
+
+-- those starts give no smaller numbers
+ahead_rises_at : (w : Work) (life : Life) → w.conn.life ≡ life → count w ≤ count (started_ahead_at w life)
+ahead_rises_at w Resting e = le_refl (count w)
+ahead_rises_at w Dialing e = le_refl (count w)
+ahead_rises_at w (Wanting link) e = le_refl (count w)
+ahead_rises_at w (SettingUp link greeting) e = le_refl (count w)
+ahead_rises_at w (Ended x) e = le_refl (count w)
+ahead_rises_at w (Ready link) e =
+    let last = w.conn.renewal.last in
+    let all = started_to last (record { link = link; out = [] }) in
+    let same : count (shown_each (with_link w all.link) all.out) ≡ all.link.started = ap (λ (c : MultiplexedConnection). started_in c.life) (shown_same (with_link w all.link) all.out) in
+    let from : count w ≡ link.started = ap started_in e in
+    omega (arith, same, from, numbers_rise_to last (record { link = link; out = [] }) link.queue)
+
+ahead_rises : (w : Work) → count w ≤ count (started_ahead w)
+ahead_rises w = ahead_rises_at w w.conn.life refl
+
+-- a link whose starts before new credentials run out
+pub ahead_spent : (w : Work) (link : LinkState) → w.conn.life ≡ Ready link → is_spent (started_to w.conn.renewal.last (record { link = link; out = [] })).link ≡ true → is_spent_in (started_ahead w).conn.life ≡ true
+ahead_spent w link e h =
+    let all = started_to w.conn.renewal.last (record { link = link; out = [] }) in
+    let same : count (started_ahead w) ≡ all.link.started = ap (λ life. count (started_ahead_at w life)) e ∙ ap (λ (c : MultiplexedConnection). started_in c.life) (shown_same (with_link w all.link) all.out) in
+    ap (λ n. nat_le (2 ^ 32) n) same ∙ h
+
+-- how many were to be told so far stays where they are told
+asked_either : (b : Bool) (n : ℕ) (v w : Work) → v.conn.renewal.asked ≡ n → w.conn.renewal.asked ≡ n → (if b then v else w).conn.renewal.asked ≡ n
+asked_either true n v w h k = h
+asked_either false n v w h k = k
+
+told_asked : (w : Work) (life : Life) (cs : List Credentials) → (renewal_moved w life cs).conn.renewal.asked ≡ w.conn.renewal.asked
+told_asked w Resting cs = refl
+told_asked w Dialing cs = refl
+told_asked w (Wanting link) cs = refl
+told_asked w (SettingUp link greeting) cs = refl
+told_asked w (Ended x) cs = refl
+told_asked w (Ready link) [] = refl
+told_asked w (Ready link) (c ∷ cs) = asked_either (holds_back link) w.conn.renewal.asked w (renewal_told w link c cs) refl refl
+
+-- the first of them are told behind those before them
+abbrev told_behind : Work → Work
+told_behind w = let ahead = started_ahead (renewal_asked w) in renewal_moved ahead ahead.conn.life ahead.conn.renewal.waiting
+
+abbrev pub is_to_renew : Work → Bool
+is_to_renew w = is_ready w.conn.life && is_due w.conn.renewal
+
+told_rises : (w : Work) → count (started_ahead (renewal_asked w)) ≤ count (told_behind w)
+told_rises w = let ahead = started_ahead (renewal_asked w) in renewal_moved_rises ahead ahead.conn.life ahead.conn.renewal.waiting refl
 
 renewed_rises : (w : Work) → count w ≤ count (renewed w)
 renewed_rises w =
-    let asked = renewal_asked w in
     let same = renewal_asked_count w in
-    let more = renewal_moved_rises asked w.conn.life w.conn.renewal.waiting (renewal_asked_life w) in
-    rises_either (is_ready w.conn.life && is_due w.conn.renewal) (count w) (renewal_moved asked w.conn.life w.conn.renewal.waiting) w (omega (arith, same, more)) (le_refl (count w))
+    rises_either (is_to_renew w) (count w) (told_behind w) w (omega (arith, same, ahead_rises (renewal_asked w), told_rises w)) (le_refl (count w))
+
+-- what is used up when their timer is asked for is used up when they are told
+pub spent_asked : (w : Work) → is_to_renew w ≡ true → uses_up (renewal_asked w) ≡ true → uses_up (renewed w) ≡ true
+spent_asked w is h =
+    let asked = renewal_asked w in
+    let ahead = started_ahead asked in
+    subst (λ (x : Work). uses_up x ≡ true) (sym (taken_if (is_to_renew w) (told_behind w) w is))
+    (uses_more asked (told_behind w) (omega (arith, ahead_rises asked, told_rises w))
+    (told_asked ahead ahead.conn.life ahead.conn.renewal.waiting ∙ ap (λ (r : Renewal). r.asked) (ahead_kept asked)) h)
 
 -- what is used up when all is subscribed again is used up when the driver has said what it has to
 pub spent_repeated : (w : Work) → is_spent_in (repeated w).conn.life ≡ true → uses_up (said w) ≡ true

@@ -1,7 +1,7 @@
 -- A connection in the middle of a turn, and its life.
 use Rattle.std.specs.Prelude.{ℕ, ◌^◌, ◌==◌, nat_le, Bool, true, false, ◌&&◌, ◌||◌, not, List, [], ◌∷◌, ◌++◌, Option, None, Some, if◌then◌else◌}
 use Rattle.credentials.specs.Credentials.{Credentials}
-use Rattle.link_core.specs.Link.{LinkState, first_in, holds_back, is_full_beside}
+use Rattle.link_core.specs.Link.{LinkState, first_in, last_in, holds_back, is_full_beside}
 use Rattle.mux_conn.specs.declared.act.LinkAct.{LinkAct}
 use Rattle.mux_conn.specs.declared.again.Again.{Again}
 use Rattle.mux_conn.specs.declared.again.Again.TheVariants as again
@@ -127,11 +127,11 @@ are_some (c ∷ cs) = true
 abbrev pub is_due : Renewal → Bool
 is_due r = not (r.unanswered || r.lost) && are_some r.waiting
 
--- how many messages stand before the queue: new credentials do that are to be told
+-- how many messages count beside the queue: new credentials do that are to be told
 abbrev pub in_front : Renewal → ℕ
 in_front r = if is_due r then 1 else 0
 
--- it is up, and the queue holds less than its size, where so many messages are counted that stand before it
+-- it is up, and the queue holds less than its size, where so many messages are counted that are not in it
 abbrev pub has_room_at : Life → ℕ → Bool
 has_room_at Resting n = false
 has_room_at Dialing n = false
@@ -160,6 +160,15 @@ first_queued (Wanting link) = None
 first_queued (SettingUp link greeting) = None
 first_queued (Ready link) = first_in link.queue
 first_queued (Ended e) = None
+
+-- the request whose message starts last of those in the queue, where it is up and one is in the queue
+abbrev pub last_queued : Life → Option ℕ
+last_queued Resting = None
+last_queued Dialing = None
+last_queued (Wanting link) = None
+last_queued (SettingUp link greeting) = None
+last_queued (Ready link) = last_in link.queue
+last_queued (Ended e) = None
 
 -- how many messages of a link that is up have started
 abbrev pub started_in : Life → ℕ

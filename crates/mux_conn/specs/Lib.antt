@@ -1,5 +1,6 @@
 pub mod Connection
 pub mod Requests
+pub mod Starts
 pub mod Renewals
 pub mod Repeats
 pub mod Internal

@@ -21,14 +21,7 @@ use Rattle.mux_conn.specs.Connection.{Work, acted, with_link, with_setup, is_ser
 use Rattle.mux_conn.specs.Renewals.{renewed}
 use Rattle.mux_conn.specs.Repeats.{repeated}
 use Rattle.mux_conn.specs.Requests.{name_at, is_waiting_at, is_unbegun_at, is_admitted_at, with_permits, progressed, answered}
-
--- each start is shown
-abbrev pub shown_each : Work → List Started → Work
-shown_each w [] = w
-shown_each w (s ∷ ss) = shown_each (acted w (act.Start s.msg (name_at w.conn.requests s.id) s.need s.len)) ss
-
-abbrev pub starts_with : Work → Starting → Work
-starts_with w s = shown_each (with_link w s.link) s.out
+use Rattle.mux_conn.specs.Starts.{starts_with}
 
 -- what shows that a greeting starts
 abbrev pub greeting_act : Greeting → Started → LinkAct

@@ -7,18 +7,19 @@ use Rattle.driver_model.specs.declared.outcome.Verdict.{Verdict}
 use Rattle.driver_model.specs.declared.outcome.Verdict.TheVariants as verdict
 use Rattle.link_core.specs.declared.message.Queued.{Queued}
 use Rattle.link_core.specs.declared.message.Started.{Started}
-use Rattle.link_core.specs.Link.{LinkState, begun, holds_back, start_of}
+use Rattle.link_core.specs.Link.{LinkState, begun, holds_back, start_of, started_to}
 use Rattle.mux_conn.specs.declared.act.LinkAct.{LinkAct}
 use Rattle.mux_conn.specs.declared.act.LinkAct.TheVariants as act
 use Rattle.mux_conn.specs.declared.connection.MultiplexedConnection.{MultiplexedConnection}
 use Rattle.mux_conn.specs.declared.life.Life.{Life}
 use Rattle.mux_conn.specs.declared.life.Life.TheVariants.{Resting, Dialing, Wanting, SettingUp, Ready, Ended}
 use Rattle.mux_conn.specs.declared.renewal.Renewal.{Renewal}
-use Rattle.mux_conn.specs.Connection.{Work, acted, with_link, is_ready, is_due}
+use Rattle.mux_conn.specs.Connection.{Work, acted, with_link, is_ready, is_due, last_queued}
+use Rattle.mux_conn.specs.Starts.{starts_with}
 
 -- none came, where they are wanted or not, and are to be answered within so many milliseconds, if within any
 abbrev pub no_renewal : Bool → Option ℕ → Renewal
-no_renewal wanted within = record { wanted = wanted; within = within; waiting = []; asked = 0; pending = false; unanswered = false; over = false; lost = false }
+no_renewal wanted within = record { wanted = wanted; within = within; waiting = []; asked = 0; pending = false; last = None; unanswered = false; over = false; lost = false }
 
 -- this is now true of the new credentials
 abbrev pub with_renewal : MultiplexedConnection → Renewal → MultiplexedConnection
@@ -73,9 +74,9 @@ is_unanswered r k = (k + 1 == r.asked) && (r.unanswered || r.pending)
 abbrev pub late_for : MultiplexedConnection → ℕ → MultiplexedConnection
 late_for c k = if is_unanswered c.renewal k then with_renewal c (record c.renewal { lost = true }) else c
 
--- some more are to be told
-abbrev pub asked_next : Renewal → Renewal
-asked_next r = record r { asked = r.asked + 1; pending = true }
+-- some more are to be told, behind the requests up to this one, if there is one
+abbrev pub asked_next : Renewal → Option ℕ → Renewal
+asked_next r last = record r { asked = r.asked + 1; pending = true; last = last }
 
 -- they are told, and these wait
 abbrev pub told_next : Renewal → List Credentials → Renewal
@@ -86,11 +87,11 @@ abbrev pub renewal_timed : Work → ℕ → Option ℕ → Work
 renewal_timed w number None = w
 renewal_timed w number (Some ms) = acted w (act.RenewalTimer number ms)
 
--- so it is for those that are next, once
+-- so it is for those that are next, once. The requests that are in the queue then start before them
 abbrev pub renewal_asked : Work → Work
 renewal_asked w =
     let r = w.conn.renewal in
-    if r.pending then w else renewal_timed (renewing w (asked_next r)) r.asked r.within
+    if r.pending then w else renewal_timed (renewing w (asked_next r (last_queued w.conn.life))) r.asked r.within
 
 -- a message starts at once on a link that is set up
 abbrev pub begun_in : Life → Queued → Life
@@ -105,7 +106,19 @@ begun_in (Ended e) q = Ended e
 abbrev pub renewal_act : Started → LinkAct
 renewal_act s = act.Renewed s.msg s.need s.len
 
--- these are told, and the others wait: their message starts before those in the queue
+-- those that took their places before them start as far as they can
+abbrev pub started_ahead_at : Work → Life → Work
+started_ahead_at w (Ready link) = starts_with w (started_to w.conn.renewal.last (record { link = link; out = [] }))
+started_ahead_at w Resting = w
+started_ahead_at w Dialing = w
+started_ahead_at w (Wanting link) = w
+started_ahead_at w (SettingUp link greeting) = w
+started_ahead_at w (Ended e) = w
+
+abbrev pub started_ahead : Work → Work
+started_ahead w = started_ahead_at w w.conn.life
+
+-- these are told, and the others wait: their message starts before those that are left in the queue
 abbrev pub renewal_told : Work → LinkState → Credentials → List Credentials → Work
 renewal_told w link c cs =
     let q = renewal_queued c in
@@ -121,8 +134,9 @@ renewal_moved w (Wanting link) cs = w
 renewal_moved w (SettingUp link greeting) cs = w
 renewal_moved w (Ended e) cs = w
 
--- the new credentials that are next are told, where the link is set up
+-- the new credentials that are next are told, where the link is set up, behind those that took their places before them
 abbrev pub renewed : Work → Work
 renewed w =
+    let ahead = started_ahead (renewal_asked w) in
     if is_ready w.conn.life && is_due w.conn.renewal
-    then renewal_moved (renewal_asked w) w.conn.life w.conn.renewal.waiting else w
+    then renewal_moved ahead ahead.conn.life ahead.conn.renewal.waiting else w

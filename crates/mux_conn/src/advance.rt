@@ -17,10 +17,11 @@ use std::alloc::{AllocError, Global};
 
 impl MultiplexedConnection {
     ghost use Rattle.mux_conn.specs.Connection.{work_with, runs_out, is_setting_up};
-    ghost use Rattle.mux_conn.specs.Passes.{shown_each, greeted_each, started};
+    ghost use Rattle.mux_conn.specs.Passes.{greeted_each, started};
+    ghost use Rattle.mux_conn.specs.Starts.{shown_each};
 
     /// Each start is shown, and the room of their list is kept.
-    fn show_starts(
+    pub(crate) fn show_starts(
         &mut self,
         starts: Vec<Started>,
         out: &mut Vec<LinkAct>,

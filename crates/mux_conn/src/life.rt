@@ -35,7 +35,7 @@ impl Life {
     ghost use Rattle.std.specs.Prelude.{◌≡◌};
     ghost use Rattle.mux_conn.specs.Connection.{is_resting, awaits_connect, awaits_credentials, is_setting_up};
     ghost use Rattle.mux_conn.specs.Connection.{is_ready, admits_none_at, has_room_at, is_held_back};
-    ghost use Rattle.mux_conn.specs.Connection.{first_queued};
+    ghost use Rattle.mux_conn.specs.Connection.{first_queued, last_queued};
     ghost use Rattle.mux_conn.specs.Turn.{early_wait};
 
     /// Whether there is no link, and none is asked for.
@@ -141,7 +141,7 @@ impl Life {
         }
     }
 
-    /// Whether it is up, and the queue holds less than its size, where so many messages are counted that stand before it.
+    /// Whether it is up, and the queue holds less than its size, where so many messages are counted that are not in it.
     pub fn has_room(&self, in_front: u32) -> bool
         ensures { result ≡ has_room_at self.now in_front }
     {
@@ -188,6 +188,23 @@ impl Life {
                 greeting: _,
             } => None,
             Life::Ready { link } => link.first_queued(),
+            Life::Ended { error: _ } => None,
+        }
+    }
+
+    /// The request whose message starts last of those in the queue, where it is up and one is in the queue.
+    pub fn last_queued(&self) -> Option<u64>
+        ensures { result ≡ last_queued self.now }
+    {
+        match self {
+            Life::Resting => None,
+            Life::Dialing => None,
+            Life::Wanting { link: _ } => None,
+            Life::SettingUp {
+                link: _,
+                greeting: _,
+            } => None,
+            Life::Ready { link } => link.last_queued(),
             Life::Ended { error: _ } => None,
         }
     }

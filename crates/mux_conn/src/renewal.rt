@@ -1,5 +1,6 @@
 ghost use Rattle.std.specs.Prelude.{◌≡◌, ◌++◌, ◌∷◌, [], length, true, OnOk, IfOk, IsErrOf};
 ghost use Rattle.mux_conn.specs.Renewals.{renewal_id, renewal_act, is_done};
+ghost use Rattle.link_core.specs.Link.{is_spent, starting_with, started_to};
 
 use crate::act::{LinkAct, show};
 use crate::again::repeat_id;
@@ -9,11 +10,11 @@ use crate::life::Life;
 use containers::Queue;
 use credentials::{BasicAuth, auth_message};
 use driver_model::{Shape, Verdict};
-use link_core::{Settled, StartError, Started};
+use link_core::{LinkCore, Settled, StartError, Started};
 use std::alloc::{AllocError, Global};
 
 /// The credentials of a connection that come of sources. The first are for its setup, and the others are new ones, which are
-/// told to the server one after another, each before all requests that have not started.
+/// told to the server one after another, each behind the requests that took their places before it.
 #[derive(Drop)]
 pub struct Renewal {
     /// Whether credentials come of sources.
@@ -26,6 +27,9 @@ pub struct Renewal {
     pub asked: u32,
     /// Whether the last of these aren't told, since the link is held back.
     pub pending: bool,
+    /// The last request that was in the queue when the last of these were to be told, if one was: those up to it start before
+    /// them.
+    pub last: Option<u64>,
     /// Whether the last that were told aren't answered.
     pub unanswered: bool,
     /// Whether no more of them come.
@@ -49,6 +53,7 @@ impl Renewal {
             waiting: Queue::new(alloc),
             asked: 0,
             pending: false,
+            last: None,
             unanswered: false,
             over: false,
             lost: false,
@@ -84,7 +89,7 @@ impl Renewal {
         !(self.unanswered || self.lost) && !self.waiting.is_empty()
     }
 
-    /// How many messages stand before the queue: new credentials do that are to be told.
+    /// How many messages count beside the queue: new credentials do that are to be told.
     pub fn in_front(&self) -> u32
         ensures { result ≡ in_front self.now }
     {
@@ -195,7 +200,7 @@ impl MultiplexedConnection {
     ghost use Rattle.link_core.specs.Link.{start_of};
     ghost use Rattle.mux_conn.specs.Connection.{work_with, is_ready, started_in, is_spent_in, runs_out};
     ghost use Rattle.mux_conn.specs.Connection.{uses_up};
-    ghost use Rattle.mux_conn.specs.Renewals.{renewal_timed, renewal_asked, renewal_moved};
+    ghost use Rattle.mux_conn.specs.Renewals.{renewal_timed, renewal_asked, started_ahead, renewal_moved};
     ghost use Rattle.mux_conn.specs.Renewals.{renewal_queued, renewed};
     ghost use Rattle.mux_conn.specs.Renewals.{begun_in};
 
@@ -231,12 +236,13 @@ impl MultiplexedConnection {
         }
         self.renewal.asked = number + 1;
         self.renewal.pending = true;
+        self.renewal.last = self.life.last_queued();
         self.time_renewal(number, out)?;
         Ok(())
     }
 
-    /// The new credentials that are next are told, where the link is set up, once those before them were answered. On a link
-    /// that is held back they wait, before all requests.
+    /// The new credentials that are next are told, where the link is set up, once those before them were answered, and the
+    /// requests have started that were in the queue before them. On a link that is held back they wait.
     pub(crate) fn renew(
         &mut self,
         alloc: Global,
@@ -257,10 +263,47 @@ impl MultiplexedConnection {
             Ok(()) => {}
             Err(error) => return Err(error),
         }
+        match self.start_ahead(alloc, out) {
+            Ok(()) => {}
+            Err(error) => return Err(error),
+        }
         self.tell_renewal(alloc, out)
     }
 
-    /// They are told, unless the link is held back: their message starts before those in the queue.
+    /// Of the requests in the queue those start, as far as they can, that took their places before the new credentials that are
+    /// to be told.
+    fn start_ahead(&mut self, alloc: Global, out: &mut Vec<LinkAct>) -> Result<(), ConnectionError>
+        ensures work { OnOk result (
+            work_with self.new out.new.items ≡ started_ahead (work_with self.old out.old.items)
+            ) }
+        ensures spent { IsErrOf result ConnectionError.Spent
+            → runs_out (started_ahead (work_with self.old out.old.items)) ≡ true }
+        ensures count { length self.new.requests ≡ length self.old.requests }
+        ensures failure { self.new.failure ≡ self.old.failure }
+    {
+        let last = self.renewal.last;
+        let link = match &mut self.life {
+            Life::Ready { link } => link,
+            Life::SettingUp {
+                link: _,
+                greeting: _,
+            } => return Ok(()),
+            Life::Resting => return Ok(()),
+            Life::Dialing => return Ok(()),
+            Life::Wanting { link: _ } => return Ok(()),
+            Life::Ended { error: _ } => return Ok(()),
+        };
+        let mut starts = self.starts.take(alloc);
+        let ready = start_ready_to(alloc, link, last, &mut starts);
+        match ready {
+            Ok(()) => {}
+            Err(error) => return Err(error),
+        }
+        self.show_starts(starts, out)?;
+        Ok(())
+    }
+
+    /// They are told, unless the link is held back: their message starts before those that are left in the queue.
     fn tell_renewal(&mut self, alloc: Global, out: &mut Vec<LinkAct>) -> Result<(), ConnectionError>
         requires { is_ready self.old.life ≡ true }
         ensures work { OnOk result (
@@ -323,6 +366,27 @@ impl MultiplexedConnection {
             Err(StartError::Spent) => Err(ConnectionError::Spent),
             Err(StartError::NoMemory) => Err(ConnectionError::NoMemory),
         }
+    }
+}
+
+/// Starts what may start on a link, up to the message of this number.
+fn start_ready_to(
+    alloc: Global,
+    link: &mut LinkCore,
+    last: Option<u64>,
+    starts: &mut Vec<Started>,
+) -> Result<(), ConnectionError>
+    ensures ok { OnOk result (
+        starting_with link.new starts.new.items
+        ≡ started_to last (starting_with link.old starts.old.items)
+        ) }
+    ensures spent { IsErrOf result ConnectionError.Spent
+        → is_spent (started_to last (starting_with link.old starts.old.items)).link ≡ true }
+{
+    match link.start_ready_to(alloc, last, starts) {
+        Ok(()) => Ok(()),
+        Err(StartError::Spent) => Err(ConnectionError::Spent),
+        Err(StartError::NoMemory) => Err(ConnectionError::NoMemory),
     }
 }
 

@@ -1,5 +1,5 @@
 use Rattle.std.proofs.Common.{◌≡◌, length}
-use Rattle.mux_conn.specs.Passes.{shown_each}
+use Rattle.mux_conn.specs.Starts.{shown_each}
 use Rattle.mux_conn.proofs.connection.MultiplexedConnection.show_starts.Given as goal
 
 abbrev pub invariant-loop-start : goal.invariant-loop-start
