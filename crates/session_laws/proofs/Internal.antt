@@ -12,6 +12,7 @@ pub mod Held
 pub mod Renewed
 pub mod RepeatOver
 pub mod Renews
+pub mod Ahead
 pub mod RepeatsTold
 pub mod SaysAlone
 pub mod Served

@@ -11,8 +11,12 @@ pub mod Owes
 pub mod Kept
 pub mod Moves
 pub mod Ahead
+pub mod Places
+pub mod Ordered
 pub mod More
 pub mod New
 pub mod Past
+pub mod Credentials
 pub mod Grown
+pub mod Seats
 pub mod Outcomes

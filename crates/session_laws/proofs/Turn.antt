@@ -3,3 +3,6 @@ pub mod Heard
 pub mod Effects
 pub mod Legality
 pub mod Opening
+pub mod Ordered
+pub mod Adds
+pub mod Ends

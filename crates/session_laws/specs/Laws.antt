@@ -1,12 +1,13 @@
 -- The laws of sessions, each as one statement.
 use Rattle.std.specs.Prelude.{◌≡◌, ℕ, false, true, List, [], ◌∷◌, ◌++◌}
+use Rattle.driver_model.specs.declared.action.Cause.TheVariants as cause
 use Rattle.driver_model.specs.declared.config.Config.{Config}
 use Rattle.driver_model.specs.declared.event.Event.{Event}
 use Rattle.shared_session.specs.Replay.{IsSound, trace_of, outcomes_in, outcome_at}
 use Rattle.shared_session.specs.Replay.{AreGood, AreUnspent, is_bad_after, is_spent_after}
-use Rattle.legal_trace.specs.Book.{Book, book}
+use Rattle.legal_trace.specs.Book.{Book, blank_book, book}
 use Rattle.legal_trace.specs.Events.{is_bad_event, HasRunOut}
-use Rattle.legal_trace.specs.Legal.{Legal}
+use Rattle.legal_trace.specs.Legal.{AllStand, Legal, causes, event_causes}
 use Rattle.session_laws.specs.Outcomes.{last_outcome}
 
 -- the book of the trace of a history
@@ -33,6 +34,18 @@ OutcomesByTheBook =
     → AreGood config word events → AreUnspent config word events
     → outcome_at (outcomes_in (trace_of config word events)) n
     ≡ last_outcome ((book_of config word events).story n).outcomes
+
+-- the trace of a history has a turn for each event, and its actions stand where they may
+pub record AreTurnsOf (config : Config) (word : ℕ) (events : List Event) : Type 0 where
+  pub turns : causes (trace_of config word events) ≡ cause.Opening config word ∷ event_causes events
+  pub each : AllStand blank_book (trace_of config word events)
+
+-- so it is of such a history with one more good event, whose step may be spent
+abbrev pub SpentStands : Type 0
+SpentStands =
+    (config : Config) (word : ℕ) (events : List Event) (e : Event) → IsSound config
+    → AreGood config word events → AreUnspent config word events
+    → is_bad_after config word events e ≡ false → AreTurnsOf config word (events ++ e ∷ [])
 
 -- by the end of the turn of a step that is spent, numbers of a sort have run out
 abbrev pub SpentHasRunOut : Type 0

@@ -2,7 +2,7 @@
 #![tactic(auto)]
 
 ghost use Rattle.session_laws.specs.Laws.{ReplaysAreLegal, BadByTheBook, OutcomesByTheBook};
-ghost use Rattle.session_laws.specs.Laws.{SpentHasRunOut, RunOutIsSpent};
+ghost use Rattle.session_laws.specs.Laws.{SpentHasRunOut, RunOutIsSpent, SpentStands};
 
 /// Does nothing. Its contract: the trace of each history without a bad event, in which no step is
 /// spent, is legal, where nothing of the configuration is refused.
@@ -23,8 +23,10 @@ pub fn outcomes_are_those_of_the_trace()
 {}
 
 /// Does nothing. Its contract: behind a history without a bad event, in which no step is spent, the
-/// step of a good event is spent exactly where numbers of a sort have run out by the end of its turn.
+/// step of a good event is spent exactly where numbers of a sort have run out by the end of its turn. The actions of that turn
+/// stand where they may, too.
 pub fn a_spent_step_gives_out_the_last_number()
     ensures given { SpentHasRunOut }
     ensures spent { RunOutIsSpent }
+    ensures stands { SpentStands }
 {}

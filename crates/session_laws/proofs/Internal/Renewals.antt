@@ -448,8 +448,8 @@ auth_renewed l r s c cs owned shaped within due pending waits h =
     }
 
 -- the next are to be told, and have their timer where they are to be answered within a time
-pub asked_renewed : (l : Ledger) (r : Renewal) → r.pending ≡ false → is_due r ≡ true → r.within ≡ None → AreRenewed l r → AreRenewed l (asked_next r)
-asked_renewed l r none due within h = record {
+pub asked_renewed : (l : Ledger) (r : Renewal) (last : Option ℕ) → r.pending ≡ false → is_due r ≡ true → r.within ≡ None → AreRenewed l r → AreRenewed l (asked_next r last)
+asked_renewed l r last none due within h = record {
   over_is = h.over_is;
   waits = h.waits;
   some = h.some;
@@ -465,8 +465,8 @@ asked_renewed l r none due within h = record {
 }
 
 -- with the timer
-pub timed_renewed : (l : Ledger) (r : Renewal) (ms : ℕ) → r.pending ≡ false → is_due r ≡ true → r.within ≡ Some ms → AreRenewed l r → AreRenewed (noted l times) (asked_next r)
-timed_renewed l r ms none due within h = record {
+pub timed_renewed : (l : Ledger) (r : Renewal) (last : Option ℕ) (ms : ℕ) → r.pending ≡ false → is_due r ≡ true → r.within ≡ Some ms → AreRenewed l r → AreRenewed (noted l times) (asked_next r last)
+timed_renewed l r last ms none due within h = record {
   over_is = h.over_is;
   waits = h.waits;
   some = h.some;

@@ -1,12 +1,13 @@
 -- What the driver says itself leaves those that wait, and whether what is subscribed again is answered.
-use Rattle.std.proofs.Common.{List, None, Option, Some, [], refl, sym, ℕ, ◌∙◌, ◌∷◌, ◌≡◌}
+use Rattle.std.proofs.Common.{List, None, Option, Some, [], ap, refl, sym, ℕ, ◌∙◌, ◌∷◌, ◌≡◌}
 use Rattle.std.specs.Prelude.{◌&&◌}
 use Rattle.containers.proofs.Choices.{chosen}
 use Rattle.credentials.specs.Credentials.{Credentials}
-use Rattle.link_core.specs.Link.{holds_back}
-use Rattle.mux_conn.specs.Connection.{Work, is_due, is_outstanding, is_ready}
+use Rattle.link_core.specs.Link.{holds_back, started_to}
+use Rattle.mux_conn.specs.Connection.{Work, is_due, is_outstanding, is_ready, last_queued, with_link}
+use Rattle.session_laws.proofs.Requests.Starts.{shown_is}
 use Rattle.mux_conn.specs.Passes.{said}
-use Rattle.mux_conn.specs.Renewals.{asked_next, renewal_asked, renewal_moved, renewal_timed, renewal_told, renewed, renewing}
+use Rattle.mux_conn.specs.Renewals.{asked_next, renewal_asked, renewal_moved, renewal_timed, renewal_told, renewed, renewing, started_ahead, started_ahead_at}
 use Rattle.mux_conn.specs.Repeats.{is_to_start, is_untimed, repeat_asked, repeat_moved, repeat_timed, repeat_told, repeated, repeating, with_timer}
 use Rattle.mux_conn.specs.declared.again.Again.{Again}
 use Rattle.mux_conn.specs.declared.again.Again.TheVariants as again
@@ -66,9 +67,9 @@ repeated_alone w =
 credentials_asked : (w : Work) → SaysAlone w (renewal_asked w)
 credentials_asked w =
     let r = w.conn.renewal in
-    chosen (SaysAlone w) r.pending w (renewal_timed (renewing w (asked_next r)) r.asked r.within) (λ p. says_none w) (λ n. by_within r.within)
+    chosen (SaysAlone w) r.pending w (renewal_timed (renewing w (asked_next r (last_queued w.conn.life))) r.asked r.within) (λ p. says_none w) (λ n. by_within r.within)
   where
-    by_within : (within : Option ℕ) → SaysAlone w (renewal_timed (renewing w (asked_next w.conn.renewal)) w.conn.renewal.asked within)
+    by_within : (within : Option ℕ) → SaysAlone w (renewal_timed (renewing w (asked_next w.conn.renewal (last_queued w.conn.life))) w.conn.renewal.asked within)
     by_within None = record { admitted = refl; goes = refl }
     by_within (Some ms) = record { admitted = refl; goes = refl }
 
@@ -81,12 +82,25 @@ credentials_told v (Wanting link) cs = says_none v
 credentials_told v (SettingUp link greeting) cs = says_none v
 credentials_told v (Ended e) cs = says_none v
 
+-- behind those that are ahead of them
+ahead_alone : (v : Work) (life : Life) → SaysAlone v (started_ahead_at v life)
+ahead_alone v (Ready link) =
+    let s = started_to v.conn.renewal.last (record { link = link; out = [] }) in
+    let same = shown_is (with_link v s.link) s.out in
+    record { admitted = ap (λ (x : Work). x.conn.admitted) same; goes = ap (λ (x : Work). is_outstanding x.conn.again) same }
+ahead_alone v Resting = says_none v
+ahead_alone v Dialing = says_none v
+ahead_alone v (Wanting link) = says_none v
+ahead_alone v (SettingUp link greeting) = says_none v
+ahead_alone v (Ended e) = says_none v
+
 pub renewed_alone : (w : Work) → SaysAlone w (renewed w)
 renewed_alone w =
     let v = renewal_asked w in
-    let cs = w.conn.renewal.waiting in
-    chosen (SaysAlone w) (is_ready w.conn.life && is_due w.conn.renewal) (renewal_moved v w.conn.life cs) w
-    (λ t. says_on w v (renewal_moved v w.conn.life cs) (credentials_asked w) (credentials_told v w.conn.life cs))
+    let u = started_ahead v in
+    let told = renewal_moved u u.conn.life u.conn.renewal.waiting in
+    chosen (SaysAlone w) (is_ready w.conn.life && is_due w.conn.renewal) told w
+    (λ t. says_on w v told (credentials_asked w) (says_on v u told (ahead_alone v v.conn.life) (credentials_told u u.conn.life u.conn.renewal.waiting)))
     (λ n. says_none w)
 
 -- all of it

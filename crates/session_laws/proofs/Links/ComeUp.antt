@@ -51,7 +51,7 @@ use Rattle.session_laws.proofs.Turn.Announce.{IsNewsKind, comes_as, heard_book, 
 use Rattle.session_laws.proofs.Turn.Heard.{book_kind, book_news, fresh_applied, heard_by, none_ends, none_hears, hushed_there, going_awake}
 use Rattle.session_laws.proofs.Ties.Ahead.{waiting_open}
 use Rattle.session_laws.proofs.Internal.Renewals.{early_renewal, renewed_first}
-use Rattle.session_laws.proofs.Ties.Kept.{mine_noted, others_kept}
+use Rattle.session_laws.proofs.Ties.Kept.{mine_noted, others_kept, replaced}
 use Rattle.std.proofs.lemmas.List.{append-nil, nil_from_length}
 use Rattle.session_laws.proofs.Links.Failing.{unstarted_owed}
 use Rattle.mux_conn.specs.declared.life.Greeting.TheVariants as greet
@@ -320,7 +320,8 @@ makes_ready before c started word kind n info link untold h good k is other earl
         let t = record (seen f [] (comes_as c info (Ready link) ns) [] started) { told = true; opened = true; untold = untold } in
         let same : readied c.single.connection.renewal.wanted l ≡ l = ap (λ (x : Bool). readied x l) w in
         let comes = readied_comes b c started n info link untold false (b.created + 1) ((shown_creation b.created).after refl) h0 h.fit h.fresh other early facts spoken (facts.wanted_is ∙ w) (λ none. cc) in
-        let tied : Tied (entered now shown) t = heard_tied b c started word (b.created + 1) (b.failed || false) true true kind info (Ready link) ns [] untold l h0 (shown_creation b.created) good (λ some none. absurd (omega arith)) own comes in
+        let tied : Tied (entered now shown) t = replaced (record now { created = b.created + 1; failed = b.failed || false }) t (entered now shown).placed now.since
+        (heard_tied b c started word (b.created + 1) (b.failed || false) true true kind info (Ready link) ns [] untold l h0 (shown_creation b.created) good (λ some none. absurd (omega arith)) own comes) in
         record {
           holds = sound_more front shown t all (inl (subst MayBeCreated (sym book_is) (may unshown))) (subst (λ (x : Book). Tied (entered x shown) t) (sym book_is) tied);
           ledger = ap (λ (x : Book). x.link mine) (book_more front shown ∙ ap (λ (x : Book). entered x shown) book_is) ∙ own ∙ sym same;
@@ -347,9 +348,9 @@ makes_ready before c started word kind n info link untold h good k is other earl
         let t = record (seen f [] (comes_as c info (Ready link) ns) [] started) { told = true; opened = true; untold = untold; sources = uses } in
         let comes = readied_comes b c started n info link untold true (b.created + 1) ((shown_creation b.created).after refl) h0 h.fit h.fresh other early facts spoken wanted (λ x. asked) in
         let used : AreUses uses mine true l.creds.asked = uses_more c.sources mine true l.creds.asked (source.Renewal mine) (omega arith, λ same. asked) (uses_asked c.sources mine (b.link mine).creds.asked (b.link mine).creds.renews l.creds.asked once h0.uses) in
-        let tied : Tied (entered created needs) t =
-        heard_tied_by b c started word (b.created + 1) (b.failed || false) true true kind info (Ready link) ns [] untold links after (b.sources ++ what ∷ []) uses h0 (shown_creation b.created) (λ some none. absurd (omega arith)) (others_kept now mine sources others) ledger_is
-        (λ i. h0.numbers.sources i ++ what_is i ∷ []) used comes in
+        let tied : Tied (entered created needs) t = replaced (record now { created = b.created + 1; failed = b.failed || false; link = links; sources = b.sources ++ what ∷ [] }) t (entered created needs).placed now.since
+        (heard_tied_by b c started word (b.created + 1) (b.failed || false) true true kind info (Ready link) ns [] untold links after (b.sources ++ what ∷ []) uses h0 (shown_creation b.created) (λ some none. absurd (omega arith)) (others_kept now mine sources others) ledger_is
+        (λ i. h0.numbers.sources i ++ what_is i ∷ []) used comes) in
         let need : MayNeed created count mine = record {
           due = ap source_due own ∙ (λ i. facts.made.up i && wanted i && (not (asked i) || (facts.made.said.well i && not (renews i))));
           next = next ∙ ap length (sym h0.numbers.sources);
@@ -408,9 +409,9 @@ makes_ready before c started word kind n info link untold h good k is other earl
         let t = record (seen f [] (comes_as c info (Ready link) ns) [] started) { told = true; opened = true; untold = untold; sources = uses } in
         let comes = readied_comes b c started n info link untold true b.created (h0.creation.after told) h0 h.fit h.fresh other early facts spoken wanted (λ x. asked) in
         let used : AreUses uses mine true l.creds.asked = uses_more c.sources mine true l.creds.asked (source.Renewal mine) (omega arith, λ same. asked) (uses_asked c.sources mine (b.link mine).creds.asked (b.link mine).creds.renews l.creds.asked once h0.uses) in
-        let tied : Tied (entered now needs) t =
-        heard_tied_by b c started word b.created b.failed true true kind info (Ready link) ns [] untold links after (b.sources ++ what ∷ []) uses h0 (again_creation told) (λ some. some) (others_kept now mine sources others) ledger_is
-        (λ i. h0.numbers.sources i ++ what_is i ∷ []) used comes in
+        let tied : Tied (entered now needs) t = replaced (record now { link = links; sources = b.sources ++ what ∷ [] }) t (entered now needs).placed now.since
+        (heard_tied_by b c started word b.created b.failed true true kind info (Ready link) ns [] untold links after (b.sources ++ what ∷ []) uses h0 (again_creation told) (λ some. some) (others_kept now mine sources others) ledger_is
+        (λ i. h0.numbers.sources i ++ what_is i ∷ []) used comes) in
         let need : MayNeed now count mine = record {
           due = ap source_due own ∙ (λ i. facts.made.up i && wanted i && (not (asked i) || (facts.made.said.well i && not (renews i))));
           next = ap length (sym h0.numbers.sources);

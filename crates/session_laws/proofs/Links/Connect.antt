@@ -41,7 +41,7 @@ use Rattle.session_laws.proofs.Requests.Settle.{seen, trace_of_acts, book_of_mor
 use Rattle.session_laws.proofs.Turn.Announce.{IsNewsKind, comes_as, heard_book, heard_is, heard_starts, heard_tied, heard_tied_by, may_turn, others_heard, turn_of, turned, uses_asked, uses_more, timed_hear, heard_hearing, asked_hear, uses_hear}
 use Rattle.session_laws.proofs.Turn.Heard.{heard_by, book_kind, book_news, lives_as, none_ends, leads_still, quiet_applied, ended_quiet, pushes_still, none_hears, still_none, hushed_there, hushed_news, resting_quiet, tame_between}
 use Rattle.session_laws.proofs.Links.End.{up_tied, setting_tied, setting_overdue, wanting_tied, wanting_overdue, plain_begins, IsPlain, dropped_up, plain_is, notices_there}
-use Rattle.session_laws.proofs.Ties.Kept.{mine_noted, others_kept}
+use Rattle.session_laws.proofs.Ties.Kept.{mine_noted, others_kept, replaced}
 use Rattle.session_laws.proofs.Links.Close.{may_close, close_tied, ended_waits, ends_so}
 use Rattle.session_laws.proofs.Links.ComeUp.{IsEarly, IsUpNow, comes_up, fresh_waits}
 use Rattle.session_laws.proofs.Internal.Renewals.{renewal_ended, early_renewal}
@@ -177,7 +177,8 @@ connected_wants before c started word kind h good k is e wants =
     let used : AreUses uses mine true l.creds.asked = uses_more c.sources mine true l.creds.asked next (omega arith, λ same. refl) (uses_asked c.sources mine l0.creds.asked l0.creds.renews l.creds.asked sought.2 h0.uses) in
     let none = none_hears l0 c.turns connected conn.renewal (λ x. x) (early_renewal l0 conn.renewal conn.life early.unready early.alive h0.renewal) in
     let t = record (seen f [] (comes_as c conn.info life ns) [] started) { sources = uses } in
-    let tied : Tied (entered now shown) t = heard_tied_by b c started word b.created b.failed conn.told conn.opened kind conn.info life ns [] [] links after (b.sources ++ what ∷ []) uses h0 h0.creation (λ some. some)
+    let tied : Tied (entered now shown) t = replaced (record now { link = links; sources = b.sources ++ what ∷ [] }) t (entered now shown).placed (entered now shown).since
+    (heard_tied_by b c started word b.created b.failed conn.told conn.opened kind conn.info life ns [] [] links after (b.sources ++ what ∷ []) uses h0 h0.creation (λ some. some)
     (others_kept now mine sources others) asked (λ i. h0.numbers.sources i ++ what_is i ∷ []) used
     (record {
       starts = heard_starts l0 c.turns connected;
@@ -196,7 +197,7 @@ connected_wants before c started word kind h good k is e wants =
       rounds = rounds_down b.story conn.requests conn.fresh ns refl h0.rounds;
       early = early_on conn.requests conn.again conn.again conn.life life (unready_serves conn.life conn.again early.unready) early.alive refl h0.early;
       notices = pushes_there conn.life Dialing (hearing_in b.config) conn.hears l e (pushes_still before c started connected h (inl tt));
-    }) in
+    })) in
     let may : MayNeed now (length c.sources) mine = record {
       due = ap source_due own ∙ (λ i. u.up i && wanted_is i && (not (unasked i) || (is_set_up l && not l.creds.renews)));
       next = ap length (sym h0.numbers.sources);
@@ -316,7 +317,8 @@ refused_fails before c started word kind f h good k is e last =
       fails = ap (λ (x : Book). failure_in (x.link c.single.link).end) book_is ∙ ap (λ (x : Ledger). failure_in x.end) own_ledger ∙ failure;
       unshown = λ untold. ap (λ (x : Book). x.created) book_is ∙ h0.creation.before untold;
       first = λ untold m less. ap (λ (x : Book). failure_in (x.link m).end) book_is ∙ unfailed (now.link m) (others_heard b c started kind b.created h0 good (λ some. some) m (λ same. omega arith)) (h0.creation.before untold);
-      tied = λ untold. subst (λ (x : Book). Tied (entered x (action.Created (Some (error.Io f)))) t) (sym book_is) (tied (b.created + 1) (b.failed || true) ((shown_creation b.created).after refl));
+      tied = λ untold. subst (λ (x : Book). Tied (entered x (action.Created (Some (error.Io f)))) t) (sym book_is)
+          (replaced (record now { created = b.created + 1; failed = b.failed || true }) t (entered now (action.Created (Some (error.Io f)))).placed now.since (tied (b.created + 1) (b.failed || true) ((shown_creation b.created).after refl)));
       again = λ told. subst (λ (x : Book). Tied x t) (sym book_is) (tied b.created b.failed (h0.creation.after told));
     }
 
@@ -349,7 +351,7 @@ refused_retires before c started word kind f h good k is e last =
     let book_is : book front ≡ now = book_more before (turn_of c word kind) ∙ heard_is b c.turns word kind (book_kind b c kind h0.numbers.timers k) in
     let w : Work = record { conn = conn; acts = [] } in
     subst (λ (y : Work). HasRetired front (with_work (record { core = turned c kind; acts = [] }) y)) (sym (left_if conn.last (given_up w (error.Io f)) (record w { conn = afresh conn }) last))
-    (retires before c started word kind (refused f) [] now.link l h is (λ z. cc) unready last refl refl (others_heard b c started kind b.created h0 good (λ some. some)) own_ledger a
+    (retires before c started word kind (refused f) [] now.link now.placed now.since l h is (λ z. cc) unready last refl refl (others_heard b c started kind b.created h0 good (λ some. some)) own_ledger a
     (uses_hear c.sources c.single.link l0 c.turns (refused f) h0.uses) (subst (AllStand blank_book) (sym (append-nil front)) all) (ap book (append-nil front) ∙ book_is))
 
 -- a link that is up doesn't dial
@@ -456,7 +458,8 @@ closing_fails before c started word kind n x plain asks h good k is e last =
           ∙ ap failure_of (ends_so l why lasts must);
       unshown = λ untold. ap (λ (y : Book). y.created) book_is ∙ begins.holds.tied.creation.before untold;
       first = λ untold m less. ap (λ (y : Book). failure_in (y.link m).end) book_is ∙ unfailed _ (others_kept b c.single.link (ends (b.turns - 1)) begins.holds.tied.others m (λ same. omega arith)) (begins.holds.tied.creation.before untold);
-      tied = λ untold. subst (λ (y : Book). Tied (entered y (action.Created (Some x))) (seen f (act.Close ∷ []) (record conn { life = Ended x; told = true }) [] started)) (sym book_is) (tied (b.created + 1) (b.failed || true) ((shown_creation b.created).after refl));
+      tied = λ untold. subst (λ (y : Book). Tied (entered y (action.Created (Some x))) (seen f (act.Close ∷ []) (record conn { life = Ended x; told = true }) [] started)) (sym book_is)
+          (replaced (record now { created = b.created + 1; failed = b.failed || true }) (seen f (act.Close ∷ []) (record conn { life = Ended x; told = true }) [] started) (entered now (action.Created (Some x))).placed now.since (tied (b.created + 1) (b.failed || true) ((shown_creation b.created).after refl)));
       again = λ told. subst (λ (y : Book). Tied y (seen f (act.Close ∷ []) (record conn { life = Ended x; told = true }) [] started)) (sym book_is) (tied b.created b.failed (begins.holds.tied.creation.after told));
     }
 

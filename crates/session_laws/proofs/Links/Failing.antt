@@ -33,7 +33,7 @@ use Rattle.session_laws.proofs.Ties.Entered.{all_stand-append, shown_more}
 use Rattle.session_laws.proofs.Links.Creds.{down_sourced}
 use Rattle.session_laws.proofs.Ties.Names.{get_some, name_of_some, open_within}
 use Rattle.session_laws.proofs.Ties.Owes.{in_time, not_empty, open_request, request_story, get_behind, is_asked, owed_asked}
-use Rattle.session_laws.proofs.Ties.Kept.{mine_noted, others_kept}
+use Rattle.session_laws.proofs.Ties.Kept.{mine_noted, others_kept, replaced}
 use Rattle.session_laws.proofs.Requests.Answer.{after_end}
 use Rattle.session_laws.proofs.Ties.Aside.{aside_ends, others_created, unfailed}
 use Rattle.session_laws.proofs.Requests.Settle.{seen, sound_act, trace_of_acts, Holds, book_of_more}
@@ -213,7 +213,8 @@ setup_fails before c started word kind n x h good k is u fails lasts =
     let why : lasting l.last (ending_or_shutdown (ending l)) ≡ by_opening x = ends_so l (by_opening x) (ap (λ y. lasting y (by_opening x)) (keeps.last ∙ live.lasts ∙ lasts)) fails.must in
     let closed : links c.single.link ≡ noted l line = mine_noted (now.link c.single.link) c.single.link line ∙ ap (λ (y : Ledger). noted y line) own in
     let t = seen f (act.Close ∷ []) (record conn { life = Ended x; told = true }) [] started in
-    let tied : (created : ℕ) (halted : Bool) → created ≢ 0 → Tied (record (entered now close) { created = created; failed = halted }) t = λ created halted some. heard_tied_by b c started word created halted true conn.opened kind conn.info (Ended x) conn.fresh [] [] links (noted l line) b.sources (c.sources ++ []) h0 (record { before = λ z. cc; after = λ z. some }) (λ z. some)
+    let tied : (created : ℕ) (halted : Bool) → created ≢ 0 → Tied (record (entered now close) { created = created; failed = halted }) t = λ created halted some. replaced (record now { created = created; failed = halted; link = links }) t (entered now close).placed now.since
+    (heard_tied_by b c started word created halted true conn.opened kind conn.info (Ended x) conn.fresh [] [] links (noted l line) b.sources (c.sources ++ []) h0 (record { before = λ z. cc; after = λ z. some }) (λ z. some)
     (others_created c.single.link created _ (λ z. some) (others_kept now c.single.link line others)) closed (h0.numbers.sources ∙ sym (append-nil c.sources)) (uses_on c.sources c.single.link (uses_hear c.sources c.single.link l0 c.turns n h0.uses))
     (record {
       starts = heard_starts l0 c.turns n;
@@ -248,7 +249,7 @@ setup_fails before c started word kind n x h good k is u fails lasts =
         due = fails.notices.due;
         tame = λ none r. cc;
       };
-    }) in
+    })) in
     let first : book (trace_of_acts front f []) ≡ now = first_book before (turn_of c word kind) f ∙ heard_is b c.turns word kind (book_kind b c kind h0.numbers.timers k) in
     let trace = trace_of_acts front f (act.Close ∷ []) in
     let book_is : book trace ≡ entered now close = book_of_more front f [] act.Close ∙ ap (λ (y : Book). entered y close) first in
@@ -258,6 +259,7 @@ setup_fails before c started word kind n x h good k is u fails lasts =
       fails = ap (λ (y : Book). failure_in (y.link c.single.link).end) book_is ∙ ap (λ (y : Ledger). failure_in y.end) closed ∙ ap failure_of why;
       unshown = λ untold. ap (λ (y : Book). y.created) book_is ∙ h0.creation.before untold;
       first = λ untold m less. ap (λ (y : Book). failure_in (y.link m).end) book_is ∙ unfailed (links m) (others_kept now c.single.link line others m (λ same. omega arith)) (h0.creation.before untold);
-      tied = λ untold. subst (λ (y : Book). Tied (entered y (action.Created (Some x))) t) (sym book_is) (tied (b.created + 1) (b.failed || true) ((shown_creation b.created).after refl));
+      tied = λ untold. subst (λ (y : Book). Tied (entered y (action.Created (Some x))) t) (sym book_is)
+          (replaced (record (entered now close) { created = b.created + 1; failed = b.failed || true }) t (entered (entered now close) (action.Created (Some x))).placed now.since (tied (b.created + 1) (b.failed || true) ((shown_creation b.created).after refl)));
       again = λ told. subst (λ (y : Book). Tied y t) (sym book_is) (tied b.created b.failed (h0.creation.after told));
     }

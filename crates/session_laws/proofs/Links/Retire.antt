@@ -130,16 +130,16 @@ alone_lines story requests link waiting admitted started bare nobody none h =
     (subst (λ (x : List ℕ). TiedLines story requests link waiting admitted [] x) none h))
 
 -- the session is so
-pub retires : (before : List Action) (c : Core) (started : List ℕ) (word : ℕ) (kind : EventKind) (n : News) (acts : List LinkAct) (links : ℕ → Ledger) (l : Ledger) → Between before c started → news_of c.timers c.sources c.single.link kind ≡ n → n ≢ shut → IsUnready (book before).created c.single.connection.life started
+pub retires : (before : List Action) (c : Core) (started : List ℕ) (word : ℕ) (kind : EventKind) (n : News) (acts : List LinkAct) (links : ℕ → Ledger) (placed : ℕ → Option ℕ) (since : ℕ → ℕ) (l : Ledger) → Between before c started → news_of c.timers c.sources c.single.link kind ≡ n → n ≢ shut → IsUnready (book before).created c.single.connection.life started
     → c.single.connection.last ≡ false → timers_of c.single.link acts ≡ [] → sources_of c.single.link acts ≡ [] → AreAside c.single.link c.links links c.single.connection.hears c.single.connection.renewal.within (book before).created → links c.single.link ≡ l → IsAttempted l c.single.connection.hears
     → AreUses c.sources c.single.link l.creds.asked l.creds.renews → AllStand blank_book (trace_of_acts (before ++ turn_of c word kind ∷ []) (turned c kind) acts)
-    → book (trace_of_acts (before ++ turn_of c word kind ∷ []) (turned c kind) acts) ≡ record (heard_book (book before) c.turns word kind) { link = links }
+    → book (trace_of_acts (before ++ turn_of c word kind ∷ []) (turned c kind) acts) ≡ record (heard_book (book before) c.turns word kind) { link = links; placed = placed; since = since }
     → HasRetired (before ++ turn_of c word kind ∷ []) (with_work (record { core = turned c kind; acts = [] }) (record { conn = afresh c.single.connection; acts = acts }))
-retires before c started word kind n acts links l h is other u last no_timers no_sources others own a uses stands book_is =
+retires before c started word kind n acts links placed since l h is other u last no_timers no_sources others own a uses stands book_is =
     let b = book before in
     let h0 = h.sound.tied in
     let conn = c.single.connection in
-    let now = record (heard_book b c.turns word kind) { link = links } in
+    let now = record (heard_book b c.turns word kind) { link = links; placed = placed; since = since } in
     let live = tied_live b (inner c started) h0 u.there u.alive in
     let unserving = unready_serves conn.life conn.again u.unready in
     let nobody : conn.admitted ≡ [] = h.fit.none unserving in
@@ -250,7 +250,7 @@ closed_retires before c started word kind n x h good k is other u last must told
     let book_is : book (trace_of_acts front f (act.Close ∷ [])) ≡ entered now close = book_of_more front f [] act.Close ∙ ap (λ (y : Book). entered y close) first in
     let w : Work = record { conn = conn; acts = act.Close ∷ [] } in
     subst (λ (y : Work). HasRetired front (with_work (record { core = f; acts = [] }) y)) (sym (left_if conn.last (given_up w x) (record w { conn = afresh conn }) last))
-    (retires before c started word kind n (act.Close ∷ []) links (noted l line) h is other u last refl refl (others_kept now c.single.link line (others_heard b c started kind b.created h0 good (λ some. some)))
+    (retires before c started word kind n (act.Close ∷ []) links (entered now close).placed now.since (noted l line) h is other u last refl refl (others_kept now c.single.link line (others_heard b c started kind b.created h0 good (λ some. some)))
     closed (closed_attempt b c started n x (now.turns - 1) h0 u last must told) (uses_hear c.sources c.single.link l0 c.turns n h0.uses) stands book_is)
 
 -- a link that is closed before it is set up

@@ -205,7 +205,7 @@ set_up_tied b t link greeting due user h =
     let all = setting.alone in
     tied_by (entered b (set_up_action t link q)) now (noted l (begins s)) (mine_noted l t.link (begins s))
     (record {
-      numbers = numbers_kept b _ _ _ _ was _ _ _ _ _ _ _ _ _ _ h.numbers;
+      numbers = numbers_kept b _ _ _ _ _ _ was _ _ _ _ _ _ _ _ _ _ h.numbers;
       others = others_kept b t.link (begins s) h.others;
       notices = h.notices;
       life = h.life;

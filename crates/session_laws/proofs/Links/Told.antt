@@ -1,5 +1,5 @@
 -- One notice is told of a link, or its end is: what this leaves as it is.
-use Rattle.std.proofs.Common.{◌≡◌, ℕ, Bool, List, [], ◌∷◌, refl, ap, ◌∙◌, subst, sym, ◌==◌, ◌+◌}
+use Rattle.std.proofs.Common.{◌≡◌, ℕ, Bool, List, [], ◌∷◌, refl, ap, ◌∙◌, subst, sym, ◌==◌, ◌+◌, ◌-◌}
 use Rattle.std.specs.List.{AllByRecursion}
 use Rattle.driver_model.specs.declared.action.Action.TheVariants as action
 use Rattle.driver_model.specs.declared.action.Owner.{Owner}
@@ -11,7 +11,8 @@ use Rattle.link_laws.proofs.TiedLink.{TiedLink}
 use Rattle.mux_conn.specs.declared.life.Life.{Life}
 use Rattle.mux_conn.specs.declared.life.Life.TheVariants.{Resting, Dialing, Wanting, SettingUp, Ready, Ended}
 use Rattle.legal_trace.specs.Ledger.{Ledger, Heard, noted, is_set_up, Line, tells, parts, noted_each}
-use Rattle.legal_trace.specs.Book.{Book, entered, push_line, hearing_in, if_mine}
+use Rattle.legal_trace.specs.Story.{has_place}
+use Rattle.legal_trace.specs.Book.{Book, entered, placed_since, push_line, hearing_in, if_mine}
 use Rattle.session_laws.proofs.Ties.Kept.{mine_noted, others_kept, tied_by}
 use Rattle.session_laws.proofs.Links.Server.{hearing_at}
 use Rattle.session_laws.proofs.Ties.Tied.{Inner, Tied, TiedLife, TiedNotices, carried, whole_link, is_reading}
@@ -65,9 +66,9 @@ pub owed_told : (name : ℕ → Owner) (l : Ledger) (told : ℕ) (parted : Bool)
 owed_told name l told parted [] all = tt
 owed_told name l told parted (s ∷ ss) all = (record { number = all.0.number; of_shape = all.0.of_shape; place = all.0.place; owes = all.0.owes }, owed_told name l told parted ss all.1)
 
--- the book with one more line of link n
+-- the book with one more line of link n, in which who has a place keeps it
 abbrev pub lined : Book → ℕ → Line → Book
-lined b n line = record b { link = λ m. noted_each (b.link m) (if_mine (n == m) line) }
+lined b n line = record b { link = λ m. noted_each (b.link m) (if_mine (n == m) line); placed = λ m. placed_since (has_place (b.story m)) (b.placed m) (b.turns - 1) }
 
 -- the session is tied to the book with such a line
 pub line_tied : (b : Book) (t : Inner) (line : Line) (told : ℕ) (parted : Bool) (untold : List Heard) (parting : Bool) → noted (b.link t.link) line ≡ retells (b.link t.link) told parted

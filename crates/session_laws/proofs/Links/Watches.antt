@@ -129,7 +129,7 @@ watch_tied b t link due h =
     let said = h.setup.said in
     tied_by (entered b (watch_action t link)) (setting_on t (watched link) greet.Monitor) (noted l (begins s)) (mine_noted l t.link (begins s))
     (record {
-      numbers = numbers_kept b _ _ _ _ was _ _ _ _ _ _ _ _ _ _ h.numbers;
+      numbers = numbers_kept b _ _ _ _ _ _ was _ _ _ _ _ _ _ _ _ _ h.numbers;
       others = others_kept b t.link (begins s) h.others;
       notices = h.notices;
       life = h.life;

@@ -48,7 +48,7 @@ write_tied b t link h =
     let l = b.link t.link in
     let line = offers link.outbox.unwritten in
     tied_by (entered b (action.Write t.link link.outbox.unwritten)) (on_link t (offered_of link)) (noted l line) (mine_noted l t.link line) (record {
-      numbers = numbers_kept b _ _ _ _ (on_link t link) _ _ _ _ _ _ _ _ _ _ h.numbers;
+      numbers = numbers_kept b _ _ _ _ _ _ (on_link t link) _ _ _ _ _ _ _ _ _ _ h.numbers;
       others = others_kept b t.link line h.others;
       notices = h.notices;
       life = h.life;
@@ -79,7 +79,7 @@ write_set_tied b t link greeting h =
     let l = b.link t.link in
     let line = offers link.outbox.unwritten in
     tied_by (entered b (action.Write t.link link.outbox.unwritten)) (setting_on t (offered_of link) greeting) (noted l line) (mine_noted l t.link line) (record {
-      numbers = numbers_kept b _ _ _ _ (setting_on t link greeting) _ _ _ _ _ _ _ _ _ _ h.numbers;
+      numbers = numbers_kept b _ _ _ _ _ _ (setting_on t link greeting) _ _ _ _ _ _ _ _ _ _ h.numbers;
       others = others_kept b t.link line h.others;
       notices = h.notices;
       life = h.life;

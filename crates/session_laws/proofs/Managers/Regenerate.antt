@@ -28,6 +28,7 @@ use Rattle.legal_trace.specs.Ledger.{Ending, Ledger, Line, asks, by_opening, end
 use Rattle.legal_trace.specs.Legal.{AllStand, IsApplied, IsShown, IsTimed, MayConnect, MayGenerate, MayRest, MayStand, MayTimeConnect, NoneEnds, begins_first, current_link, generation_due, is_attempt, is_caused, link_due, word_of}
 use Rattle.legal_trace.specs.Managers.{settings_in, is_last as last_in}
 use Rattle.legal_trace.proofs.Moves.{lt_test}
+use Rattle.session_laws.proofs.Ties.Kept.{replaced}
 use Rattle.session_laws.proofs.Managers.Comes.{NoneComes, none_caused, none_rests}
 use Rattle.session_laws.proofs.Managers.Dial.{CanDial, asks_line, dialled_book, dialled_in, dials_tied}
 use Rattle.session_laws.proofs.Ties.Entered.{all_stand-append, book_more, sound_more}
@@ -319,13 +320,14 @@ dials_on trace t g timer h is some awake informed runs next harmless = by_bound 
           next = next ∙ ap length (sym tied.numbers.timers);
           is_for = refl;
         } in
-        let same : dialled_book b t.link g.info.host g.info.port ts (b.timed + 1) ≡ entered d c = λ i. dialled_book b t.link g.info.host g.info.port (sym tied.numbers.timers i ++ purpose.Connect t.link ∷ []) (b.timed + 1) in
+        let same : record (dialled_book b t.link g.info.host g.info.port ts (b.timed + 1)) { placed = (entered d c).placed; since = d.since } ≡ entered d c =
+        λ i. record (dialled_book b t.link g.info.host g.info.port (sym tied.numbers.timers i ++ purpose.Connect t.link ∷ []) (b.timed + 1)) { placed = (entered d c).placed; since = d.since } in
         let first : book (trace ++ a ∷ []) ≡ d = book_more trace a in
         let whole : (trace ++ a ∷ []) ++ c ∷ [] ≡ trace ++ a ∷ c ∷ [] = append_assoc trace (a ∷ []) (c ∷ []) in
         let stands : AllStand blank_book (trace ++ a ∷ []) = all_stand-append trace (a ∷ []) h.sound.stands (may, tt) in
         subst (λ (x : List Action). Sound x (dialled_in t last (repeat_for g) ts) × NoneEnds (book x)) whole (
           sound_more (trace ++ a ∷ []) c (dialled_in t last (repeat_for g) ts) stands (subst (λ (x : Book). MayStand x c) (sym first) (inl (inl timed)))
-              (subst (λ (x : Book). Tied (entered x c) (dialled_in t last (repeat_for g) ts)) (sym first) (subst (λ (x : Book). Tied x (dialled_in t last (repeat_for g) ts)) same now)),
+              (subst (λ (x : Book). Tied (entered x c) (dialled_in t last (repeat_for g) ts)) (sym first) (subst (λ (x : Book). Tied x (dialled_in t last (repeat_for g) ts)) same (replaced (dialled_book b t.link g.info.host g.info.port ts (b.timed + 1)) (dialled_in t last (repeat_for g) ts) (entered d c).placed d.since now))),
           subst NoneEnds (sym (book_more (trace ++ a ∷ []) c)) (subst (λ (x : Book). NoneEnds (entered x c)) (sym first) ends),
         )
       where

@@ -19,7 +19,8 @@ use Rattle.shared_session.specs.declared.generations.Comeback.TheVariants as com
 use Rattle.shared_session.specs.declared.generations.Generations.{Generations}
 use Rattle.shared_session.specs.Generations.{came_back, comeback_shown, heeded, heeding}
 use Rattle.shared_session.specs.Turn.{Turning, actions_of, counted, effect, flushed_apart, is_bad, next_turn, numbered, passed_by, shown_behind, shown_each}
-use Rattle.legal_trace.specs.Book.{Book, book}
+use Rattle.legal_trace.specs.Book.{Book, blank_book, book}
+use Rattle.legal_trace.specs.Legal.{AllStand}
 use Rattle.session_laws.proofs.Ties.Ahead.{admitted_open, waiting_open}
 use Rattle.session_laws.proofs.Turn.Announce.{turn_of}
 use Rattle.session_laws.proofs.Managers.Comes.{live_comes}
@@ -32,7 +33,8 @@ use Rattle.session_laws.proofs.Requests.Settled.{IsBetween, applied_moved, unmov
 use Rattle.session_laws.proofs.Ties.States.{HasApplied, HasRetired}
 use Rattle.session_laws.proofs.Links.Server.{NoneRenewed, TiedRenewal}
 use Rattle.session_laws.proofs.Ties.Tied.{Tied, has_ended, inner, link_in, relined}
-use Rattle.session_laws.proofs.Managers.Turns.{heard_so, made, retired_same}
+use Rattle.session_laws.proofs.Ties.Ordered.{IsOrderedBy}
+use Rattle.session_laws.proofs.Managers.Turns.{comes, heard_so, made, retired_same}
 use Rattle.session_laws.proofs.Managers.Whole.{managed_between, managed_core, managed_trace, what_of}
 use Rattle.session_laws.proofs.Internal.Serving.{unready_serves}
 
@@ -40,11 +42,12 @@ use Rattle.session_laws.proofs.Internal.Serving.{unready_serves}
 pub record IsTied (before : List Action) (c : Core) : Type 0 where
   pub started : List ℕ
   pub tied : Tied (book before) (inner c started)
+  pub stands : AllStand blank_book before
   pub renewed : (link : LinkState) → c.single.connection.life ≡ Ready link → is_due c.single.connection.renewal ≡ true → c.single.connection.renewal.pending ≡ true
 
 -- between two turns it is so
 pub between_tied : (before : List Action) (c : Core) → IsBetween before c → IsTied before c
-between_tied before c h = record { started = h.started; tied = h.between.sound.tied; renewed = λ link is due. (h.between.still.renewed link is due).0 }
+between_tied before c h = record { started = h.started; tied = h.between.sound.tied; stands = h.between.sound.stands; renewed = λ link is due. (h.between.still.renewed link is due).0 }
 
 -- on a link that has ended
 --
@@ -103,9 +106,9 @@ fresh_unused : (c : MultiplexedConnection) → c.life ≡ Resting → c.renewal.
 fresh_unused c rests none = λ i. is_spent_in (rests i) || nat_le (2 ^ 32) (none i)
 
 -- a turn behind whose passes a number has run out
-pub spent_turn : (before : List Action) (c : Core) (g : Generations) (e : Event) → c.manager ≡ Some g → IsBetween before c → is_bad c e.kind ≡ false → length c.table < 2 ^ 32 → is_used_up (passed_by (counted c) e.kind).core.single.connection ≡ true
+pub spent_turn : (before : List Action) (c : Core) (g : Generations) (e : Event) → c.manager ≡ Some g → IsBetween before c → IsOrderedBy before c → is_bad c e.kind ≡ false → length c.table < 2 ^ 32 → is_used_up (passed_by (counted c) e.kind).core.single.connection ≡ true
     → IsTied (before ++ actions_of c e) (next_turn c e.kind).core
-spent_turn before c g e is h good room used = elim (effect_holds before c h.started e.word e.kind h.between good room) [ inl applied ↦ by_life applied k.single.connection.life refl | inr retired ↦ absurd (never retired) ]
+spent_turn before c g e is h o good room used = elim (effect_holds before c h.started e.word e.kind h.between good room) [ inl applied ↦ by_life applied k.single.connection.life refl | inr retired ↦ absurd (never retired) ]
   where
     t : Turning
     t = effect (counted c) e.kind
@@ -126,16 +129,16 @@ spent_turn before c g e is h good room used = elim (effect_holds before c h.star
     stays = taken_if (is_used_up k.single.connection) comeback.Stays _ used
 
     never : HasRetired front t → ⊥
-    never r = not_both (is_used_up (passed_by (counted c) e.kind).core.single.connection) (ap (λ (x : Turning). is_used_up x.core.single.connection) (retired_same before c g e is h good r) ∙ fresh_unused t.core.single.connection r.retiring.rests r.retiring.renewal.unasked) used
+    never r = not_both (is_used_up (passed_by (counted c) e.kind).core.single.connection) (ap (λ (x : Turning). is_used_up x.core.single.connection) (retired_same before c g e is h o good r) ∙ fresh_unused t.core.single.connection r.retiring.rests r.retiring.renewal.unasked) used
 
     whole : HasApplied front t h.started → HasHeard before c h.started g e.word e.kind trace k u.acts
-    whole applied = heard_so before c g e is h good (applied_moved front t h.started applied)
+    whole applied = heard_so before c g e is h o good (applied_moved front t h.started applied (comes before c g e is h o good))
 
     goes_on : HasApplied front t h.started → is_resting k.single.connection.life ≡ false → has_ended k.single.connection.life ≡ false → IsTied (before ++ actions_of c e) (next_turn c e.kind).core
     goes_on applied there up =
         let all = whole applied in
         between_tied (before ++ actions_of c e) (next_turn c e.kind).core
-        (managed_between before c g e is (made before c g e is h good) (λ none. applied.began (sym (ap (λ (w : Comeback). (came_back k w).turns) stays) ∙ none))
+        (managed_between before c g e is (made before c g e is h o good) (λ none. applied.began (sym (ap (λ (w : Comeback). (came_back k w).turns) stays) ∙ none))
         (subst (λ (w : Comeback). return.HasReturned (trace ++ comeback_shown (heeded g e.kind u.acts) e.word w) (came_back k w)) (sym stays)
         (stays_returned before c h.started g e.word e.kind trace k u.acts all (live_comes (book trace) (inner k all.now) all.sound.tied there up))))
 
@@ -145,14 +148,15 @@ spent_turn before c g e is h good room used = elim (effect_holds before c h.star
         let closed = none_open_over before c h.started g e.word e.kind trace k u.acts all x over in
         let shown : flushed (work_with k.single.connection []) ≡ work_with (record k.single.connection { moved = []; fresh = [] }) [] = over_flushed k x over closed in
         let behind : (next_turn c e.kind).core ≡ record k { single = record k.single { connection = record k.single.connection { moved = []; fresh = [] } } } =
-        managed_core c g e is (made before c g e is h good) ∙ ap (λ (w : Comeback). record (came_back k w) { single = record (came_back k w).single { connection = (flushed_apart (came_back k w)).conn } }) stays ∙ ap (λ (w : Work). record k { single = record k.single { connection = w.conn } }) shown in
+        managed_core c g e is (made before c g e is h o good) ∙ ap (λ (w : Comeback). record (came_back k w) { single = record (came_back k w).single { connection = (flushed_apart (came_back k w)).conn } }) stays ∙ ap (λ (w : Work). record k { single = record k.single { connection = w.conn } }) shown in
         let nothing : before ++ actions_of c e ≡ trace =
-        sym (managed_trace before c g e is (made before c g e is h good))
+        sym (managed_trace before c g e is (made before c g e is h o good))
         ∙ ap (λ (w : Comeback). (trace ++ comeback_shown (heeded g e.kind u.acts) e.word w) ++ shown_behind (came_back k w) (flushed_apart (came_back k w)).acts) stays
         ∙ ap (λ (w : Work). (trace ++ []) ++ shown_behind k w.acts) shown ∙ append-nil (trace ++ []) ∙ append-nil trace in
         record {
           started = all.now;
           tied = subst (λ (y : List Action). Tied (book y) (inner (next_turn c e.kind).core all.now)) (sym nothing) (subst (λ (y : Core). Tied (book trace) (inner y all.now)) (sym behind) (over_tied (book trace) k all.now x over closed all.sound.tied));
+          stands = subst (AllStand blank_book) (sym nothing) all.sound.stands;
           renewed = λ link ready due. absurd (
               let no : Ended x ≡ Ready link = sym over ∙ sym (ap (λ (y : Core). y.single.connection.life) behind) ∙ ready in
               cc);

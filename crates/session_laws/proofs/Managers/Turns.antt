@@ -1,16 +1,17 @@
 -- One turn of a manager leads from between two turns to between the next two.
-use Rattle.std.proofs.Common.{◌≡◌, ◌≢◌, ◌⊎◌, inl, inr, ℕ, ◌+◌, ◌^◌, ◌<◌, ◌==◌, nat_lt, Bool, true, false, ◌&&◌, ◌||◌, not, List, [], ◌∷◌, ◌++◌, length, Option, Some, None, is_some, if◌then◌else◌, refl, sym, ap, ◌∙◌, subst, arith}
-use Rattle.containers.proofs.Choices.{both_right, by_test, eq_test, left_if, lt_from, ne_test, or_left, taken_if}
+use Rattle.std.proofs.Common.{◌≡◌, ◌≢◌, ◌⊎◌, inl, inr, ℕ, ◌+◌, ◌^◌, ◌<◌, ◌==◌, nat_lt, Bool, true, false, ◌&&◌, ◌||◌, not, List, [], ◌∷◌, ◌++◌, length, Option, Some, None, is_some, if◌then◌else◌, refl, sym, ap, ◌∙◌, subst, append_assoc, arith}
+use Rattle.containers.proofs.Choices.{both_right, by_test, eq_test, left_if, lt_from, ne_test, not_both, or_left, taken_if}
 use Rattle.std.specs.Prelude.{option_map, unwrap_or}
 use Rattle.manager_config.specs.Backoff.{backoff}
 use Rattle.driver_model.specs.declared.action.Action.{Action}
 use Rattle.driver_model.specs.declared.event.Event.{Event}
 use Rattle.driver_model.specs.declared.event.EventKind.{EventKind}
 use Rattle.driver_model.specs.declared.event.EventKind.TheVariants as event
-use Rattle.mux_conn.specs.Connection.{Work, is_resting, is_used_up, work_with}
+use Rattle.mux_conn.specs.Connection.{Work, is_ready, is_resting, is_used_up, work_with}
 use Rattle.mux_conn.specs.Turn.{flushed, fresh_each_shown, fresh_shown, moved_each_shown, waits_shown, written_at}
 use Rattle.mux_conn.specs.declared.connection.MultiplexedConnection.{MultiplexedConnection}
 use Rattle.mux_conn.specs.declared.life.Life.{Life}
+use Rattle.mux_conn.specs.declared.life.Life.TheVariants.{Resting}
 use Rattle.mux_conn.specs.Passes.{passed}
 use Rattle.mux_conn.specs.declared.request.Waiting.{Waiting}
 use Rattle.shared_session.specs.declared.core_state.Core.{Core}
@@ -19,7 +20,7 @@ use Rattle.shared_session.specs.declared.generations.Comeback.TheVariants as com
 use Rattle.shared_session.specs.declared.generations.Generations.{Generations}
 use Rattle.shared_session.specs.Generations as machine
 use Rattle.shared_session.specs.Generations.{begun_with, came_back, comeback_shown, creation_fails, failed_behind, heeded, heeding, is_due, rests, wakes}
-use Rattle.shared_session.specs.Turn.{Turning, actions_of, come_back_behind, counted, effect, ended_apart, flushed_apart, is_bad, is_shutdown, next_turn, numbered, passed_by, shown_each, with_work, work_of}
+use Rattle.shared_session.specs.Turn.{Turning, actions_of, come_back_behind, counted, effect, ended_apart, flushed_apart, is_bad, is_shutdown, next_turn, numbered, passed_by, shown_behind, shown_each, with_work, work_of}
 use Rattle.shared_session.proofs.Comebacks.{Suits, came_kept, suits_in}
 use Rattle.shared_session.proofs.Spent.{passed_same}
 use Rattle.legal_trace.specs.Book.{Book, blank_book, book, shuts}
@@ -31,14 +32,19 @@ use Rattle.session_laws.proofs.Turn.Effects.{effect_holds}
 use Rattle.session_laws.proofs.Managers.First.{HasFirst, IsIdle, StaysIdle, effect_idle, first_opens}
 use Rattle.session_laws.proofs.Managers.Judge.{HasActed, acted_adds, has_acted, runs_on, acted_informed}
 use Rattle.session_laws.proofs.Managers.Manage.{HasCome, HasHeard, NoneCame, rests_links, returned, woken_by}
-use Rattle.session_laws.proofs.Requests.Moved.{HasMoved, resting_passed}
+use Rattle.session_laws.proofs.Ties.Ordered.{IsOrdered, IsOrderedBy}
+use Rattle.session_laws.proofs.Turn.Adds.{flushed_adds}
+use Rattle.session_laws.proofs.Turn.Ends.{ends_ordered, ready_stays}
+use Rattle.mux_conn.proofs.Kept.{flushed_kept}
+use Rattle.session_laws.proofs.Turn.Ordered.{comes_ordered}
+use Rattle.session_laws.proofs.Requests.Moved.{ComesOrdered, HasMoved, resting_passed}
 use Rattle.session_laws.proofs.Ties.Past.{is_founded}
 use Rattle.session_laws.proofs.Managers.Return as return
 use Rattle.session_laws.proofs.Requests.Settle.{trace_of_acts}
-use Rattle.session_laws.proofs.Requests.Settled.{IsBetween, applied_moved}
+use Rattle.session_laws.proofs.Requests.Settled.{IsBetween, applied_moved, applied_ready}
 use Rattle.session_laws.proofs.Ties.States.{HasApplied, HasRetired}
 use Rattle.session_laws.proofs.Ties.Tied.{ComesBack, HasHeeded, IsHeeded, IsRetiring, Sound, Tied, TiedManager, inner, waiting_ids}
-use Rattle.session_laws.proofs.Managers.Whole.{heeds_retiring, heeds_tied, managed_between, own_is, what_of}
+use Rattle.session_laws.proofs.Managers.Whole.{heeds_retiring, heeds_tied, managed_between, managed_core, managed_trace, own_is, what_of}
 
 -- before its first generation nothing was asked of a session's connection, unless everything was shut down, and no creation failed
 abbrev pub IsUnused : Core → Generations → Type 0
@@ -101,7 +107,7 @@ flushed_idle conn h =
     ∙ ap (λ ns. fresh_each_shown z ns) h.fresh in
     subst (λ (x : Work). IsIdle x.conn) (sym same) (record { life = h.life; requests = h.requests; waiting = h.waiting; admitted = h.admitted; fresh = refl; moved = refl; free = h.free })
 
-module _ (before : List Action) (c : Core) (g : Generations) (e : Event) (is : c.manager ≡ Some g) (h : IsBetween before c) (good : is_bad c e.kind ≡ false) where
+module _ (before : List Action) (c : Core) (g : Generations) (e : Event) (is : c.manager ≡ Some g) (h : IsBetween before c) (o : IsOrderedBy before c) (good : is_bad c e.kind ≡ false) where
   abbrev pub t : Turning
   t = effect (counted c) e.kind
 
@@ -122,6 +128,10 @@ module _ (before : List Action) (c : Core) (g : Generations) (e : Event) (is : c
 
   abbrev pub trace : List Action
   trace = front ++ shown_each c.single.link (length c.timers) (length c.sources) u.acts
+
+  -- who is ahead of new credentials behind the event
+  pub comes : ComesOrdered front t.core (work_of t)
+  comes = comes_ordered before c h.started e h.between o
 
   -- the trace by the numbers of the turn
   pub trace_is : trace_of_acts front t.core u.acts ≡ trace
@@ -198,7 +208,7 @@ module _ (before : List Action) (c : Core) (g : Generations) (e : Event) (is : c
   -- behind the passes
   moved_between : is_used_up p.core.single.connection ≡ false → IsUnused c g → HasApplied front t h.started → IsBetween (before ++ actions_of c e) (next_turn c e.kind).core
   moved_between unused idle applied =
-      let m = applied_moved front t h.started applied in
+      let m = applied_moved front t h.started applied comes in
       managed_between before c g e is made (λ none. applied.began (sym (came_kept k (what_of c g e.kind u)).turns ∙ none))
       (returned before c h.started g e.word e.kind trace k u.acts (heard_so m) unused (first_comes idle m.started (sound_so m).tied (has_acted before c e.word e.kind u.acts (sound_so m).stands)))
 
@@ -246,6 +256,48 @@ module _ (before : List Action) (c : Core) (g : Generations) (e : Event) (is : c
   -- so whatever the event does
   pub manager_turn : is_used_up p.core.single.connection ≡ false → IsUnused c g → length c.table < 2 ^ 32 → IsBetween (before ++ actions_of c e) (next_turn c e.kind).core
   manager_turn unused idle room = elim (effect_holds before c h.started e.word e.kind h.between good room) [ inl applied ↦ moved_between unused idle applied | inr retired ↦ retired_between unused retired ]
+
+  -- behind what it does of its own it is ready only where it does nothing
+  up_stays : is_ready (next_turn c e.kind).core.single.connection.life ≡ true → what_of c g e.kind u ≡ comeback.Stays
+  up_stays up =
+      let d = came_back k (what_of c g e.kind u) in
+      ready_stays q (wakes g e.kind) (machine.has_ended c.single.connection.life) k u.acts (sym (flushed_adds (work_with d.single.connection [])).ready ∙ ap (λ (x : Core). is_ready x.single.connection.life) (sym (managed_core c g e is made)) ∙ up)
+
+  -- the session then
+  behind_stays : what_of c g e.kind u ≡ comeback.Stays → (next_turn c e.kind).core ≡ record k { single = record k.single { connection = (flushed_apart k).conn } }
+  behind_stays stays = managed_core c g e is made ∙ ap (λ (s : Comeback). record (came_back k s) { single = record (came_back k s).single { connection = (flushed_apart (came_back k s)).conn } }) stays
+
+  -- so it is known which requests are ahead of new credentials
+  managed_ordered : HasApplied front t h.started → IsBetween (before ++ actions_of c e) (next_turn c e.kind).core → IsOrderedBy (before ++ actions_of c e) (next_turn c e.kind).core
+  managed_ordered applied done up pending kept =
+      let what = what_of c g e.kind u in
+      let d = came_back k what in
+      let w = work_of t in
+      let behind = behind_stays (up_stays up) in
+      let rest = comeback_shown q e.word what ++ shown_behind d (flushed_apart d).acts in
+      let whole : trace_of_acts front t.core (passed w).acts ++ rest ≡ before ++ actions_of c e =
+      ap (λ xs. xs ++ rest) trace_is ∙ sym (append_assoc trace (comeback_shown q e.word what) (shown_behind d (flushed_apart d).acts)) ∙ managed_trace before c g e is made in
+      let x = (flushed_apart k).conn in
+      let all : IsOrdered (book (trace_of_acts front t.core (passed w).acts ++ rest)) k.single.link k.table x.life x.renewal =
+      ends_ordered front t.core w h.started rest x (applied_ready front t h.started applied comes) (subst (AllStand blank_book) (sym whole) done.between.sound.stands)
+      (ap (λ (xs : List Action). (book xs).turns) whole ∙ done.between.sound.tied.numbers.turns ∙ ap (λ (y : Core). y.turns) behind)
+      (λ ready. sym (flushed_adds (work_with k.single.connection [])).ready ∙ ready) (flushed_kept (work_with k.single.connection [])) in
+      subst (λ (y : Core). IsOrderedBy (before ++ actions_of c e) y) (sym behind) (subst (λ (xs : List Action). IsOrdered (book xs) k.single.link k.table x.life x.renewal) whole all) up pending kept
+
+  -- also where it is without a link
+  retired_ordered : HasRetired front t → IsOrderedBy (before ++ actions_of c e) (next_turn c e.kind).core
+  retired_ordered r up =
+      let here : is_ready k.single.connection.life ≡ true =
+      sym (flushed_adds (work_with k.single.connection [])).ready ∙ ap (λ (x : Core). is_ready x.single.connection.life) (sym (behind_stays (up_stays up))) ∙ up in
+      let rests : k.single.connection.life ≡ Resting = ap (λ (x : Turning). x.core.single.connection.life) (retired_same r) ∙ r.retiring.rests in
+      absurd (not_both (is_ready k.single.connection.life) (ap is_ready rests) here)
+
+  -- whatever the event does
+  pub manager_well : is_used_up p.core.single.connection ≡ false → IsUnused c g → length c.table < 2 ^ 32 → IsBetween (before ++ actions_of c e) (next_turn c e.kind).core × IsOrderedBy (before ++ actions_of c e) (next_turn c e.kind).core
+  manager_well unused idle room = elim (effect_holds before c h.started e.word e.kind h.between good room) [
+    | inl applied ↦ let done = moved_between unused idle applied in (done, managed_ordered applied done)
+    | inr retired ↦ (retired_between unused retired, retired_ordered retired)
+  ]
 
   -- what it does of its own, by the cases
   abbrev over : Bool
@@ -304,7 +356,7 @@ module _ (before : List Action) (c : Core) (g : Generations) (e : Event) (is : c
       elim (effect_holds before c h.started e.word e.kind h.between good room) [
         | inr retired ↦ absurd (retired_some retired all.0)
         | inl applied ↦
-            let m = applied_moved front t h.started applied in
+            let m = applied_moved front t h.started applied comes in
             let sound : Sound trace (inner u.core m.started) = subst (λ (x : List Action). Sound x (inner u.core m.started)) trace_is m.holds in
             let acted = has_acted before c e.word e.kind u.acts sound.stands in
             let open_still : (book trace).shut ≡ false = sound.tied.numbers.shut ∙ awake in

@@ -236,7 +236,7 @@ answer_apart b t p pending o calm tracked open_is apart told h =
     let known : n < b.submissions = (let within = name_within t.table t.requests p h.names l in let e = h.numbers.submissions in omega arith) in
     let own : (entered b (action.Outcome n o)).story n ≡ closed n = taken_if (n == n) (closed n) (b.story n) (eq_test n n refl) in
     record {
-      numbers = numbers_kept b b.link (entered b (action.Outcome n o)).story (entered b (action.Outcome n o)).tracked (entered b (action.Outcome n o)).errors now t.life (given_back t.limit t.free (permits_at t.requests p)) (with_permits t.requests p progress.Closed 0) t.waiting t.admitted t.fresh t.moved t.letting pending t.started h.numbers;
+      numbers = numbers_kept b b.link (entered b (action.Outcome n o)).story (entered b (action.Outcome n o)).tracked (entered b (action.Outcome n o)).errors (entered b (action.Outcome n o)).placed b.since now t.life (given_back t.limit t.free (permits_at t.requests p)) (with_permits t.requests p progress.Closed 0) t.waiting t.admitted t.fresh t.moved t.letting pending t.started h.numbers;
       others = h.others;
       notices = h.notices;
       life = h.life;

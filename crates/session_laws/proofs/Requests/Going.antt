@@ -17,7 +17,8 @@ use Rattle.mux_conn.specs.declared.life.Life.TheVariants.{Resting, Dialing, Ende
 use Rattle.legal_trace.specs.Book.{Book, blank_book, book, entered, if_mine}
 use Rattle.legal_trace.specs.Ledger.{Ledger, Line, dials, ending, is_set_up, lacks_credentials, noted, noted_each, renewal_count, renewal_due, renewals_asked, setup_count, setup_due, setup_steps, monitor_due, is_greeted, setup_result}
 use Rattle.legal_trace.specs.Legal.{AllStand, CanMove, IsApplied, IsBegun, IsFirstToMove, IsMoved, MayStand, NoneEnds, RenewalsAreStarted, RenewalsAreTimed, SetupsAreStarted, MonitorsAreStarted, IsShown, RepeatsAreTimed, RepeatsAreStarted}
-use Rattle.legal_trace.specs.Steps.{Step, is_due, is_held_back, next_step, starts_or_waits, step_down, step_ready, unready_wait, waits}
+use Rattle.legal_trace.proofs.Ahead.{held_with_link}
+use Rattle.legal_trace.specs.Steps.{Step, is_due, is_held_back, is_renewal_held, next_step, starts_or_waits, step_down, step_ready, unready_wait, waits}
 use Rattle.session_laws.proofs.Ties.Ahead.{HasSeats, IsRunning, creds_step, full_step, held_by, permit_step, queue_step, ready_alive, running_of, setup_step, repeat_step}
 use Rattle.session_laws.proofs.Ties.Behind.{alive_behind}
 use Rattle.session_laws.proofs.Managers.Comes.{NoneComes, live_comes, none_rests}
@@ -180,30 +181,31 @@ renewals_timed b t h asked m some = by_test (m == t.link) _
         let kept = (subst (TiedRenewal l t.renewal) e h.renewal).0 (λ none. some (h.numbers.within ∙ none)) in
         omega arith
 
--- and those that are to be told next wait for their link, which is held back
-renewals_started : (b : Book) (t : Inner) → Tied b t → ((link : LinkState) → t.life ≡ Ready link → link.boundary ≡ t.bound) → HasRenewed t.renewal t.life → RenewalsAreStarted b
-renewals_started b t h bound renewed m c due = by_test (m == t.link) _
-    (λ same. subst (λ n. is_held_back b (b.link n) ≡ true) (sym (eq_from m t.link same)) (by_life t.life refl (subst (λ n. renewal_due (b.link n) ≡ Some c) (eq_from m t.link same) due)))
+-- those that are to be told next wait, where they do on the link of the session
+renewals_held : (b : Book) (t : Inner) → Tied b t → ((link : LinkState) → t.life ≡ Ready link → is_renewal_due t.renewal ≡ true → is_renewal_held b t.link ≡ true) → RenewalsAreStarted b
+renewals_held b t h held m c due = by_test (m == t.link) (is_renewal_held b m ≡ true)
+    (λ same. subst (λ n. is_renewal_held b n ≡ true) (sym (eq_from m t.link same)) (by_life t.life refl (subst (λ n. renewal_due (b.link n) ≡ Some c) (eq_from m t.link same) due)))
     (λ other. absurd (no_due (b.link m) (down_renewed_due (b.link m) (h.others m (ne_from m t.link other)).down) due))
   where
     no_due : (l : Ledger) → renewal_due l ≡ None → renewal_due l ≡ Some c → ⊥
     no_due l none some = let no : ◌≡◌ {A = Option Credentials} None (Some c) = sym none ∙ some in cc
 
-    by_life : (life : Life) → t.life ≡ life → renewal_due (b.link t.link) ≡ Some c → is_held_back b (b.link t.link) ≡ true
+    by_life : (life : Life) → t.life ≡ life → renewal_due (b.link t.link) ≡ Some c → is_renewal_held b t.link ≡ true
     by_life Resting e d = absurd (no_due (b.link t.link) (down_renewed_due (b.link t.link) (subst (TiedLife (b.link t.link) b.created) e h.life).1) d)
     by_life Dialing e d = absurd (no_due (b.link t.link) (down_renewed_due (b.link t.link) (subst (TiedLife (b.link t.link) b.created) e h.life).1) d)
     by_life (Wanting link) e d = let r = subst (TiedRenewal (b.link t.link) t.renewal) e h.renewal in absurd (no_due (b.link t.link) (none_renewed_due (b.link t.link) t.renewal r) d)
     by_life (SettingUp link greeting) e d = let r = subst (TiedRenewal (b.link t.link) t.renewal) e h.renewal in absurd (no_due (b.link t.link) (none_renewed_due (b.link t.link) t.renewal r) d)
-    by_life (Ready link) e d =
-        let l = b.link t.link in
-        let r = subst (TiedRenewal l t.renewal) e h.renewal in
-        let tied : TiedLink (owner_of t.requests) l link = subst (λ (x : Life). TiedLink (carried x t.requests) l (whole_link x)) e (h.link (ap has_ended e)) in
-        let is : is_renewal_due t.renewal ≡ true = sym (due_is l t.renewal (subst (TiedLife l b.created) e h.life).1 r) ∙ ap is_some d in
-        held_by b t (owner_of t.requests) link h.numbers (bound link e) tied ∙ (renewed link e is).1
+    by_life (Ready link) e d = held link e (sym (due_is (b.link t.link) t.renewal (subst (TiedLife (b.link t.link) b.created) e h.life).1 (subst (TiedRenewal (b.link t.link) t.renewal) e h.renewal)) ∙ ap is_some d)
     by_life (Ended x) e d = absurd (no_due (b.link t.link) (down_renewed_due (b.link t.link) (subst (TiedLife (b.link t.link) b.created) e h.life).0) d)
 
+-- so it is where their link is held back
+renewals_started : (b : Book) (t : Inner) → Tied b t → ((link : LinkState) → t.life ≡ Ready link → link.boundary ≡ t.bound) → HasRenewed t.renewal t.life → RenewalsAreStarted b
+renewals_started b t h bound renewed = renewals_held b t h (λ link e due.
+    let tied : TiedLink (owner_of t.requests) (b.link t.link) link = subst (λ (x : Life). TiedLink (carried x t.requests) (b.link t.link) (whole_link x)) e (h.link (ap has_ended e)) in
+    held_with_link b t.link (held_by b t (owner_of t.requests) link h.numbers (bound link e) tied ∙ (renewed link e due).1))
+
 -- what is ready has a link
-ready_there : (life : Life) → is_ready life ≡ true → is_resting life ≡ false
+pub ready_there : (life : Life) → is_ready life ≡ true → is_resting life ≡ false
 ready_there Resting r = cc
 ready_there Dialing r = refl
 ready_there (Wanting link) r = refl
@@ -211,17 +213,24 @@ ready_there (SettingUp link greeting) r = refl
 ready_there (Ready link) r = refl
 ready_there (Ended e) r = refl
 
--- so on a link that is up requests may be moved
-pub begun_up : (b : Book) (t : Inner) → Tied b t → IsRunning t → IsToldIn t → NoneEnds b → HasRenewed t.renewal t.life → IsBegun b
-begun_up b t h r told ended renewed = record {
+-- so on a link that is up requests may be moved, where new credentials that are to be told have their timer and wait
+pub begun_with : (b : Book) (t : Inner) → Tied b t → IsRunning t → IsToldIn t → NoneEnds b → ((link : LinkState) → t.life ≡ Ready link → is_renewal_due t.renewal ≡ true → (t.renewal.pending ≡ true) × (is_renewal_held b t.link ≡ true)) → IsBegun b
+begun_with b t h r told ended renewed = record {
   applied = applied_up b t h r.settled told (ready_there t.life r.up) (ready_alive t.life r.up) ended;
   setups = setups_started b t h (λ link greeting e. absurd (ready_not_setting t.life link greeting r.up e));
   monitors = monitors_started b t h (λ link e. absurd (ready_not_setting t.life link greet.Monitor r.up e));
   repeats_timed = repeating_timed b t h (served_repeated t.again t.life r.served);
   repeated = repeating_started b t h (λ link e. ap (λ (x : Life). (link_in x).boundary) (sym e) ∙ r.fit.bound_is) (served_repeated t.again t.life r.served);
   timed = renewals_timed b t h (λ link e due. (renewed link e due).0);
-  renewed = renewals_started b t h (λ link e. ap (λ (x : Life). (link_in x).boundary) (sym e) ∙ r.fit.bound_is) renewed;
+  renewed = renewals_held b t h (λ link e due. (renewed link e due).1);
 }
+
+-- as they do on a link that is held back
+pub begun_up : (b : Book) (t : Inner) → Tied b t → IsRunning t → IsToldIn t → NoneEnds b → HasRenewed t.renewal t.life → IsBegun b
+begun_up b t h r told ended renewed = begun_with b t h r told ended (λ link e due.
+    let tied : TiedLink (owner_of t.requests) (b.link t.link) link = subst (λ (x : Life). TiedLink (carried x t.requests) (b.link t.link) (whole_link x)) e (h.link (ap has_ended e)) in
+    let k = renewed link e due in
+    (k.0, held_with_link b t.link (held_by b t (owner_of t.requests) link h.numbers (ap (λ (x : Life). (link_in x).boundary) (sym e) ∙ r.fit.bound_is) tied ∙ k.1)))
 
 -- or none waits
 pub shown_over : (b : Book) (t : Inner) (life : Life) → line_of (link_in life) t.admitted t.waiting ≡ kept_ids t.admitted t.waiting → Tied b t → t.pending ≡ [] → IsToldIn t → t.life ≡ life → kept_ids t.admitted t.waiting ≡ [] → NoneEnds b → IsShown b

@@ -308,11 +308,11 @@ abbrev pub lets : Inner → ℕ → ℕ → ℕ → List Purpose → Inner
 lets t p count free timers = waits_on t p count free timers (p ∷ [])
 
 -- it is tied to the book with these stories and timers, where its waits, its permits and its rounds are
-pub waits_on_tied : (b : Book) (t : Inner) (p count free : ℕ) (g : ℕ → Story) (noted timers : List Purpose) (letting : List ℕ) → serves t.life t.again ≡ true → is_waiting_at t.requests p ≡ true → AreEased b.story g (name_at t.requests p) → (g (name_at t.requests p)).permits ≡ count
-    → TiedNumbers (record b { story = g; timers = noted }) (waits_on t p count free timers letting) → (let requests = with_permits t.requests p progress.Begun count in
+pub waits_on_tied : (b : Book) (t : Inner) (p count free : ℕ) (g : ℕ → Story) (placed : ℕ → Option ℕ) (since : ℕ → ℕ) (noted timers : List Purpose) (letting : List ℕ) → serves t.life t.again ≡ true → is_waiting_at t.requests p ≡ true → AreEased b.story g (name_at t.requests p) → (g (name_at t.requests p)).permits ≡ count
+    → TiedNumbers (record b { story = g; timers = noted; placed = placed; since = since }) (waits_on t p count free timers letting) → (let requests = with_permits t.requests p progress.Begun count in
     TiedWaits g requests t.again t.life t.fresh t.moved → TiedPermits g b.submissions requests t.link t.limit free letting → TiedRounds (has_generations b) g requests (serves t.life t.again) t.fresh t.rounds → Tied b t
-    → Tied (record b { story = g; timers = noted }) (waits_on t p count free timers letting))
-waits_on_tied b t p count free g noted timers letting ready w eased has numbers waits permits rounds h = record {
+    → Tied (record b { story = g; timers = noted; placed = placed; since = since }) (waits_on t p count free timers letting))
+waits_on_tied b t p count free g placed since noted timers letting ready w eased has numbers waits permits rounds h = record {
   numbers = numbers;
   others = h.others;
   notices = h.notices;
@@ -345,12 +345,12 @@ pub record AreStill (f g : ℕ → Story) : Type 0 where
   pub rounded : SameRounds f g
 
 -- so it is while it is let in
-let_tied : (b : Book) (t : Inner) (p count free : ℕ) (g : ℕ → Story) (noted timers : List Purpose) → serves t.life t.again ≡ true → is_waiting_at t.requests p ≡ true → HasBegun t p → ((m : ℕ) → IsIn m t.letting → p ≡ m) → AreEased b.story g (name_at t.requests p) → AreStill b.story g
-    → (g (name_at t.requests p)).permits ≡ count → ((k : ℕ) → t.limit ≡ Some k → permits_held g t.link b.submissions + free ≡ k) → TiedNumbers (record b { story = g; timers = noted }) (lets t p count free timers) → Tied b t
-    → Tied (record b { story = g; timers = noted }) (lets t p count free timers)
-let_tied b t p count free g noted timers ready w begun alone eased still has sum numbers h =
+let_tied : (b : Book) (t : Inner) (p count free : ℕ) (g : ℕ → Story) (placed : ℕ → Option ℕ) (since : ℕ → ℕ) (noted timers : List Purpose) → serves t.life t.again ≡ true → is_waiting_at t.requests p ≡ true → HasBegun t p → ((m : ℕ) → IsIn m t.letting → p ≡ m) → AreEased b.story g (name_at t.requests p) → AreStill b.story g
+    → (g (name_at t.requests p)).permits ≡ count → ((k : ℕ) → t.limit ≡ Some k → permits_held g t.link b.submissions + free ≡ k) → TiedNumbers (record b { story = g; timers = noted; placed = placed; since = since }) (lets t p count free timers) → Tied b t
+    → Tied (record b { story = g; timers = noted; placed = placed; since = since }) (lets t p count free timers)
+let_tied b t p count free g placed since noted timers ready w begun alone eased still has sum numbers h =
     let o = waiting_open t.requests p w in
-    waits_on_tied b t p count free g noted timers (p ∷ []) ready w eased has numbers (waits_let b.story g t.requests t.again t.life t.fresh t.moved p count w still.waiting h.waits)
+    waits_on_tied b t p count free g placed since noted timers (p ∷ []) ready w eased has numbers (waits_let b.story g t.requests t.again t.life t.fresh t.moved p count w still.waiting h.waits)
     (permits_eased b.story g t.table b.submissions t.requests t.link t.limit t.free free t.letting p count h.names w alone eased sum h.permits)
     (rounds_with b.story g t.requests t.fresh p progress.Begun count (there_within is_waiting t.requests p w) refl still.rounded (λ shows unclosed. h.rounds.begun p shows o (begun shows)) h.rounds) h
 
@@ -460,6 +460,7 @@ take_tied : (b : Book) (t : Inner) (p count : ℕ) → serves t.life t.again ≡
     → Tied (entered b (action.Took (owner.Try (name_at t.requests p) 0) t.link count)) (lets t p count (t.free - count) t.timers)
 take_tied b t p count ready w begun alone most h =
     let n = name_at t.requests p in
+    let taken = action.Took (owner.Try n 0) t.link count in
     let within = there_within is_waiting t.requests p w in
     let g : ℕ → Story = λ m. if_own (n == m) (holds (b.story m) count) (b.story m) in
     let eased = eased_at b.story n (λ s. holds s count) (λ m. record { submission = refl; late = refl; unspoken = refl; link = refl; timeout = refl; overdue = refl; tries = refl; outcomes = refl; cancelled = refl }) in
@@ -468,14 +469,14 @@ take_tied b t p count ready w begun alone most h =
     let on = r.on (waiting_open t.requests p w) in
     let none = h.permits.none p w (λ i. subst (IsIn p) alone i) in
     let known : n < b.submissions = (let l = name_within t.table t.requests p h.names within in let e = h.numbers.submissions in omega arith) in
-    let_tied b t p count (t.free - count) g b.timers t.timers ready w begun (λ m i. absurd (subst (IsIn m) alone i)) eased (still_at b.story n (λ s. holds s count) (λ m. refl) (λ m. refl)) (ap (λ (s : Story). s.permits) own)
+    let_tied b t p count (t.free - count) g (entered b taken).placed b.since b.timers t.timers ready w begun (λ m i. absurd (subst (IsIn m) alone i)) eased (still_at b.story n (λ s. holds s count) (λ m. refl) (λ m. refl)) (ap (λ (s : Story). s.permits) own)
     (λ k e.
     let was = h.permits.counted k e in
     let change = held_changed b.story g t.link b.submissions n known (λ m o. ap (permits_on t.link) (eased.others m (λ x. o (sym x)))) in
     let before = on_this t.link (b.story n) on ∙ r.permits_is ∙ none.0 in
     let after = on_this t.link (g n) (ap (λ (s : Story). s.link) own ∙ on) ∙ ap (λ (s : Story). s.permits) own in
     omega arith)
-    (numbers_kept b b.link g b.tracked b.errors t t.life (t.free - count) (with_permits t.requests p progress.Begun count) t.waiting t.admitted t.fresh t.moved (p ∷ []) t.pending t.started h.numbers) h
+    (numbers_kept b b.link g b.tracked b.errors (entered b taken).placed b.since t t.life (t.free - count) (with_permits t.requests p progress.Begun count) t.waiting t.admitted t.fresh t.moved (p ∷ []) t.pending t.started h.numbers) h
 
 -- where permits aren't counted nothing is
 free_tied : (b : Book) (t : Inner) (p : ℕ) → serves t.life t.again ≡ true → is_waiting_at t.requests p ≡ true → HasBegun t p → t.letting ≡ [] → t.limit ≡ None → Tied b t → Tied b (lets t p 0 (t.free - 0) t.timers)
@@ -484,9 +485,9 @@ free_tied b t p ready w begun alone e h =
     let within = there_within is_waiting t.requests p w in
     let r = request_story b t p h within in
     let none = h.permits.none p w (λ i. subst (IsIn p) alone i) in
-    let_tied b t p 0 (t.free - 0) b.story b.timers t.timers ready w begun (λ m i. absurd (subst (IsIn m) alone i)) (none_eased b.story n) (record { waiting = λ m. refl; rounded = λ m. refl }) (r.permits_is ∙ none.0)
+    let_tied b t p 0 (t.free - 0) b.story b.placed b.since b.timers t.timers ready w begun (λ m i. absurd (subst (IsIn m) alone i)) (none_eased b.story n) (record { waiting = λ m. refl; rounded = λ m. refl }) (r.permits_is ∙ none.0)
     (λ k x. (let no_limit : ◌≡◌ {A = Option ℕ} None (Some k) = sym e ∙ x in cc))
-    (numbers_kept b b.link b.story b.tracked b.errors t t.life (t.free - 0) (with_permits t.requests p progress.Begun 0) t.waiting t.admitted t.fresh t.moved (p ∷ []) t.pending t.started h.numbers) h
+    (numbers_kept b b.link b.story b.tracked b.errors b.placed b.since t t.life (t.free - 0) (with_permits t.requests p progress.Begun 0) t.waiting t.admitted t.fresh t.moved (p ∷ []) t.pending t.started h.numbers) h
 
 -- its timer is asked for
 --
@@ -527,8 +528,9 @@ ask_tied b t p number ms ready w begun alone h =
     let known = name_within t.table t.requests p h.names within in
     let hold : (m : ℕ) → permits_on t.link (g m) ≡ permits_on t.link (b.story m) = λ m.
     chosen (λ (x : Story). permits_on t.link x ≡ permits_on t.link (b.story m)) (n == m) (clocked (b.story m) number) (b.story m) (λ t. refl) (λ f. refl) in
-    let k = numbers_kept b b.link g b.tracked b.errors t t.life t.free (with_permits t.requests p progress.Begun (permits_at t.requests p)) t.waiting t.admitted t.fresh t.moved (p ∷ []) t.pending t.started h.numbers in
-    let_tied b t p (permits_at t.requests p) t.free g (b.timers ++ what ∷ []) (t.timers ++ what ∷ []) ready w begun alone eased (still_at b.story n (λ s. clocked s number) (λ m. refl) (λ m. refl)) (ap (λ (s : Story). s.permits) own ∙ r.permits_is)
+    let asked = action.Timer number ms what in
+    let k = numbers_kept b b.link g b.tracked b.errors (entered b asked).placed b.since t t.life t.free (with_permits t.requests p progress.Begun (permits_at t.requests p)) t.waiting t.admitted t.fresh t.moved (p ∷ []) t.pending t.started h.numbers in
+    let_tied b t p (permits_at t.requests p) t.free g (entered b asked).placed b.since (b.timers ++ what ∷ []) (t.timers ++ what ∷ []) ready w begun alone eased (still_at b.story n (λ s. clocked s number) (λ m. refl) (λ m. refl)) (ap (λ (s : Story). s.permits) own ∙ r.permits_is)
     (λ k e. ap (λ x. x + t.free) (held_same b.story g t.link b.submissions (λ m l. hold m)) ∙ h.permits.counted k e)
     (record {
       turns = k.turns;

@@ -16,7 +16,8 @@ use Rattle.session_laws.proofs.Internal.SaysAlone.{said_alone}
 use Rattle.session_laws.proofs.Requests.Start.{with_queue}
 use Rattle.mux_conn.specs.Connection.{Work, at_life, is_serving, admits_none, admits_none_at, has_no_permit, with_link, in_front, is_due, is_ready, is_outstanding}
 use Rattle.mux_conn.specs.Effects.{failed_each, nobody_waits, waiting_failed}
-use Rattle.mux_conn.specs.Passes.{said, starts_with, admitted, admitted_all, admitted_at, admitted_each, moved_up_all, moved_up_each, passed, started_at, still_admitted, still_waiting, rounds_begun, rounds_of}
+use Rattle.mux_conn.specs.Starts.{starts_with}
+use Rattle.mux_conn.specs.Passes.{said, admitted, admitted_all, admitted_at, admitted_each, moved_up_all, moved_up_each, passed, started_at, still_admitted, still_waiting, rounds_begun, rounds_of}
 use Rattle.mux_conn.specs.Requests.{answered, with_permits, is_open as is_open_progress, is_open_at, is_waiting, is_waiting_at}
 use Rattle.mux_conn.specs.declared.life.Greeting.{Greeting}
 use Rattle.mux_conn.specs.declared.life.Life.{Life}
@@ -30,8 +31,9 @@ use Rattle.legal_trace.specs.Legal.{NoneEnds}
 use Rattle.session_laws.proofs.Requests.Answer.{after_end}
 use Rattle.session_laws.proofs.Links.Close.{waiting_ends}
 use Rattle.mux_conn.specs.Renewals as renewals
-use Rattle.mux_conn.specs.Renewals.{renewal_asked, renewal_moved}
+use Rattle.mux_conn.specs.Renewals.{renewal_asked, renewal_moved, started_ahead}
 use Rattle.session_laws.proofs.Ties.Ahead.{HasSeats}
+use Rattle.session_laws.proofs.Ties.Ordered.{StaysOrdered}
 use Rattle.session_laws.proofs.Internal.Renews.{HasTold, renewed_told}
 use Rattle.session_laws.proofs.Requests.Going.{IsGoing, HasRenewed}
 use Rattle.session_laws.proofs.Ties.InLine.{kept_ids}
@@ -56,6 +58,12 @@ pub record HasMoved (before : List Action) (f : Core) (w : Work) : Type 0 where
   pub hushed : f.shut ≡ true → IsStopped w.conn.life w.conn.waiting
   pub seats : HasSeats w.conn.moved (in_front w.conn.renewal) (link_in w.conn.life) w.conn.size
 
+-- of the requests that are to start behind it, and behind what is subscribed again, it is known which are ahead of new credentials
+abbrev pub ComesOrdered : List Action → Core → Work → Type 0
+ComesOrdered before f w =
+    (started : List ℕ) (link : LinkState) → (repeated w).conn.life ≡ Ready link → (repeated w).conn.moved ≡ [] → Holds before f (repeated w) [] started
+    → StaysOrdered (book (trace_of_acts before f (repeated w).acts)) f.single.link f.table (repeated w).conn.renewal
+
 -- what an applied event gives: none was moved in its turn
 pub record IsReady (before : List Action) (f : Core) (w : Work) (started : List ℕ) : Type 0 where
   pub holds : Holds before f w [] started
@@ -63,6 +71,7 @@ pub record IsReady (before : List Action) (f : Core) (w : Work) (started : List 
   pub fit : IsFitIn w.conn
   pub moved : w.conn.moved ≡ []
   pub hushed : f.shut ≡ true → IsStopped w.conn.life w.conn.waiting
+  pub ordered : ComesOrdered before f w
 
 -- on a link that is up and set up
 --
@@ -164,11 +173,12 @@ no_rounds : (w : Work) → is_serving w.conn ≡ false → rounds_begun w ≡ w
 no_rounds w down = left_if (w.conn.rounds && is_serving w.conn) (rounds_of w w.conn.fresh) w (ap (λ x. w.conn.rounds && x) down ∙ and-false w.conn.rounds)
 
 -- and the driver says nothing itself
-unready_said : (w : Work) → is_ready w.conn.life ≡ false → said w ≡ w
+pub unready_said : (w : Work) → is_ready w.conn.life ≡ false → said w ≡ w
 unready_said w down =
     let r = w.conn.renewal in
+    let ahead = started_ahead (renewal_asked w) in
     ap renewals.renewed (left_if (is_ready w.conn.life && is_to_start w.conn.again) (repeat_moved (repeat_asked w) w.conn.life w.conn.again) w (ap (λ x. x && is_to_start w.conn.again) down))
-    ∙ left_if (is_ready w.conn.life && is_due r) (renewal_moved (renewal_asked w) w.conn.life r.waiting) w (ap (λ x. x && is_due r) down)
+    ∙ left_if (is_ready w.conn.life && is_due r) (renewal_moved ahead ahead.conn.life ahead.conn.renewal.waiting) w (ap (λ x. x && is_due r) down)
 
 -- while the connect isn't answered, or credentials are to come
 --
@@ -231,12 +241,17 @@ repeating_moved before f w awake none open_is h =
       seats = λ p i. absurd (subst (IsIn p) h.moved i);
     })
 
--- so all are moved on a link that is set up
+-- so new credentials are told on a link that is set up
+pub ready_told : (before : List Action) (f : Core) (w : Work) (started : List ℕ) (link : LinkState) → w.conn.life ≡ Ready link → IsReady before f w started → HasTold before f (said w)
+ready_told before f w started link life h =
+    let r = repeated_on before f w started link life h.holds h.ended (h.fit.link link life) h.moved in
+    renewed_told before f (repeated w) r.started r.link r.life r.holds r.ended r.fit r.moved r.repeated (h.ordered r.started r.link r.life r.moved r.holds)
+
+-- and all are moved there
 pub ready_moved : (before : List Action) (f : Core) (w : Work) (started : List ℕ) (link : LinkState) → w.conn.life ≡ Ready link → IsReady before f w started → HasMoved before f (passed w)
 ready_moved before f w started link life h =
     let awake : f.shut ≡ true → ⊥ = λ over. up_awake w.conn.life w.conn.waiting link life (h.hushed over) in
-    let r = repeated_on before f w started link life h.holds h.ended (h.fit.link link life) h.moved in
-    let told = renewed_told before f (repeated w) r.started r.link r.life r.holds r.ended r.fit r.moved r.repeated in
+    let told = ready_told before f w started link life h in
     by_test (is_outstanding w.conn.again) (HasMoved before f (passed w))
     (λ goes. repeating_moved before f w awake (h.fit.none (outstanding_serves w.conn.life w.conn.again goes)) goes told)
     (λ served. told_moved before f (said w) awake ((said_alone w).goes ∙ served) told)

@@ -517,7 +517,7 @@ place_tied b t link q waiting admitted yes_awaited next none h =
       told = λ f. absurd (not_both q.awaited f yes_awaited);
     } in
     record {
-      numbers = numbers_kept b _ _ _ _ (on_link t link) _ _ _ _ _ _ _ _ _ _ h.numbers;
+      numbers = numbers_kept b _ _ _ _ _ _ (on_link t link) _ _ _ _ _ _ _ _ _ _ h.numbers;
       others = h.others;
       notices = h.notices;
       life = h.life;
@@ -600,7 +600,7 @@ tell_tied b t link q waiting admitted not_awaited next none h =
       told = λ f. ap (λ x. (after x).outcomes) named ∙ ap (λ (s : Story). s.outcomes) (sym same) ∙ ap (λ os. os ++ nil ∷ []) (open_unanswered (b.story n) (r.open_is ∙ o));
     } in
     record {
-      numbers = numbers_kept b _ _ _ _ (on_link t link) _ _ _ _ _ _ _ _ _ _ h.numbers;
+      numbers = numbers_kept b _ _ _ _ _ _ (on_link t link) _ _ _ _ _ _ _ _ _ _ h.numbers;
       others = h.others;
       notices = h.notices;
       life = h.life;
@@ -666,7 +666,7 @@ admit_tied b t link q qs w begun is last none h =
     let apart : IsIn p queue → ⊥ = λ i. (let k = rising_apart 0 queue (front ++ (p ∷ rest)) hi p p line i (in_right p front (p ∷ rest) (inl refl)) in omega arith) in
     let same : kept_ids t.admitted (q ∷ qs) ≡ kept_ids (t.admitted ++ q ∷ []) qs = sym (append_assoc front (p ∷ []) rest) ∙ ap (λ ns. ns ++ rest) (sym (waiting_ids-push t.admitted q)) in
     record {
-      numbers = numbers_kept b _ _ _ _ (record (on_link t link) { waiting = q ∷ qs; letting = q.number ∷ [] }) _ _ _ _ _ _ _ _ _ _ h.numbers;
+      numbers = numbers_kept b _ _ _ _ _ _ (record (on_link t link) { waiting = q ∷ qs; letting = q.number ∷ [] }) _ _ _ _ _ _ _ _ _ _ h.numbers;
       others = h.others;
       notices = h.notices;
       life = h.life;

@@ -28,7 +28,7 @@ use Rattle.session_laws.proofs.Requests.Rounded.{rounds_new}
 use Rattle.session_laws.proofs.Ties.Ahead.{dialing_step, placed_open, setup_step, waiting_open, admitted_open, creds_step, HasSeats, resting_step, repeat_step}
 use Rattle.session_laws.proofs.Requests.Going.{is_moved, StaysPut}
 use Rattle.session_laws.proofs.Ties.InLine.{awaited_in, first_is_least, kept_ids, wanted_in}
-use Rattle.session_laws.proofs.Requests.Moved.{passed_moved, HasMoved}
+use Rattle.session_laws.proofs.Requests.Moved.{passed_moved, ComesOrdered, HasMoved, IsReady}
 use Rattle.session_laws.proofs.Ties.Names.{open_within}
 use Rattle.session_laws.proofs.Ties.Numbers.{IsIn, Rising, in_left, in_right, rising_in, rising_left, rising_right, requests_in}
 use Rattle.session_laws.proofs.Ties.Owes.{IsOpenRequest, lives, none_open, open_request, request_story, row_link, stands_started, wanted_entry, open_on}
@@ -564,14 +564,17 @@ shown_between before f w began h =
     }
 
 -- all is moved
-pub applied_moved : (before : List Action) (t : Turning) (started : List ℕ) → HasApplied before t started → HasMoved before t.core (passed (work_of t))
-applied_moved before t started h = passed_moved before t.core (work_of t) started (record { holds = h.sound; ended = h.ended; fit = h.fit; moved = h.moved; hushed = h.hushed })
+pub applied_ready : (before : List Action) (t : Turning) (started : List ℕ) → HasApplied before t started → ComesOrdered before t.core (work_of t) → IsReady before t.core (work_of t) started
+applied_ready before t started h ordered = record { holds = h.sound; ended = h.ended; fit = h.fit; moved = h.moved; hushed = h.hushed; ordered = ordered }
+
+pub applied_moved : (before : List Action) (t : Turning) (started : List ℕ) → HasApplied before t started → ComesOrdered before t.core (work_of t) → HasMoved before t.core (passed (work_of t))
+applied_moved before t started h ordered = passed_moved before t.core (work_of t) started (applied_ready before t started h ordered)
 
 -- and then all is shown, once nothing more is done of its own
 pub returned_between : (before : List Action) (f : Core) (w : Work) → f.turns ≢ 0 → HasReturned before f w → IsBetween (trace_of_acts before f (flushed w).acts) (numbered (with_work (record { core = f; acts = [] }) (flushed w))).core
 returned_between before f w began h = shown_between before f (flushed w) began (waits_hold before f (written w) (written_holds before f w h))
 
 -- so it is of what doesn't come back
-pub moved_on_between : (before : List Action) (t : Turning) (started : List ℕ) → is_some t.core.manager ≡ false → HasEffect before t started → IsBetween (trace_with before (moved_on t)) (numbered (moved_on t)).core
-moved_on_between before t started plain (inl h) = returned_between before t.core (passed (work_of t)) h.began (plain_returned before t.core (passed (work_of t)) plain (applied_moved before t started h))
-moved_on_between before t started plain (inr h) = absurd (not_both (is_some t.core.manager) plain h.retiring.comes)
+pub moved_on_between : (before : List Action) (t : Turning) (started : List ℕ) → is_some t.core.manager ≡ false → HasEffect before t started → ComesOrdered before t.core (work_of t) → IsBetween (trace_with before (moved_on t)) (numbered (moved_on t)).core
+moved_on_between before t started plain (inl h) ordered = returned_between before t.core (passed (work_of t)) h.began (plain_returned before t.core (passed (work_of t)) plain (applied_moved before t started h ordered))
+moved_on_between before t started plain (inr h) ordered = absurd (not_both (is_some t.core.manager) plain h.retiring.comes)

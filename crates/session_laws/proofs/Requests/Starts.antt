@@ -12,7 +12,7 @@ use Rattle.link_laws.proofs.Choices.{chosen_both}
 use Rattle.link_laws.specs.Starts.{begun, starting}
 use Rattle.mux_conn.specs.Connection.{Work, acted, in_front, is_outstanding}
 use Rattle.mux_conn.specs.declared.life.Life.TheVariants.{Ready}
-use Rattle.mux_conn.specs.Passes.{shown_each as shown_starts}
+use Rattle.mux_conn.specs.Starts.{shown_each as shown_starts}
 use Rattle.mux_conn.specs.Requests.{name_at}
 use Rattle.mux_conn.specs.declared.act.LinkAct.{LinkAct}
 use Rattle.mux_conn.specs.declared.act.LinkAct.TheVariants as act
@@ -75,7 +75,7 @@ start_going trace t link q qs fit seats free h =
 
 -- the acts of the starts of one call
 --
-abbrev show_start : List Request → Started → LinkAct
+abbrev pub show_start : List Request → Started → LinkAct
 show_start requests s = act.Start s.msg (name_at requests s.id) s.need s.len
 
 -- and of all
@@ -84,7 +84,7 @@ shows requests [] = []
 shows requests (s ∷ ss) = show_start requests s ∷ shows requests ss
 
 -- one start more
-shows-append : (requests : List Request) (ss : List Started) (s : Started) → shows requests (ss ++ s ∷ []) ≡ shows requests ss ++ show_start requests s ∷ []
+pub shows-append : (requests : List Request) (ss : List Started) (s : Started) → shows requests (ss ++ s ∷ []) ≡ shows requests ss ++ show_start requests s ∷ []
 shows-append requests [] s = refl
 shows-append requests (x ∷ ss) s = ap (λ more. show_start requests x ∷ more) (shows-append requests ss s)
 
@@ -94,7 +94,7 @@ shown_is w [] = ap (λ (x : List LinkAct). record w { acts = x }) (sym (append-n
 shown_is w (s ∷ ss) = shown_is (acted w (show_start w.conn.requests s)) ss ∙ ap (λ (x : List LinkAct). record w { acts = x }) (append_assoc w.acts (show_start w.conn.requests s ∷ []) (shows w.conn.requests ss))
 
 -- a link with one more started is fit as it was
-fit_next : (size bound : ℕ) (s : Starting) (q : Queued) (qs : List Queued) → IsFit size bound (with_queue s.link (q ∷ qs)) → IsFit size bound (with_queue (started_one s q).link qs)
+pub fit_next : (size bound : ℕ) (s : Starting) (q : Queued) (qs : List Queued) → IsFit size bound (with_queue s.link (q ∷ qs)) → IsFit size bound (with_queue (started_one s q).link qs)
 fit_next size bound s q qs h = let w = h.within in record { sound = h.sound; size_is = h.size_is; bound_is = h.bound_is; within = omega arith }
 
 -- and who took a place in this turn found one

@@ -162,7 +162,7 @@ wait_tied b t p kind moved fresh within h new waits =
     let same = waits_submissions n kind b.story in
     let answers = waits_outcomes n kind b.story in
     record {
-      numbers = numbers_kept b b.link after b.tracked b.errors t t.life t.free t.requests t.waiting t.admitted fresh moved t.letting t.pending t.started h.numbers;
+      numbers = numbers_kept b b.link after b.tracked b.errors (entered b (wait_action n kind)).placed b.since t t.life t.free t.requests t.waiting t.admitted fresh moved t.letting t.pending t.started h.numbers;
       others = h.others;
       notices = h.notices;
       life = h.life;

@@ -373,7 +373,7 @@ many_outside b t p h r on none many =
     outside_is b t p h r on ∙ (λ i. not (none i) && test i)
 
 -- what was shown of its wait is no room
-not_room : (shown : Option WaitKind) → shown ≢ Some wait.Room → is_room shown ≡ false
+pub not_room : (shown : Option WaitKind) → shown ≢ Some wait.Room → is_room shown ≡ false
 not_room None other = refl
 not_room (Some wait.Room) other = absurd (other refl)
 not_room (Some wait.Connect) other = refl
@@ -385,7 +385,7 @@ not_room (Some wait.Permit) other = refl
 not_room (Some wait.Place) other = refl
 
 -- a message of the queue is awaited there, or was told
-queue_awaited : (story : ℕ → Story) (requests : List Request) (qs : List Queued) (p : ℕ) → AllByRecursion (IsQueued story requests) qs → IsIn p (queue_ids qs) → IsIn p (awaited_ids qs) ⊎ (is_told (story (name_at requests p)) ≡ true)
+pub queue_awaited : (story : ℕ → Story) (requests : List Request) (qs : List Queued) (p : ℕ) → AllByRecursion (IsQueued story requests) qs → IsIn p (queue_ids qs) → IsIn p (awaited_ids qs) ⊎ (is_told (story (name_at requests p)) ≡ true)
 queue_awaited story requests [] p all i = absurd i
 queue_awaited story requests (q ∷ qs) p all (inl e) =
     by_test q.awaited _
@@ -507,7 +507,7 @@ queue_may b t p h i =
     ]
 
 -- an open request was told nothing
-open_told : (b : Book) (t : Inner) (p : ℕ) → Tied b t → is_open_at t.requests p ≡ true → is_told (b.story (name_at t.requests p)) ≡ false
+pub open_told : (b : Book) (t : Inner) (p : ℕ) → Tied b t → is_open_at t.requests p ≡ true → is_told (b.story (name_at t.requests p)) ≡ false
 open_told b t p h o = open_untold (b.story (name_at t.requests p)) ((request_story b t p h (open_within t.requests p o)).open_is ∙ o)
 
 -- who took its place in this turn, and is in the queue, stands within its size

@@ -73,6 +73,60 @@ tied_by b t l e h = record {
   late = h.late;
 }
 
+-- the numbers say nothing of since when places are had, and new credentials are due
+pub replaced_numbers : (b : Book) (t : Inner) (placed : ℕ → Option ℕ) (since : ℕ → ℕ) → TiedNumbers b t → TiedNumbers (record b { placed = placed; since = since }) t
+replaced_numbers b t placed since h = record {
+  turns = h.turns;
+  links = h.links;
+  submissions = h.submissions;
+  timers = h.timers;
+  sources = h.sources;
+  aims = h.aims;
+  timed = h.timed;
+  timeout = h.timeout;
+  shut = h.shut;
+  within = h.within;
+  few = h.few;
+  settings = record { size_is = h.settings.size_is; bound_is = h.settings.bound_is; limit_is = h.settings.limit_is; some = h.settings.some; limited = h.settings.limited };
+  kind_is = h.kind_is;
+  quiet = h.quiet;
+  comes_back = h.comes_back;
+  lazy = h.lazy;
+  current_is = h.current_is;
+  speaks = h.speaks;
+  address_is = h.address_is;
+  wants = h.wants;
+  alone = h.alone;
+}
+
+-- nor does any tie
+pub replaced : (b : Book) (t : Inner) (placed : ℕ → Option ℕ) (since : ℕ → ℕ) → Tied b t → Tied (record b { placed = placed; since = since }) t
+replaced b t placed since h = record {
+  numbers = replaced_numbers b t placed since h.numbers;
+  others = h.others;
+  notices = h.notices;
+  life = h.life;
+  course = h.course;
+  calm = h.calm;
+  creation = h.creation;
+  creds = h.creds;
+  uses = h.uses;
+  renewal = h.renewal;
+  repeat = h.repeat;
+  setup = h.setup;
+  link = h.link;
+  names = h.names;
+  story = h.story;
+  tries = h.tries;
+  lines = h.lines;
+  told = h.told;
+  waits = h.waits;
+  permits = h.permits;
+  rounds = h.rounds;
+  early = h.early;
+  late = h.late;
+}
+
 -- a line of a link is noted of it alone
 pub mine_noted : (l : Ledger) (n : ℕ) (line : Line) → noted_each l (if_mine (n == n) line) ≡ noted l line
 mine_noted l n line = ap (noted_each l) (taken_if (n == n) (line ∷ []) [] (eq_test n n refl))

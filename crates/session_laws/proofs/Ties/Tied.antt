@@ -651,10 +651,10 @@ inner c started = record {
   started = started;
 }
 
--- the numbers, where only links, stories, what is subscribed, errors and the connection change
-pub numbers_kept : (b : Book) (link : ℕ → Ledger) (story : ℕ → Story) (tracked : List Call) (errors : List RedisError) (t : Inner) (life : Life) (free : ℕ) (requests : List Request) (waiting admitted : List Waiting) (fresh moved letting pending started : List ℕ) → TiedNumbers b t
-    → TiedNumbers (record b { link = link; story = story; tracked = tracked; errors = errors }) (record t { life = life; free = free; requests = requests; waiting = waiting; admitted = admitted; fresh = fresh; moved = moved; letting = letting; pending = pending; started = started })
-numbers_kept b link story tracked errors t life free requests waiting admitted fresh moved letting pending started h = record {
+-- the numbers, where only links, stories, what is subscribed, errors, since when places are had and new credentials are due, and the connection change
+pub numbers_kept : (b : Book) (link : ℕ → Ledger) (story : ℕ → Story) (tracked : List Call) (errors : List RedisError) (placed : ℕ → Option ℕ) (since : ℕ → ℕ) (t : Inner) (life : Life) (free : ℕ) (requests : List Request) (waiting admitted : List Waiting) (fresh moved letting pending started : List ℕ) → TiedNumbers b t
+    → TiedNumbers (record b { link = link; story = story; tracked = tracked; errors = errors; placed = placed; since = since }) (record t { life = life; free = free; requests = requests; waiting = waiting; admitted = admitted; fresh = fresh; moved = moved; letting = letting; pending = pending; started = started })
+numbers_kept b link story tracked errors placed since t life free requests waiting admitted fresh moved letting pending started h = record {
   turns = h.turns;
   links = h.links;
   timers = h.timers;
@@ -686,7 +686,7 @@ pub relined : (b : Book) (t : Inner) (waiting admitted : List Waiting) (fresh mo
     → TiedRounds (has_generations b) b.story t.requests (serves t.life t.again) fresh t.rounds → AreLate b.story t.requests pending
     → Tied b (record t { waiting = waiting; admitted = admitted; fresh = fresh; moved = moved; pending = pending })
 relined b t waiting admitted fresh moved pending h lines waits rounds late = record {
-  numbers = numbers_kept b b.link b.story b.tracked b.errors t t.life t.free t.requests waiting admitted fresh moved t.letting pending t.started h.numbers;
+  numbers = numbers_kept b b.link b.story b.tracked b.errors b.placed b.since t t.life t.free t.requests waiting admitted fresh moved t.letting pending t.started h.numbers;
   others = h.others;
   notices = h.notices;
   life = h.life;

@@ -1,5 +1,5 @@
 -- A turn of an event: where it may stand, and what its link and the others hear.
-use Rattle.std.proofs.Common.{◌≡◌, ◌≢◌, inl, inr, ℕ, ◌+◌, ◌<◌, ◌≤◌, ◌==◌, nat_lt, nat_le, false, ◌&&◌, ◌||◌, not, is_some, List, [], ◌∷◌, ◌++◌, length, slice_get, Some, refl, sym, ap, ◌∙◌, subst, arith, length-take, None, Option, true, Bool}
+use Rattle.std.proofs.Common.{◌≡◌, ◌≢◌, inl, inr, ℕ, ◌+◌, ◌-◌, ◌<◌, ◌≤◌, ◌==◌, nat_lt, nat_le, false, ◌&&◌, ◌||◌, not, is_some, List, [], ◌∷◌, ◌++◌, length, slice_get, Some, refl, sym, ap, ◌∙◌, subst, arith, length-take, None, Option, true, Bool}
 use Rattle.std.proofs.lemmas.List.{append-nil}
 use Rattle.containers.proofs.Choices.{or_left, by_test, chosen, left_if, eq_from, ne_from, ne_test, not_le_from, not_both}
 use Rattle.redis_error.specs.declared.redis_error.RedisError.TheVariants as error
@@ -28,8 +28,8 @@ use Rattle.mux_conn.specs.declared.request.Request.{Request}
 use Rattle.shared_session.specs.declared.core_state.Core.{Core}
 use Rattle.shared_session.specs.Turn.{is_shutdown, shut_by, exceeds_offer, is_bad}
 use Rattle.legal_trace.specs.Ledger.{Ledger, Start, setup_count, authorized_by, with_news, awaits_credentials, hears, noted, is_over, bytes_came, dials, refused_in, Heard, is_renewal_open, lost_by, may_renew, renewed_by, unrenewed_by, is_repeating, unrepeated_by}
-use Rattle.legal_trace.specs.Story.{Story, fires}
-use Rattle.legal_trace.specs.Book.{Book, book, entered, is_clock_of, hearing_in, rest_after, timeout_after, kind_in, has_generations}
+use Rattle.legal_trace.specs.Story.{Story, fires, has_place}
+use Rattle.legal_trace.specs.Book.{Book, book, entered, if_own, is_clock_of, placed_since, since_after, hearing_in, rest_after, timeout_after, kind_in, has_generations}
 use Rattle.legal_trace.specs.Events.{is_bad_event}
 use Rattle.legal_trace.specs.Legal.{MayTurn}
 use Rattle.mux_conn.specs.Connection.{is_resting, is_outstanding}
@@ -220,7 +220,7 @@ IsNewsKind timers (event.CredsEnd c) = Unit {0}
 IsNewsKind timers event.DropStream = Unit {0}
 IsNewsKind timers event.Shutdown = Unit {0}
 
--- leaves the stories
+-- leaves the stories, and places
 abbrev pub heard_book : Book → ℕ → ℕ → EventKind → Book
 heard_book b number word kind = record b {
   turns = b.turns + 1;
@@ -229,6 +229,8 @@ heard_book b number word kind = record b {
   rest = rest_after b.rest kind;
   errors = [];
   link = λ m. noted (b.link m) (hears number (news_of b.timers b.sources m kind));
+  placed = λ m. placed_since (has_place (b.story m)) (b.placed m) (b.turns - 1);
+  since = λ m. since_after b m (action.Turn number (cause.Event (record { word = word; kind = kind })));
 }
 
 -- an event sets no time for requests
@@ -289,7 +291,8 @@ heard_is b number word (event.Refused l f) k = still_as_many b number word (even
 heard_is b number word (event.Fired n) k =
     let e : b.submissions + 0 ≡ b.submissions = omega arith in
     let same = time_still (kind_in b.config) b.timeout (event.Fired n) tt in
-    λ i. record (heard_book b number word (event.Fired n)) { submissions = e i; timeout = same i; story = λ m. left_if (is_clock_of m (slice_get b.timers n)) (fires (b.story m)) (b.story m) (k m) i }
+    let still : (m : ℕ) → if_own (is_clock_of m (slice_get b.timers n)) (fires (b.story m)) (b.story m) ≡ b.story m = λ m. left_if (is_clock_of m (slice_get b.timers n)) (fires (b.story m)) (b.story m) (k m) in
+    λ i. record (heard_book b number word (event.Fired n)) { submissions = e i; timeout = same i; story = λ m. still m i; placed = λ m. placed_since (has_place (still m i)) (b.placed m) (b.turns - 1) }
 heard_is b number word (event.Wrote l count) k = still_as_many b number word (event.Wrote l count) tt
 heard_is b number word (event.Bytes l piece) k = still_as_many b number word (event.Bytes l piece) tt
 heard_is b number word (event.Ended l) k = still_as_many b number word (event.Ended l) tt

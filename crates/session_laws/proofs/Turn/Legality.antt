@@ -1,5 +1,5 @@
 -- Every replay is legal.
-use Rattle.std.proofs.Common.{Bool, List, None, Option, Some, [], is_some, true, ap, append_assoc, false, length, refl, slice_get, subst, sym, ℕ, ◌+◌, ◌++◌, ◌∙◌, ◌∷◌, ◌≡◌, ◌<◌, nat_le, arith}
+use Rattle.std.proofs.Common.{Bool, List, None, Option, Some, [], is_some, true, ap, append_assoc, false, length, inl, inr, refl, slice_get, subst, sym, ℕ, ◌+◌, ◌++◌, ◌∙◌, ◌∷◌, ◌≡◌, ◌<◌, nat_le, arith}
 use Rattle.std.proofs.lemmas.List.{append-nil}
 use Rattle.std.specs.Prelude.{if◌then◌else◌, ◌==◌, ◌^◌}
 use Rattle.containers.proofs.Choices.{by_test, chosen, not_both, or_right}
@@ -29,25 +29,36 @@ use Rattle.shared_session.specs.declared.generations.Comeback.{Comeback}
 use Rattle.shared_session.specs.declared.generations.Comeback.TheVariants as comeback
 use Rattle.shared_session.specs.declared.generations.Generations.{Generations}
 use Rattle.shared_session.specs.Generations.{comeback_shown_in, connect_timed, generation_shown, generations_at}
-use Rattle.shared_session.specs.Turn.{Turning, actions_of, comeback_by, effects_of, last_acts, shown_behind, asked_for, counted, effect, fired_by, heard, is_bad, late_by, left_by, moved_on, refused_with, shown_each, submitted, next_turn, numbered, source_of, timer_of, spends, has_run_out, passed_by}
+use Rattle.shared_session.specs.Turn.{Turning, actions_of, comeback_by, effects_of, last_acts, shown_behind, asked_for, counted, effect, fired_by, heard, is_bad, late_by, left_by, moved_on, refused_with, shown_each, submitted, next_turn, numbered, source_of, sources_of, timer_of, timers_of, work_of, spends, has_run_out, passed_by}
 use Rattle.shared_session.proofs.Plain.{plain_effects, plain_turn}
+use Rattle.shared_session.proofs.Replays.{trace_of-more}
 use Rattle.shared_session.proofs.Spent.{passed_same, room_left, spent_next}
 use Rattle.shared_session.proofs.Stays.{turn_plain}
 use Rattle.shared_session.specs.declared.core_state.Core.{Core}
-use Rattle.legal_trace.specs.Book.{book}
+use Rattle.legal_trace.specs.Book.{blank_book, book}
 use Rattle.legal_trace.specs.Events.{is_bad_event}
-use Rattle.legal_trace.specs.Legal.{Legal, causes, event_causes}
+use Rattle.legal_trace.specs.Legal.{AllStand, Legal, causes, event_causes}
 use Rattle.session_laws.proofs.Turn.Announce.{same_badness}
 use Rattle.session_laws.proofs.Turn.Effects.{effect_holds}
 use Rattle.legal_trace.proofs.Plain.{same_some}
 use Rattle.mux_conn.specs.Connection.{is_used_up}
+use Rattle.mux_conn.specs.Passes.{passed}
+use Rattle.mux_conn.specs.Turn.{flushed}
+use Rattle.mux_conn.proofs.Kept.{flushed_kept}
 use Rattle.session_laws.proofs.Managers.Begins.{opened_between}
 use Rattle.session_laws.proofs.Turn.Opening.{opening_unasked}
 use Rattle.session_laws.proofs.Managers.Spending.{IsTied, between_tied, spent_turn}
-use Rattle.session_laws.proofs.Managers.Turns.{IsUnused, manager_turn, unused_next}
+use Rattle.session_laws.proofs.Managers.Turns.{IsUnused, manager_turn, manager_well, unused_next}
+use Rattle.session_laws.proofs.Requests.Moved.{ComesOrdered}
+use Rattle.session_laws.proofs.Requests.Settle.{trace_of_acts}
+use Rattle.session_laws.proofs.Ties.Ordered.{IsOrdered, IsOrderedBy}
+use Rattle.session_laws.proofs.Turn.Adds.{flushed_adds}
+use Rattle.session_laws.proofs.Turn.Ends.{ends_ordered, trace_adds}
+use Rattle.session_laws.proofs.Turn.Ordered.{comes_ordered}
 use Rattle.session_laws.proofs.Ties.Outcomes.{last_told}
-use Rattle.session_laws.proofs.Requests.Settled.{IsBetween, moved_on_between}
-use Rattle.session_laws.proofs.Ties.States.{trace_with}
+use Rattle.session_laws.proofs.Requests.Settled.{IsBetween, applied_ready, moved_on_between}
+use Rattle.session_laws.proofs.Ties.States.{HasEffect, trace_with}
+use Rattle.session_laws.specs.Laws.{AreTurnsOf}
 use Rattle.session_laws.specs.Outcomes.{last_outcome}
 
 -- a turn
@@ -113,22 +124,44 @@ effect_still c (event.WriteFault l kind) = (refl, refl, refl)
 effect_still c event.DropStream = (refl, refl, refl)
 effect_still c event.Shutdown = (refl, refl, refl)
 
+-- a session between two turns, of which it is known which requests are ahead of new credentials
+abbrev pub IsWell : List Action → Core → Type 0
+IsWell before c = IsBetween before c × IsOrderedBy before c
+
+-- behind all that moves and is shown that is known
+moved_well : (front : List Action) (t : Turning) (started : List ℕ) → is_some t.core.manager ≡ false → HasEffect front t started → ComesOrdered front t.core (work_of t) → IsWell (trace_with front (moved_on t)) (numbered (moved_on t)).core
+moved_well front t started plain (inr retired) comes = absurd (not_both (is_some t.core.manager) plain retired.retiring.comes)
+moved_well front t started plain (inl applied) comes =
+    let f = t.core in
+    let w = work_of t in
+    let p = passed w in
+    let adds = flushed_adds p in
+    let done = moved_on_between front t started plain (inl applied) comes in
+    let rest = shown_each f.single.link (length f.timers + length (timers_of f.single.link p.acts)) (length f.sources + length (sources_of f.single.link p.acts)) adds.more in
+    let whole : trace_with front (moved_on t) ≡ trace_of_acts front f p.acts ++ rest = trace_adds front f p.acts adds.more (flushed p).acts adds.acts in (
+      done,
+      subst (λ (x : List Action). IsOrdered (book x) f.single.link f.table (flushed p).conn.life (flushed p).conn.renewal) (sym whole)
+          (ends_ordered front f w started rest (flushed p).conn (applied_ready front t started applied comes) (subst (AllStand blank_book) whole done.between.sound.stands)
+          (ap (λ (x : List Action). (book x).turns) (sym whole) ∙ done.between.sound.tied.numbers.turns) (λ up. sym adds.ready ∙ up) (flushed_kept p)),
+    )
+
 -- one turn of a session that doesn't come back leads from between two turns to between the next two
-pub turn_between : (before : List Action) (c : Core) (e : Event) → is_some c.manager ≡ false → IsBetween before c → is_bad c e.kind ≡ false → length c.table < 2 ^ 32 → IsBetween (before ++ actions_of c e) (next_turn c e.kind).core
-turn_between before c e plain h good room =
+turn_well : (before : List Action) (c : Core) (e : Event) → is_some c.manager ≡ false → IsWell before c → is_bad c e.kind ≡ false → length c.table < 2 ^ 32 → IsWell (before ++ actions_of c e) (next_turn c e.kind).core
+turn_well before c e plain all good room =
+    let h = all.0 in
     let a = action.Turn c.turns (cause.Event e) in
     let applied = effect_holds before c h.started e.word e.kind h.between good room in
     let t = effect (counted c) e.kind in
     let still = effect_still c e.kind in
     let acts = (moved_on t).acts in
-    let done = moved_on_between (before ++ a ∷ []) t h.started (ap is_some (passed_same (counted c) e.kind).manager ∙ plain) applied in
+    let done = moved_well (before ++ a ∷ []) t h.started (ap is_some (passed_same (counted c) e.kind).manager ∙ plain) applied (comes_ordered before c h.started e h.between all.1) in
     let next : next_turn c e.kind ≡ numbered (moved_on t) = plain_turn c e.kind plain in
     let shown : effects_of c e ≡ shown_each c.single.link (length c.timers) (length c.sources) acts =
     plain_effects c e plain ∙ ap (λ (u : Turning). shown_each c.single.link (length c.timers) (length c.sources) u.acts) next in
     let same : trace_with (before ++ a ∷ []) (moved_on t) ≡ before ++ actions_of c e =
     append_assoc before (a ∷ []) (shown_each t.core.single.link (length t.core.timers) (length t.core.sources) acts) ∙ (λ i. before ++ a ∷ shown_each (still.0 i) (length (still.1 i)) (length (still.2 i)) acts)
     ∙ ap (λ (xs : List Action). before ++ a ∷ xs) (sym shown) in
-    subst (λ (x : List Action). IsBetween x (next_turn c e.kind).core) same (subst (λ (u : Turning). IsBetween (trace_with (before ++ a ∷ []) (moved_on t)) u.core) (sym next) done)
+    subst (λ (x : List Action). IsWell x (next_turn c e.kind).core) same (subst (λ (u : Turning). IsWell (trace_with (before ++ a ∷ []) (moved_on t)) u.core) (sym next) done)
 
 -- a history
 --
@@ -163,30 +196,30 @@ unused_passes c e unspent =
     by_test (is_used_up (passed_by (counted c) e.kind).core.single.connection) _ (λ used. absurd (not_both (has_run_out (next_turn c e.kind).core) unspent (spent_next c e.kind used))) (λ f. f)
 
 -- one turn of any session that isn't spent leads on
-any_turn : (before : List Action) (c : Core) (e : Event) (m : Option Generations) → c.manager ≡ m → IsBetween before c → is_bad c e.kind ≡ false → has_run_out (next_turn c e.kind).core ≡ false → length c.table < 2 ^ 32 → IsReady c m
-    → IsBetween (before ++ actions_of c e) (next_turn c e.kind).core × ((n : Option Generations) → (next_turn c e.kind).core.manager ≡ n → IsReady (next_turn c e.kind).core n)
+any_turn : (before : List Action) (c : Core) (e : Event) (m : Option Generations) → c.manager ≡ m → IsWell before c → is_bad c e.kind ≡ false → has_run_out (next_turn c e.kind).core ≡ false → length c.table < 2 ^ 32 → IsReady c m
+    → IsWell (before ++ actions_of c e) (next_turn c e.kind).core × ((n : Option Generations) → (next_turn c e.kind).core.manager ≡ n → IsReady (next_turn c e.kind).core n)
 any_turn before c e None is h good unspent room ready =
     let plain : is_some c.manager ≡ false = ap is_some is in
-    (turn_between before c e plain h good room, λ n next. still n (sym (ap is_some next) ∙ turn_plain c e.kind ∙ plain))
+    (turn_well before c e plain h good room, λ n next. still n (sym (ap is_some next) ∙ turn_plain c e.kind ∙ plain))
   where
     still : (n : Option Generations) → is_some n ≡ false → IsReady (next_turn c e.kind).core n
     still None f = tt
     still (Some g) f = cc
 any_turn before c e (Some g) is h good unspent room ready =
-    (manager_turn before c g e is h good (unused_passes c e unspent) ready room, λ n next. later n next)
+    (manager_well before c g e is h.0 h.1 good (unused_passes c e unspent) ready room, λ n next. later n next)
   where
     later : (n : Option Generations) → (next_turn c e.kind).core.manager ≡ n → IsReady (next_turn c e.kind).core n
     later None next = tt
-    later (Some q) next = unused_next before c g e is h good (unused_passes c e unspent) ready room q next
+    later (Some q) next = unused_next before c g e is h.0 h.1 good (unused_passes c e unspent) ready room q next
 
 -- each turn leads on
-turns_between : (before : List Action) (c : Core) (es : List Event) → IsBetween before c → AreGoodOn c es → AreUnspentOn c es → length c.table < 2 ^ 32 → ((m : Option Generations) → c.manager ≡ m → IsReady c m)
-    → IsBetween (before ++ turns_on c es) (run_on c es) × ((m : Option Generations) → (run_on c es).manager ≡ m → IsReady (run_on c es) m)
-turns_between before c [] h good unspent room ready = (subst (λ (x : List Action). IsBetween x c) (sym (append-nil before)) h, ready)
-turns_between before c (e ∷ es) h good unspent room ready =
+turns_well : (before : List Action) (c : Core) (es : List Event) → IsWell before c → AreGoodOn c es → AreUnspentOn c es → length c.table < 2 ^ 32 → ((m : Option Generations) → c.manager ≡ m → IsReady c m)
+    → IsWell (before ++ turns_on c es) (run_on c es) × ((m : Option Generations) → (run_on c es).manager ≡ m → IsReady (run_on c es) m)
+turns_well before c [] h good unspent room ready = (subst (λ (x : List Action). IsWell x c) (sym (append-nil before)) h, ready)
+turns_well before c (e ∷ es) h good unspent room ready =
     let one = any_turn before c e c.manager refl h good.0 (not_run_out c e unspent.0) room (ready c.manager refl) in
-    let rest = turns_between (before ++ actions_of c e) (next_turn c e.kind).core es one.0 good.1 unspent.1 (room_next c e unspent.0) one.1 in
-    (subst (λ (x : List Action). IsBetween x (run_on (next_turn c e.kind).core es)) (append_assoc before (actions_of c e) (turns_on (next_turn c e.kind).core es)) rest.0, rest.1)
+    let rest = turns_well (before ++ actions_of c e) (next_turn c e.kind).core es one.0 good.1 unspent.1 (room_next c e unspent.0) one.1 in
+    (subst (λ (x : List Action). IsWell x (run_on (next_turn c e.kind).core es)) (append_assoc before (actions_of c e) (turns_on (next_turn c e.kind).core es)) rest.0, rest.1)
 
 -- what has just opened is ready
 opened_ready : (m : Option ConnectionManagerConfig) (at : Option ConnectionInfo) (lazy : Bool) (config : Config) (g : Option Generations) → (as_managed m at lazy (single_core config)).manager ≡ g → IsReady (as_managed m at lazy (single_core config)) g
@@ -199,12 +232,19 @@ opened_ready (Some settings) (Some info) true config (Some g) is = λ none runs.
   ap (λ (x : Generations). x.halted) (sym (same_some (generations_at settings info 0) g is)),
 )
 
+-- nor are new credentials to be told
+opened_ordered : (trace : List Action) (m : Option ConnectionManagerConfig) (at : Option ConnectionInfo) (lazy : Bool) (config : Config) → IsOrderedBy trace (as_managed m at lazy (single_core config))
+opened_ordered trace None at lazy config up = cc up
+opened_ordered trace (Some settings) None lazy config up = cc up
+opened_ordered trace (Some settings) (Some info) false config up = cc up
+opened_ordered trace (Some settings) (Some info) true config up = cc up
+
 -- the session after a history, and its trace
 replay_on : (config : Config) (word : ℕ) (events : List Event) → IsSound config → AreGood config word events → AreUnspent config word events
-    → IsBetween (trace_of config word events) (state_after config word events) × ((m : Option Generations) → (state_after config word events).manager ≡ m → IsReady (state_after config word events) m)
+    → IsWell (trace_of config word events) (state_after config word events) × ((m : Option Generations) → (state_after config word events).manager ≡ m → IsReady (state_after config word events) m)
 unfolding trace_of state_after AreGood AreUnspent
 replay_on config word events sound good unspent =
-    turns_between (opening_actions config word) (opening_core config word) events (opened_between config word sound) good unspent (let empty = (opening_unasked config word).submitted in omega arith)
+    turns_well (opening_actions config word) (opening_core config word) events (opened_between config word sound, opened_ordered (opening_actions config word) (manager_of config) (address config) (is_lazy config) config) good unspent (let empty = (opening_unasked config word).submitted in omega arith)
     (λ m is. opened_ready (manager_of config) (address config) (is_lazy config) config m is)
 
 -- also where one more event comes, of which it may be spent
@@ -217,18 +257,18 @@ turn_behind config word events e sound good unspent fine =
     room : length (state_after config word events).table < 2 ^ 32
     room = room_behind config word events unspent
 
-    by_manager : (m : Option Generations) → (state_after config word events).manager ≡ m → IsReady (state_after config word events) m → IsBetween (trace_of config word events) (state_after config word events)
+    by_manager : (m : Option Generations) → (state_after config word events).manager ≡ m → IsReady (state_after config word events) m → IsWell (trace_of config word events) (state_after config word events)
         → IsTied (trace_of config word events ++ actions_of (state_after config word events) e) (next_turn (state_after config word events) e.kind).core
-    by_manager None is ready h = between_tied _ _ (turn_between (trace_of config word events) (state_after config word events) e (ap is_some is) h fine room)
+    by_manager None is ready h = between_tied _ _ (turn_well (trace_of config word events) (state_after config word events) e (ap is_some is) h fine room).0
     by_manager (Some g) is ready h =
         let front = trace_of config word events in
         let now = state_after config word events in
         by_test (is_used_up (passed_by (counted now) e.kind).core.single.connection) _
-        (λ used. spent_turn front now g e is h fine room used)
-        (λ unused. between_tied _ _ (manager_turn front now g e is h fine unused ready room))
+        (λ used. spent_turn front now g e is h.0 h.1 fine room used)
+        (λ unused. between_tied _ _ (manager_turn front now g e is h.0 h.1 fine unused ready room))
 
 pub replay_between : (config : Config) (word : ℕ) (events : List Event) → IsSound config → AreGood config word events → AreUnspent config word events → IsBetween (trace_of config word events) (state_after config word events)
-replay_between config word events sound good unspent = (replay_on config word events sound good unspent).0
+replay_between config word events sound good unspent = (replay_on config word events sound good unspent).0.0
 
 -- the causes of its turns
 --
@@ -316,6 +356,14 @@ replay_causes : (config : Config) (word : ℕ) (events : List Event) → causes 
 unfolding trace_of
 replay_causes config word events =
     ap (λ cs. cause.Opening config word ∷ cs) (begun_causes (manager_of config) (is_lazy config) (address config) (connect_timeout config) (turns_on (opening_core config word) events) ∙ turns_causes (opening_core config word) events)
+
+-- the actions of a history's trace stand where they may, also those of one more event, whose step may be spent; and its turns are those of
+-- its events
+pub spent_stands : (config : Config) (word : ℕ) (events : List Event) (e : Event) → IsSound config → AreGood config word events → AreUnspent config word events → is_bad_after config word events e ≡ false → AreTurnsOf config word (events ++ e ∷ [])
+spent_stands config word events e sound good unspent fine = record {
+  turns = replay_causes config word (events ++ e ∷ []);
+  each = subst (AllStand blank_book) (sym (trace_of-more config word events e)) (turn_behind config word events e sound good unspent fine).stands;
+}
 
 -- every replay is legal
 pub replay_legal : (config : Config) (word : ℕ) (events : List Event) → IsSound config → AreGood config word events → AreUnspent config word events → Legal config word events (trace_of config word events)
