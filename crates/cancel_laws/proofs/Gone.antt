@@ -14,7 +14,7 @@ use Rattle.mux_conn.specs.Passes.{message_of}
 use Rattle.cancel_laws.specs.ButFor.{hushed_life}
 use Rattle.cancel_laws.proofs.Requests.{names, names_stay, names_push, progress_count, past_set, test_other, test_push, other_test, unbegun_waits}
 use Rattle.cancel_laws.proofs.Names.{IsOwn, own_push}
-use Rattle.cancel_laws.proofs.Links.{NoneOf, NoneWanted, none_push, none_without, none_started, none_came, quiet_behind, quiet_starts, quiet_came, quiet_silenced, quiet_stays}
+use Rattle.cancel_laws.proofs.Links.{NoneOf, NoneWanted, none_push, none_without, none_came, quiet_behind, quiet_came, quiet_silenced, quiet_stays}
 use Rattle.cancel_laws.proofs.Kept.{IsKept, IsKeptThere, There, kept_there, IsApart}
 use Rattle.cancel_laws.proofs.KeptTurns.{CanAsk}
 
@@ -112,7 +112,7 @@ gone_there n p = record {
     seated = past_set is_admitted r q.number p progress.Placed (permits_at r q.number) refl h.seated;
     none = none_push p l.queue (message_of q) h.none (not_awaited p q.number q.awaited (other_test is_admitted r q.number p t h.seated));
   };
-  start = λ r l h. record { there = h.there; own = h.own; apart = h.apart; past = h.past; seated = h.seated; none = none_started p (record { link = l; out = [] }) l.queue h.none };
+  start = λ r l q qs h. record { there = h.there; own = h.own; apart = h.apart; past = h.past; seated = h.seated; none = h.none.1 };
   say = λ r l q own h. record { there = h.there; own = h.own; apart = h.apart; past = h.past; seated = h.seated; none = h.none };
   offer = λ r l h. record { there = h.there; own = h.own; apart = h.apart; past = h.past; seated = h.seated; none = h.none };
   write = λ r l k h. record { there = h.there; own = h.own; apart = h.apart; past = h.past; seated = h.seated; none = h.none };
@@ -172,7 +172,7 @@ away_kept n p = record {
   admit = λ lim r life ms xs q count t h. record { gone = (gone_there n p).admit r life q count t h.gone; unmoved = h.unmoved };
   note = λ lim r life ms xs q t h. record { gone = h.gone; unmoved = none_is_push p ms q (other_test is_admitted r q p t h.gone.seated) h.unmoved };
   place = λ lim r l ms xs q t h. record { gone = (gone_there n p).place r l q t h.gone; unmoved = h.unmoved };
-  start = λ lim r l ms xs h. record { gone = (gone_there n p).start r l h.gone; unmoved = h.unmoved };
+  start = λ lim r l q qs ms xs h. record { gone = (gone_there n p).start r l q qs h.gone; unmoved = h.unmoved };
   say = λ lim r l ms xs q own h. record { gone = (gone_there n p).say r l q own h.gone; unmoved = h.unmoved };
   offer = λ lim r l ms xs h. record { gone = (gone_there n p).offer r l h.gone; unmoved = h.unmoved };
   write = λ lim r l ms xs k h. record { gone = (gone_there n p).write r l k h.gone; unmoved = h.unmoved };
@@ -221,7 +221,7 @@ hushed_there n p = record {
   round = λ r life q t h. record { gone = (gone_there n p).round r life q t h.gone; quiet = h.quiet };
   admit = λ r life q count t h. record { gone = (gone_there n p).admit r life q count t h.gone; quiet = h.quiet };
   place = λ r l q t h. record { gone = (gone_there n p).place r l q t h.gone; quiet = h.quiet };
-  start = λ r l h. record { gone = (gone_there n p).start r l h.gone; quiet = quiet_starts p (record { link = l; out = [] }) l.queue h.gone.none h.quiet };
+  start = λ r l q qs h. record { gone = (gone_there n p).start r l q qs h.gone; quiet = quiet_behind p l.row q h.gone.none.0 h.quiet };
   say = λ r l q own h. record {
     gone = (gone_there n p).say r l q own h.gone;
     quiet = quiet_behind p l.row q (not_awaited p q.id q.awaited (h.gone.apart q.id own)) h.quiet;

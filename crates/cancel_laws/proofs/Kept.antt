@@ -1,5 +1,5 @@
 -- What each part of a turn keeps: a fact of the limit of permits, of the requests, of the link's life, of those that were moved, and of what the turn has shown.
-use Rattle.std.proofs.Common.{ℕ, true, false, Bool, List, [], length, Option, Some, None, refl, ap, arith, nat_le, ◌≡◌, ◌+◌, ◌≤◌, ◌==◌, ◌&&◌, ◌||◌, ◌∷◌, ◌++◌, ◌∙◌, if◌then◌else◌, ◌⊎◌, inl, inr, ◌≢◌}
+use Rattle.std.proofs.Common.{ℕ, true, false, Bool, List, [], length, Option, Some, None, refl, ap, arith, nat_le, ◌≡◌, ◌+◌, ◌≤◌, ◌==◌, ◌&&◌, ◌||◌, ◌∷◌, ◌++◌, ◌∙◌, if◌then◌else◌, ◌⊎◌, inl, inr, ◌≢◌, not}
 use Rattle.containers.proofs.Choices.{chosen, both_right}
 use Rattle.redis_error.specs.declared.redis_error.RedisError.TheVariants as error
 use Rattle.redis_error.specs.declared.fault_kind.FaultKind.TheVariants as kinds
@@ -9,7 +9,6 @@ use Rattle.resp_value.specs.declared.value.Value.TheVariants.{Nil}
 use Rattle.credentials.specs.Credentials.{Credentials}
 use Rattle.connection_setup.specs.declared.judgement.SetupResult.{SetupResult}
 use Rattle.connection_setup.specs.declared.judgement.SetupResult.TheVariants as result
-use Rattle.driver_model.specs.declared.action.WaitKind.{WaitKind}
 use Rattle.driver_model.specs.declared.news.LinkFault.{LinkFault}
 use Rattle.driver_model.specs.declared.news.LinkFault.TheVariants as fault
 use Rattle.driver_model.specs.declared.outcome.Outcome.{Outcome}
@@ -21,8 +20,7 @@ use Rattle.driver_model.specs.Shape.{outcome_of}
 use Rattle.link_core.specs.declared.message.Queued.{Queued}
 use Rattle.link_core.specs.declared.message.Settled.{Settled}
 use Rattle.link_core.specs.declared.message.Started.{Started}
-use Rattle.link_core.specs.Link.{LinkState, Reading, fresh, enqueued, begun, start_of, holds_back, started_all, offered_of, wrote_of, piece_read, faulted, closed_all}
-use Rattle.link_core.specs.Outbox.{can_offer}
+use Rattle.link_core.specs.Link.{LinkState, Starting, Reading, fresh, enqueued, begun, start_of, holds_back, is_up_to, started_one, started_each, started_all, started_to_each, started_to, offered_of, wrote_of, piece_read, faulted, closed_all}
 use Rattle.mux_conn.specs.declared.act.LinkAct.{LinkAct}
 use Rattle.mux_conn.specs.declared.act.LinkAct.TheVariants as act
 use Rattle.mux_conn.specs.declared.again.Again.{Again}
@@ -34,13 +32,13 @@ use Rattle.mux_conn.specs.declared.life.Life.TheVariants.{Resting, Dialing, Want
 use Rattle.mux_conn.specs.declared.request.Progress.TheVariants as progress
 use Rattle.mux_conn.specs.declared.request.Request.{Request}
 use Rattle.mux_conn.specs.declared.request.Waiting.{Waiting}
-use Rattle.mux_conn.specs.Connection.{Work, acted, opened_on, at_life, with_link, with_setup, with_wanting, has_room, admits_none, is_ready, is_due, is_repeating, is_serving}
+use Rattle.mux_conn.specs.Connection.{Work, acted, opened_on, at_life, with_link, with_setup, with_wanting, has_room, admits_none, is_ready, is_due, is_repeating, is_serving, last_queued}
 use Rattle.mux_conn.specs.Requests.{is_open_at, is_waiting_at, is_admitted_at, name_at, with_permits, at_progress, answered, is_unbegun_at, permits_at, progressed}
 use Rattle.mux_conn.specs.Effects.{afresh, creation_told, given_up, new_link, settled_one, settled_each, failed_each, nobody_waits, waiting_failed, ended, opening_failed, authorized_at, come_up, comes_to_want, connected_at, unauthorized_at, with_credentials, refused_at, overdue_at, taken_at, failed_at, broken_at, read_to, read_at, shut_at, all_fresh, made_ready, steps_of, greeting_queued, greeting_error, greeted, greeted_by, is_unreadable, dropped_at, dropped_by, sets_up, judged_by, set_up_by, answered_setup, applied, cancelled_in, all_answered, behind_first, cut_short, heard_on, notice_act, noticed, noticed_each, parted, told_each, served, settled_other}
 use Rattle.mux_conn.specs.Renewals as renewals
-use Rattle.mux_conn.specs.Renewals.{renewing, expecting, takes_more, late_for, is_unanswered, renewal_id, renewal_queued, asked_next, renewal_act, renewal_timed, renewal_asked, renewal_told, renewal_moved}
-use Rattle.mux_conn.specs.Passes.{shown_each, greeting_act, greeted_each, started_at, started, message_of, placed_at, told_at_place, seated, still_admitted, moved_up, moved_up_each, moved_up_all, put_behind, seated_or_behind, permits_taken, holding, took_shown, took as holds, timer_asked, let_in, admitted_at, admitted, still_waiting, admitted_each, passed, round_begun, rounds_of, rounds_begun, moved_all, said}
-use Rattle.mux_conn.specs.Turn.{written_at, written, moved_wait, fresh_wait, wait_shown, moved_each_shown, moved_shown, fresh_each_shown, flushed}
+use Rattle.mux_conn.specs.Renewals.{renewing, expecting, takes_more, late_for, is_unanswered, renewal_id, renewal_queued, asked_next, renewal_act, renewal_timed, renewal_asked, started_ahead_at, started_ahead, renewal_told, renewal_moved}
+use Rattle.mux_conn.specs.Starts.{shown_each}
+use Rattle.mux_conn.specs.Passes.{greeting_act, greeted_each, started_at, started, message_of, placed_at, told_at_place, seated, still_admitted, moved_up, moved_up_each, moved_up_all, put_behind, seated_or_behind, permits_taken, holding, took_shown, took as holds, timer_asked, let_in, admitted_at, admitted, still_waiting, admitted_each, passed, round_begun, rounds_of, rounds_begun, moved_all, said}
 use Rattle.cancel_laws.proofs.Counts.{count_on, count_started, count_came}
 use Rattle.cancel_laws.proofs.Requests.{admitted_now, begun_waits}
 use Rattle.driver_model.specs.Hearing.{felt, hears_messages, hears_pushes, is_watching}
@@ -104,7 +102,7 @@ pub record IsKept (P : Option ℕ → List Request → Life → List ℕ → Lis
   pub admit : (lim : Option ℕ) (r : List Request) (life : Life) (ms : List ℕ) (xs : List LinkAct) (q count : ℕ) → is_waiting_at r q ≡ true → P lim r life ms xs → P lim (with_permits r q progress.Admitted count) life ms xs
   pub note : (lim : Option ℕ) (r : List Request) (life : Life) (ms : List ℕ) (xs : List LinkAct) (q : ℕ) → is_admitted_at r q ≡ true → P lim r life ms xs → P lim r life (ms ++ q ∷ []) xs
   pub place : (lim : Option ℕ) (r : List Request) (l : LinkState) (ms : List ℕ) (xs : List LinkAct) (q : Waiting) → is_admitted_at r q.number ≡ true → P lim r (Ready l) ms xs → P lim (at_progress r q.number progress.Placed) (Ready (enqueued l (message_of q))) ms xs
-  pub start : (lim : Option ℕ) (r : List Request) (l : LinkState) (ms : List ℕ) (xs : List LinkAct) → P lim r (Ready l) ms xs → P lim r (Ready (started_all (record { link = l; out = [] })).link) ms xs
+  pub start : (lim : Option ℕ) (r : List Request) (l : LinkState) (q : Queued) (qs : List Queued) (ms : List ℕ) (xs : List LinkAct) → P lim r (Ready (record l { queue = q ∷ qs })) ms xs → P lim r (Ready (record (begun l q) { queue = qs })) ms xs
   pub say : (lim : Option ℕ) (r : List Request) (l : LinkState) (ms : List ℕ) (xs : List LinkAct) (q : Queued) → IsOwnMessage q.id → P lim r (Ready l) ms xs → P lim r (Ready (begun l q)) ms xs
   pub offer : (lim : Option ℕ) (r : List Request) (l : LinkState) (ms : List ℕ) (xs : List LinkAct) → P lim r (Ready l) ms xs → P lim r (Ready (offered_of l)) ms xs
   pub write : (lim : Option ℕ) (r : List Request) (l : LinkState) (ms : List ℕ) (xs : List LinkAct) (k : ℕ) → P lim r (Ready l) ms xs → P lim r (Ready (wrote_of l k)) ms xs
@@ -128,7 +126,7 @@ pub record IsKeptThere (P : List Request → Life → Type 0) : Type 0 where
   pub round : (r : List Request) (life : Life) (q : ℕ) → is_unbegun_at r q ≡ true → P r life → P (at_progress r q progress.Begun) life
   pub admit : (r : List Request) (life : Life) (q count : ℕ) → is_waiting_at r q ≡ true → P r life → P (with_permits r q progress.Admitted count) life
   pub place : (r : List Request) (l : LinkState) (q : Waiting) → is_admitted_at r q.number ≡ true → P r (Ready l) → P (at_progress r q.number progress.Placed) (Ready (enqueued l (message_of q)))
-  pub start : (r : List Request) (l : LinkState) → P r (Ready l) → P r (Ready (started_all (record { link = l; out = [] })).link)
+  pub start : (r : List Request) (l : LinkState) (q : Queued) (qs : List Queued) → P r (Ready (record l { queue = q ∷ qs })) → P r (Ready (record (begun l q) { queue = qs }))
   pub say : (r : List Request) (l : LinkState) (q : Queued) → IsOwnMessage q.id → P r (Ready l) → P r (Ready (begun l q))
   pub offer : (r : List Request) (l : LinkState) → P r (Ready l) → P r (Ready (offered_of l))
   pub write : (r : List Request) (l : LinkState) (k : ℕ) → P r (Ready l) → P r (Ready (wrote_of l k))
@@ -157,7 +155,7 @@ kept_there k = record {
   admit = λ lim r life ms xs q count t h. k.admit r life q count t h;
   note = λ lim r life ms xs q t h. h;
   place = λ lim r l ms xs q t h. k.place r l q t h;
-  start = λ lim r l ms xs h. k.start r l h;
+  start = λ lim r l q qs ms xs h. k.start r l q qs h;
   say = λ lim r l ms xs q own h. k.say r l q own h;
   offer = λ lim r l ms xs h. k.offer r l h;
   write = λ lim r l ms xs n h. k.write r l n h;
@@ -189,7 +187,7 @@ unlimited_kept = record {
   admit = λ lim r life ms xs q count t h. h;
   note = λ lim r life ms xs q t h. h;
   place = λ lim r l ms xs q t h. h;
-  start = λ lim r l ms xs h. h;
+  start = λ lim r l q qs ms xs h. h;
   say = λ lim r l ms xs q own h. h;
   offer = λ lim r l ms xs h. h;
   write = λ lim r l ms xs n h. h;
@@ -513,11 +511,24 @@ greeted_each_kept k w greeting (s ∷ ss) h =
     let a = greeting_act greeting s in
     greeted_each_kept k (acted w a) greeting ss (k.show w.conn.limit w.conn.requests w.conn.life w.conn.moved w.acts a (greeting_plain greeting s) h)
 
+-- messages of the queue start
+starts_kept : {P : Option ℕ → List Request → Life → List ℕ → List LinkAct → Type 0} → IsKept P → (lim : Option ℕ) (r : List Request) (s : Starting) (queue : List Queued) (ms : List ℕ) (xs : List LinkAct) → P lim r (Ready (record s.link { queue = queue })) ms xs → P lim r (Ready (started_each s queue).link) ms xs
+starts_kept k lim r s [] ms xs h = h
+starts_kept {P = P} k lim r s (q ∷ qs) ms xs h =
+    chosen (λ (x : Starting). P lim r (Ready x.link) ms xs) (holds_back s.link) _ _ (λ t. h) (λ f. starts_kept k lim r (started_one s q) qs ms xs (k.start lim r s.link q qs ms xs h))
+
+-- those up to one of them do
+ahead_kept : {P : Option ℕ → List Request → Life → List ℕ → List LinkAct → Type 0} → IsKept P → (last lim : Option ℕ) (r : List Request) (s : Starting) (queue : List Queued) (ms : List ℕ) (xs : List LinkAct) → P lim r (Ready (record s.link { queue = queue })) ms xs → P lim r (Ready (started_to_each last s queue).link) ms xs
+ahead_kept k last lim r s [] ms xs h = h
+ahead_kept {P = P} k last lim r s (q ∷ qs) ms xs h =
+    chosen (λ (x : Starting). P lim r (Ready x.link) ms xs) (holds_back s.link || not (is_up_to last q.id)) _ _ (λ t. h)
+    (λ f. ahead_kept k last lim r (started_one s q) qs ms xs (k.start lim r s.link q qs ms xs h))
+
 -- messages start
 started_at_kept : {P : Option ℕ → List Request → Life → List ℕ → List LinkAct → Type 0} → IsKept P → (w : Work) (life : Life) → P w.conn.limit w.conn.requests life w.conn.moved w.acts → At P w → At P (started_at w life)
 started_at_kept k w (Ready l) g h =
     let s = started_all (record { link = l; out = [] }) in
-    shown_kept k (with_link w s.link) s.out (k.start w.conn.limit w.conn.requests l w.conn.moved w.acts g)
+    shown_kept k (with_link w s.link) s.out (starts_kept k w.conn.limit w.conn.requests (record { link = l; out = [] }) l.queue w.conn.moved w.acts g)
 started_at_kept k w (Wanting l) g h = h
 started_at_kept k w (SettingUp l greeting) g h =
     let s = started_all (record { link = l; out = [] }) in
@@ -581,22 +592,38 @@ renewal_moved_kept k w (SettingUp l greeting) cs g h = h
 renewal_moved_kept k w (Ended e) cs g h = h
 
 -- behind their timer, where they are to be answered within a time
-renewal_timed_kept : {P : Option ℕ → List Request → Life → List ℕ → List LinkAct → Type 0} → IsKept P → (w : Work) (number : ℕ) (within : Option ℕ) (cs : List Credentials) → At P w → At P (renewal_moved (renewal_timed w number within) w.conn.life cs)
-renewal_timed_kept k w number None cs h = renewal_moved_kept k w w.conn.life cs h h
-renewal_timed_kept k w number (Some ms) cs h =
-    let a = act.RenewalTimer number ms in
-    let g = k.show w.conn.limit w.conn.requests w.conn.life w.conn.moved w.acts a (λ n. refl) h in
-    renewal_moved_kept k (acted w a) w.conn.life cs g g
+renewal_timed_kept : {P : Option ℕ → List Request → Life → List ℕ → List LinkAct → Type 0} → IsKept P → (w : Work) (number : ℕ) (within : Option ℕ) → At P w → At P (renewal_timed w number within)
+renewal_timed_kept k w number None h = h
+renewal_timed_kept k w number (Some ms) h = k.show w.conn.limit w.conn.requests w.conn.life w.conn.moved w.acts (act.RenewalTimer number ms) (λ n. refl) h
 
 -- which is asked for once
+pub renewal_asked_kept : {P : Option ℕ → List Request → Life → List ℕ → List LinkAct → Type 0} → IsKept P → (w : Work) → At P w → At P (renewal_asked w)
+renewal_asked_kept {P = P} k w h =
+    let r = w.conn.renewal in
+    let d = renewing w (asked_next r (last_queued w.conn.life)) in
+    chosen (At P) r.pending w (renewal_timed d r.asked r.within) (λ t. h) (λ f. renewal_timed_kept k d r.asked r.within h)
+
+-- and behind those that took their places before them
+ahead_at_kept : {P : Option ℕ → List Request → Life → List ℕ → List LinkAct → Type 0} → IsKept P → (w : Work) (life : Life) → P w.conn.limit w.conn.requests life w.conn.moved w.acts → At P w → At P (started_ahead_at w life)
+ahead_at_kept k w (Ready l) g h =
+    let last = w.conn.renewal.last in
+    let s = started_to last (record { link = l; out = [] }) in
+    shown_kept k (with_link w s.link) s.out (ahead_kept k last w.conn.limit w.conn.requests (record { link = l; out = [] }) l.queue w.conn.moved w.acts g)
+ahead_at_kept k w Resting g h = h
+ahead_at_kept k w Dialing g h = h
+ahead_at_kept k w (Wanting l) g h = h
+ahead_at_kept k w (SettingUp l greeting) g h = h
+ahead_at_kept k w (Ended e) g h = h
+
+-- all of it
 pub renewed_kept : {P : Option ℕ → List Request → Life → List ℕ → List LinkAct → Type 0} → IsKept P → (w : Work) → At P w → At P (renewals.renewed w)
 renewed_kept {P = P} k w h =
-    let r = w.conn.renewal in
-    let d = renewing w (asked_next r) in
-    chosen (At P) (is_ready w.conn.life && is_due r) (renewal_moved (renewal_asked w) w.conn.life r.waiting) w
-    (λ t. chosen (λ (x : Work). At P (renewal_moved x w.conn.life r.waiting)) r.pending w (renewal_timed d r.asked r.within)
-    (λ u. renewal_moved_kept k w w.conn.life r.waiting h h)
-    (λ u. renewal_timed_kept k d r.asked r.within r.waiting h))
+    let v = renewal_asked w in
+    let a = started_ahead v in
+    let g = renewal_asked_kept k w h in
+    let m : At P a = ahead_at_kept k v v.conn.life g g in
+    chosen (At P) (is_ready w.conn.life && is_due w.conn.renewal) (renewal_moved a a.conn.life a.conn.renewal.waiting) w
+    (λ t. renewal_moved_kept k a a.conn.life a.conn.renewal.waiting m m)
     (λ f. h)
 
 -- so is all that the driver says itself
@@ -743,49 +770,3 @@ moved_all_kept k w h =
 -- and the rounds that begin behind that
 pub passed_kept : {P : Option ℕ → List Request → Life → List ℕ → List LinkAct → Type 0} → IsKept P → (w : Work) → At P w → At P (passed w)
 passed_kept k w h = rounds_kept k (moved_all w) (moved_all_kept k w h)
-
--- what a turn ends with
---
--- bytes are offered
-written_at_kept : {P : Option ℕ → List Request → Life → List ℕ → List LinkAct → Type 0} → IsKept P → (w : Work) (life : Life) → P w.conn.limit w.conn.requests life w.conn.moved w.acts → At P w → At P (written_at w life)
-written_at_kept {P = P} k w (Ready l) g h =
-    chosen (At P) (can_offer l.outbox) _ w
-    (λ t. k.show w.conn.limit w.conn.requests (Ready (offered_of l)) w.conn.moved w.acts (act.Write l.outbox.unwritten) (λ n. refl) (k.offer w.conn.limit w.conn.requests l w.conn.moved w.acts g))
-    (λ f. h)
-written_at_kept {P = P} k w (SettingUp l greeting) g h =
-    chosen (At P) (can_offer l.outbox) _ w
-    (λ t. k.show w.conn.limit w.conn.requests (SettingUp (offered_of l) greeting) w.conn.moved w.acts (act.Write l.outbox.unwritten) (λ n. refl) (k.go_on w.conn.limit w.conn.requests l (offered_of l) greeting w.conn.moved w.acts (omega arith) g))
-    (λ f. h)
-written_at_kept k w Resting g h = h
-written_at_kept k w Dialing g h = h
-written_at_kept k w (Wanting l) g h = h
-written_at_kept k w (Ended e) g h = h
-
--- on the link that the connection has
-pub written_kept : {P : Option ℕ → List Request → Life → List ℕ → List LinkAct → Type 0} → IsKept P → (w : Work) → At P w → At P (written w)
-written_kept k w h = written_at_kept k w w.conn.life h h
-
--- a wait is shown
-pub wait_kept : {P : Option ℕ → List Request → Life → List ℕ → List LinkAct → Type 0} → IsKept P → (w : Work) (q : ℕ) (kind : Option WaitKind) → At P w → At P (wait_shown w q kind)
-wait_kept k w q None h = h
-wait_kept k w q (Some kind) h = k.show w.conn.limit w.conn.requests w.conn.life w.conn.moved w.acts (act.Wait (name_at w.conn.requests q) kind) (λ n. refl) h
-
--- all waits of those that were moved
-moved_each_shown_kept : {P : Option ℕ → List Request → Life → List ℕ → List LinkAct → Type 0} → IsKept P → (w : Work) (qs : List ℕ) → At P w → At P (moved_each_shown w qs)
-moved_each_shown_kept k w [] h = h
-moved_each_shown_kept k w (q ∷ qs) h = moved_each_shown_kept k (wait_shown w q (moved_wait w.conn q)) qs (wait_kept k w q (moved_wait w.conn q) h)
-
--- of whom none is left then
-pub moved_shown_kept : {P : Option ℕ → List Request → Life → List ℕ → List LinkAct → Type 0} → IsKept P → (w : Work) → At P w → At P (moved_shown w)
-moved_shown_kept k w h = moved_each_shown_kept k (record w { conn = record w.conn { moved = [] } }) w.conn.moved (k.calm w.conn.limit w.conn.requests w.conn.life w.conn.moved w.acts h)
-
--- and all waits of those that came
-fresh_each_shown_kept : {P : Option ℕ → List Request → Life → List ℕ → List LinkAct → Type 0} → IsKept P → (w : Work) (qs : List ℕ) → At P w → At P (fresh_each_shown w qs)
-fresh_each_shown_kept k w [] h = h
-fresh_each_shown_kept k w (q ∷ qs) h = fresh_each_shown_kept k (wait_shown w q (fresh_wait w.conn q)) qs (wait_kept k w q (fresh_wait w.conn q) h)
-
--- what a turn ends with
-pub flushed_kept : {P : Option ℕ → List Request → Life → List ℕ → List LinkAct → Type 0} → IsKept P → (w : Work) → At P w → At P (flushed w)
-flushed_kept k w h =
-    let d = moved_shown (written w) in
-    fresh_each_shown_kept k (record d { conn = record d.conn { fresh = [] } }) d.conn.fresh (moved_shown_kept k (written w) (written_kept k w h))

@@ -29,7 +29,8 @@ use Rattle.shared_session.specs.Turn.{Turning, work_of, heard, counted, submitte
 use Rattle.driver_model.specs.Kind.{has_timeouts}
 use Rattle.std.specs.Prelude.{is_some}
 use Rattle.shared_session.proofs.Plain.{plain_turn}
-use Rattle.cancel_laws.proofs.Kept.{IsKept, At, applied_kept, answered_kept, passed_kept, flushed_kept}
+use Rattle.cancel_laws.proofs.Kept.{IsKept, At, applied_kept, answered_kept, passed_kept}
+use Rattle.cancel_laws.proofs.KeptEnds.{flushed_kept}
 
 -- a fact that the next submission, of that number, keeps too
 pub record CanAsk (P : Option ℕ → List Request → Life → List ℕ → List LinkAct → Type 0) (m : ℕ) : Type 0 where

@@ -4,6 +4,7 @@ pub mod Requests
 pub mod Names
 pub mod Links
 pub mod Kept
+pub mod KeptEnds
 pub mod KeptTurns
 pub mod Gone
 pub mod Values

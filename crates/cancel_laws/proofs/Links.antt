@@ -1,7 +1,7 @@
 -- A link does the same where the verdict of one message is not wanted.
-use Rattle.std.proofs.Common.{◌≡◌, ◌≢◌, ℕ, ◌==◌, ◌&&◌, not, nat_lt, Bool, true, false, List, [], ◌∷◌, ◌++◌, length, if◌then◌else◌, refl, sym, ap, ◌∙◌, inl, inr, arith}
+use Rattle.std.proofs.Common.{◌≡◌, ◌≢◌, ℕ, ◌==◌, ◌&&◌, ◌||◌, not, nat_lt, Bool, true, false, List, [], ◌∷◌, ◌++◌, length, Option, if◌then◌else◌, refl, sym, ap, ◌∙◌, inl, inr, arith}
 use Rattle.std.proofs.Math.Bool.{and-false}
-use Rattle.containers.proofs.Choices.{by_test, chosen, left_if, eq_from, eq_test, ne_test}
+use Rattle.containers.proofs.Choices.{by_test, chosen, either, left_if, eq_from, eq_test, ne_test}
 use Rattle.resp_value.specs.Data.{Data}
 use Rattle.resp_read.specs.Values.{values}
 use Rattle.driver_model.specs.Shape.{need_of}
@@ -9,7 +9,7 @@ use Rattle.driver_model.specs.declared.hearing.Hearing.{Hearing}
 use Rattle.link_core.specs.declared.message.Entry.{Entry}
 use Rattle.link_core.specs.declared.message.Queued.{Queued}
 use Rattle.link_core.specs.Dealing.{Dealing, dealing_with, with_item, dealt_to, dealt, noticed_behind, taking_in, taken_as, taken, taken_each}
-use Rattle.link_core.specs.Link.{LinkState, Starting, Reading, entry_of, begun, holds_back, started_one, started_each, started_all, cancelled, nothing_read, came_all, piece_read}
+use Rattle.link_core.specs.Link.{LinkState, Starting, Reading, entry_of, begun, holds_back, is_up_to, started_one, started_each, started_all, started_to_each, cancelled, nothing_read, came_all, piece_read}
 use Rattle.link_core.specs.Row.{silent, silenced}
 use Rattle.link_core.specs.Waiting.{is_wanted, without}
 use Rattle.link_laws.specs.Alike.{SameEntry, SameRow, SameLink}
@@ -40,11 +40,6 @@ pub none_without : (p m : ℕ) (queue : List Queued) → NoneOf p queue → None
 none_without p m [] h = tt
 none_without p m (q ∷ qs) h = chosen (NoneOf p) (is_wanted m q) _ _ (λ t. h.1) (λ f. (h.0, none_without p m qs h.1))
 
--- some messages start
-pub none_started : (p : ℕ) (s : Starting) (queue : List Queued) → NoneOf p queue → NoneOf p (started_each s queue).link.queue
-none_started p s [] h = tt
-none_started p s (q ∷ qs) h = chosen (λ (x : Starting). NoneOf p x.link.queue) (holds_back s.link) _ _ (λ t. h) (λ f. none_started p (started_one s q) qs h.1)
-
 -- bytes come
 pub none_came : (p : ℕ) (what : Hearing) (l : LinkState) (piece : List ℕ) → NoneOf p l.queue → NoneOf p (piece_read what true l piece).link.queue
 none_came p what l piece h = chosen (λ (x : Reading). NoneOf p x.link.queue) l.broken (nothing_read l) (came_all what true l (l.rest ++ piece)) (λ t. h) (λ f. h)
@@ -72,7 +67,7 @@ quiet_behind p [] q e h = (e, tt)
 quiet_behind p (x ∷ row) q e h = (h.0, quiet_behind p row q e h.1)
 
 -- some messages start
-pub quiet_starts : (p : ℕ) (s : Starting) (queue : List Queued) → NoneOf p queue → NoneWanted p s.link.row → NoneWanted p (started_each s queue).link.row
+quiet_starts : (p : ℕ) (s : Starting) (queue : List Queued) → NoneOf p queue → NoneWanted p s.link.row → NoneWanted p (started_each s queue).link.row
 quiet_starts p s [] n h = h
 quiet_starts p s (q ∷ qs) n h =
     chosen (λ (x : Starting). NoneWanted p x.link.row) (holds_back s.link) _ _ (λ t. h) (λ f. quiet_starts p (started_one s q) qs n.1 (quiet_behind p s.link.row q n.0 h))
@@ -179,14 +174,31 @@ pub hushed_started : (p : ℕ) (l : LinkState) → NoneOf p l.queue → hushed_l
 hushed_started p l none =
     hushed_is p _ _ (start_alike p l (hushed_link p l) [] (alike_hushed p l)).link (quiet_starts p (record { link = hushed_link p l; out = [] }) l.queue none (hushed_quiet p l.row))
 
--- one more entry, of another message
-behind_hushed : (p : ℕ) (row : List Entry) (q : Queued) → q.id ≢ p → hushed_each p (row ++ entry_of q ∷ []) ≡ hushed_each p row ++ entry_of q ∷ []
-behind_hushed p [] q apart = ap (λ (e : Entry). e ∷ []) (other_stays p (entry_of q) (ne_test q.id p apart))
-behind_hushed p (e ∷ row) q apart = ap (λ (xs : List Entry). hushed p e ∷ xs) (behind_hushed p row q apart)
+-- one more entry, of a message that isn't that one
+behind_hushed : (p : ℕ) (row : List Entry) (q : Queued) → is_wanted p q ≡ false → hushed_each p (row ++ entry_of q ∷ []) ≡ hushed_each p row ++ entry_of q ∷ []
+behind_hushed p [] q none = ap (λ (b : Bool). record (entry_of q) { awaited = b } ∷ []) (wanted_still (q.id == p) q.awaited none)
+behind_hushed p (e ∷ row) q none = ap (λ (xs : List Entry). hushed p e ∷ xs) (behind_hushed p row q none)
+
+-- it starts
+one_hushed : (p : ℕ) (l : LinkState) (q : Queued) → is_wanted p q ≡ false → hushed_link p (begun l q) ≡ begun (hushed_link p l) q
+one_hushed p l q none = ap (λ (row : List Entry). record (begun l q) { row = row }) (behind_hushed p l.row q none)
 
 -- another message starts before the queue
 pub hushed_begun : (p : ℕ) (l : LinkState) (q : Queued) → q.id ≢ p → hushed_link p (begun l q) ≡ begun (hushed_link p l) q
-hushed_begun p l q apart = ap (λ (row : List Entry). record (begun l q) { row = row }) (behind_hushed p l.row q apart)
+hushed_begun p l q apart = one_hushed p l q (ap (λ (b : Bool). b && q.awaited) (ne_test q.id p apart))
+
+-- the starts of one call on the link in which the verdict is not wanted
+abbrev pub hushed_starting : ℕ → Starting → Starting
+hushed_starting p s = record s { link = hushed_link p s.link }
+
+-- messages start up to one of them
+pub hushed_ahead : (p : ℕ) (last : Option ℕ) (s : Starting) (queue : List Queued) → NoneOf p queue → hushed_starting p (started_to_each last s queue) ≡ started_to_each last (hushed_starting p s) queue
+hushed_ahead p last s [] none = refl
+hushed_ahead p last s (q ∷ qs) none =
+    let t = hushed_starting p s in
+    either (hushed_starting p) (holds_back s.link || not (is_up_to last q.id)) (record s { link = record s.link { queue = q ∷ qs } }) (started_to_each last (started_one s q) qs)
+    (record t { link = record t.link { queue = q ∷ qs } }) (started_to_each last (started_one t q) qs) (λ u. refl)
+    (λ f. hushed_ahead p last (started_one s q) qs none.1 ∙ ap (λ (l : LinkState). started_to_each last (record (started_one s q) { link = l }) qs) (one_hushed p s.link q none.0))
 
 -- bytes come
 pub hushed_came : (p : ℕ) (what : Hearing) (l : LinkState) (piece : List ℕ) → hushed_link p (piece_read what true l piece).link ≡ (piece_read what true (hushed_link p l) piece).link

@@ -11,7 +11,7 @@ use Rattle.driver_model.specs.declared.action.WaitKind.TheVariants as wait
 use Rattle.driver_model.specs.declared.outcome.Outcome.TheVariants as outcome
 use Rattle.driver_model.specs.declared.outcome.Shape.{Shape}
 use Rattle.link_core.specs.declared.message.Started.{Started}
-use Rattle.link_core.specs.Link.{LinkState, enqueued, begun, start_of, holds_back, started_all, offered_of}
+use Rattle.link_core.specs.Link.{LinkState, enqueued, begun, start_of, holds_back, Starting, started_all, started_to, offered_of}
 use Rattle.link_core.specs.Outbox.{can_offer}
 use Rattle.link_laws.proofs.Cancels.{start_alike}
 use Rattle.mux_conn.specs.declared.act.LinkAct.TheVariants as act
@@ -23,18 +23,20 @@ use Rattle.mux_conn.specs.declared.life.Life.TheVariants.{Resting, Dialing, Want
 use Rattle.mux_conn.specs.declared.request.Progress.TheVariants as progress
 use Rattle.mux_conn.specs.declared.request.Request.{Request}
 use Rattle.mux_conn.specs.declared.request.Waiting.{Waiting}
-use Rattle.mux_conn.specs.Connection.{Work, acted, at_life, with_link, with_setup, has_no_permit, admits_none_at, admits_none, has_room, has_room_at, in_front, is_due, is_ready, first_queued, is_outstanding, is_serving}
+use Rattle.mux_conn.specs.Connection.{Work, acted, at_life, with_link, with_setup, has_no_permit, admits_none_at, admits_none, has_room, has_room_at, in_front, is_due, is_ready, first_queued, last_queued, is_outstanding, is_serving}
 use Rattle.mux_conn.specs.Requests.{is_waiting, is_admitted, is_placed, is_open_at, is_waiting_at, is_admitted_at, is_placed_at, name_at, permits_at, with_permits, given_back, closed, answered, waiting_of, asked, is_unbegun, is_unbegun_at, progressed}
 use Rattle.mux_conn.specs.Effects.{cancelled_in, left, timed_out}
 use Rattle.mux_conn.specs.Renewals as renewals
-use Rattle.mux_conn.specs.Renewals.{renewing, renewal_id, renewal_queued, asked_next, told_next, renewal_act, renewal_timed, renewal_asked, renewal_told, renewal_moved}
-use Rattle.mux_conn.specs.Passes.{shown_each, starts_with, started_at, started, message_of, placed_at, told_at_place, seated, still_admitted, moved_up, moved_up_each, moved_up_all, put_behind, seated_or_behind, permits_taken, holding, took_shown, took as holds, timer_asked, let_in, admitted_at, admitted, still_waiting, admitted_each, admitted_all, passed, round_begun, rounds_of, rounds_begun, moved_all, said}
+use Rattle.mux_conn.specs.Renewals.{renewing, renewal_id, renewal_queued, asked_next, told_next, renewal_act, renewal_timed, renewal_asked, started_ahead_at, started_ahead, renewal_told, renewal_moved}
+use Rattle.mux_conn.specs.Starts.{shown_each, starts_with}
+use Rattle.mux_conn.specs.Passes.{started_at, started, message_of, placed_at, told_at_place, seated, still_admitted, moved_up, moved_up_each, moved_up_all, put_behind, seated_or_behind, permits_taken, holding, took_shown, took as holds, timer_asked, let_in, admitted_at, admitted, still_waiting, admitted_each, admitted_all, passed, round_begun, rounds_of, rounds_begun, moved_all, said}
 use Rattle.mux_conn.specs.Turn.{written_at, written, is_from, moved_wait, early_wait, fresh_wait, wait_shown, moved_each_shown, moved_shown, fresh_each_shown, fresh_shown, waits_shown, flushed}
 use Rattle.cancel_laws.specs.ButFor.{hushed_link, hushed_life}
 use Rattle.cancel_laws.proofs.Requests.{names, name_stays, progress_apart, progress_push, progress_count, permits_other, permits_push, goes_apart, own_closed, test_other, same_test, other_test, unbegun_waits, unbegun_not}
 use Rattle.cancel_laws.proofs.Names.{IsOwn}
-use Rattle.cancel_laws.proofs.Links.{alike_hushed, none_leaves, hushed_begun, hushed_started, hushed_cancelled, own_cancelled}
-use Rattle.cancel_laws.proofs.Kept.{At, There, started_kept, told_kept, moved_up_kept, moved_up_all_kept, let_in_admitted, let_in_kept, admitted_kept, unlimited_kept, written_kept, wait_kept, moved_shown_kept, round_kept, round_waits, moved_all_kept, repeated_kept, said_kept}
+use Rattle.cancel_laws.proofs.Links.{alike_hushed, none_leaves, hushed_begun, hushed_started, hushed_ahead, hushed_cancelled, own_cancelled}
+use Rattle.cancel_laws.proofs.Kept.{At, There, started_kept, told_kept, moved_up_kept, moved_up_all_kept, let_in_admitted, let_in_kept, admitted_kept, unlimited_kept, round_kept, round_waits, moved_all_kept, repeated_kept, said_kept, renewal_asked_kept}
+use Rattle.cancel_laws.proofs.KeptEnds.{written_kept, wait_kept, moved_shown_kept}
 use Rattle.cancel_laws.proofs.Gone.{NoneQueued, NoneIs, IsGone, gone_kept, IsAway, away_kept}
 use Rattle.cancel_laws.proofs.Bare.{bare_conn, bare, bare_acted, open_same, closed_stays, closed_twice, closed_apart, answered_own, answered_other, bare_answered, ready_same, repeating_same}
 use Rattle.mux_conn.specs.Repeats.{is_to_start, is_untimed, with_timer, repeating, repeat_id, repeat_queued, repeat_timed, repeat_asked, repeat_act, repeat_told, repeat_moved, repeated}
@@ -228,20 +230,52 @@ bare_renewal_timed : (n p : ℕ) (w : Work) (number : ℕ) (within : Option ℕ)
 bare_renewal_timed n p w number None = refl
 bare_renewal_timed n p w number (Some ms) = bare_acted n p w (act.RenewalTimer number ms) (λ m. refl)
 
--- which is asked for once
+-- the last of the queue is the same
+last_same : (p : ℕ) (life : Life) → last_queued life ≡ last_queued (hushed_life p life)
+last_same p (Ready l) = refl
+last_same p Resting = refl
+last_same p Dialing = refl
+last_same p (Wanting l) = refl
+last_same p (SettingUp l greeting) = refl
+last_same p (Ended e) = refl
+
+-- the timer is asked for once
 bare_renewal_asked : (n p : ℕ) (w : Work) → bare n p (renewal_asked w) ≡ renewal_asked (bare n p w)
 bare_renewal_asked n p w =
     let r = w.conn.renewal in
-    let d = renewing w (asked_next r) in
-    either (bare n p) r.pending w (renewal_timed d r.asked r.within) (bare n p w) (renewal_timed (bare n p d) r.asked r.within) (λ t. refl) (λ f. bare_renewal_timed n p d r.asked r.within)
+    let d = renewing w (asked_next r (last_queued w.conn.life)) in
+    let e = renewing (bare n p w) (asked_next r (last_queued (hushed_life p w.conn.life))) in
+    either (bare n p) r.pending w (renewal_timed d r.asked r.within) (bare n p w) (renewal_timed e r.asked r.within) (λ t. refl)
+    (λ f. bare_renewal_timed n p d r.asked r.within ∙ ap (λ (last : Option ℕ). renewal_timed (renewing (bare n p w) (asked_next r last)) r.asked r.within) (last_same p w.conn.life))
+
+-- those that took their places before them start
+bare_ahead_at : (n p : ℕ) (w : Work) (life : Life) → NoneQueued p life → bare n p (started_ahead_at w life) ≡ started_ahead_at (bare n p w) (hushed_life p life)
+bare_ahead_at n p w (Ready l) none =
+    let last = w.conn.renewal.last in
+    let one : Starting = record { link = l; out = [] } in
+    let s = started_to last one in
+    bare_shown n p (with_link w s.link) s.out ∙ ap (starts_with (bare n p w)) (hushed_ahead p last one l.queue none)
+bare_ahead_at n p w Resting none = refl
+bare_ahead_at n p w Dialing none = refl
+bare_ahead_at n p w (Wanting l) none = refl
+bare_ahead_at n p w (SettingUp l greeting) none = refl
+bare_ahead_at n p w (Ended e) none = refl
+
+-- behind their timer
+bare_ahead : (n p : ℕ) (w : Work) → At (There (IsGone n p)) w → bare n p (started_ahead (renewal_asked w)) ≡ started_ahead (renewal_asked (bare n p w))
+bare_ahead n p w h =
+    let v = renewal_asked w in
+    bare_ahead_at n p v v.conn.life (renewal_asked_kept (gone_kept n p) w h).none ∙ ap started_ahead (bare_renewal_asked n p w)
 
 -- so all of it
 bare_renewed : (n p : ℕ) (w : Work) → At (There (IsGone n p)) w → bare n p (renewals.renewed w) ≡ renewals.renewed (bare n p w)
 bare_renewed n p w h =
     let r = w.conn.renewal in
-    either_by (bare n p) (is_ready w.conn.life && is_due r) (is_ready (hushed_life p w.conn.life) && is_due r) (renewal_moved (renewal_asked w) w.conn.life r.waiting) w
-    (renewal_moved (renewal_asked (bare n p w)) (hushed_life p w.conn.life) r.waiting) (bare n p w) (ap (λ (b : Bool). b && is_due r) (ready_same p w.conn.life))
-    (λ t. bare_renewal_moved n p (renewal_asked w) w.conn.life r.waiting (h.apart renewal_id (inl refl)) ∙ ap (λ (x : Work). renewal_moved x (hushed_life p w.conn.life) r.waiting) (bare_renewal_asked n p w))
+    let a = started_ahead (renewal_asked w) in
+    let b = started_ahead (renewal_asked (bare n p w)) in
+    either_by (bare n p) (is_ready w.conn.life && is_due r) (is_ready (hushed_life p w.conn.life) && is_due r) (renewal_moved a a.conn.life a.conn.renewal.waiting) w
+    (renewal_moved b b.conn.life b.conn.renewal.waiting) (bare n p w) (ap (λ (b : Bool). b && is_due r) (ready_same p w.conn.life))
+    (λ t. bare_renewal_moved n p a a.conn.life a.conn.renewal.waiting (h.apart renewal_id (inl refl)) ∙ ap (λ (x : Work). renewal_moved x x.conn.life x.conn.renewal.waiting) (bare_ahead n p w h))
     (λ f. refl)
 
 -- and all that the driver says itself

@@ -9,7 +9,7 @@ use Rattle.driver_model.specs.declared.hearing.Hearing.{Hearing}
 use Rattle.link_core.specs.declared.message.Entry.{Entry}
 use Rattle.link_core.specs.declared.message.Queued.{Queued}
 use Rattle.link_core.specs.Dealing.{Dealing, dealing_with, with_item, dealt_to, dealt, noticed_behind, taking_in, taken_as, taken, taken_each}
-use Rattle.link_core.specs.Link.{LinkState, Starting, Reading, entry_of, holds_back, started_one, started_each, nothing_read, came_all}
+use Rattle.link_core.specs.Link.{LinkState, Reading, entry_of, nothing_read, came_all}
 use Rattle.link_core.specs.Row.{silenced}
 use Rattle.link_core.specs.Waiting.{is_wanted, without}
 use Rattle.mux_conn.specs.declared.life.Life.{Life}
@@ -179,13 +179,6 @@ times_values : (p : ℕ) (what : Hearing) (d : Dealing) (vs : List Data) → tim
 times_values p what d [] = omega arith
 times_values p what d (v ∷ vs) = omega (arith, times_values p what (taken what true d v) vs, times_taken p what d v)
 
--- who starts is on the link before and after
-starts_same : (p : ℕ) (s : Starting) (queue : List Queued) → all_of p (Ready (started_each s queue).link) ≡ times p s.link.row + places p queue
-starts_same p s [] = omega arith
-starts_same p s (q ∷ qs) =
-    chosen (λ (x : Starting). all_of p (Ready x.link) ≡ times p s.link.row + places p (q ∷ qs)) (holds_back s.link) _ _ (λ t. refl)
-    (λ f. omega (arith, starts_same p (started_one s q) qs, times_push p s.link.row (entry_of q)))
-
 -- a cancel brings no message
 cancelled_once : (p q : ℕ) (life : Life) → all_of p (cancelled_in life q) ≤ all_of p life
 cancelled_once p q Resting = omega arith
@@ -239,7 +232,7 @@ once_there p apart = record {
   round = λ r life q t h. record { within = omega (arith, h.within, share_admit r p q progress.Begun (permits_at r q) (unbegun_waits r q t)); alone = h.alone };
   admit = λ r life q count t h. record { within = omega (arith, h.within, share_admit r p q progress.Admitted count t); alone = h.alone };
   place = λ r l q t h. record { within = omega (arith, placed_once p q.number r (all_of p (Ready l)) t h.within, places_push p l.queue (message_of q)); alone = tt };
-  start = λ r l h. record { within = omega (arith, h.within, starts_same p (record { link = l; out = [] }) l.queue); alone = tt };
+  start = λ r l q qs h. record { within = omega (arith, h.within, times_push p l.row (entry_of q)); alone = tt };
   say = λ r l q own h.
       let other : one p q.id ≡ 0 = left_if (q.id == p) 1 0 (ne_test q.id p (apart q.id own)) in
       record { within = omega (arith, h.within, times_push p l.row (entry_of q), other); alone = tt };

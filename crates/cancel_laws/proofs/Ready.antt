@@ -26,7 +26,8 @@ use Rattle.shared_session.proofs.Plain.{plain_after, plain_opening, plain_turn}
 use Rattle.shared_session.proofs.Stays.{turn_plain}
 use Rattle.cancel_laws.proofs.Requests.{names, names_stay, names_push, names_count}
 use Rattle.cancel_laws.proofs.Names.{AreNamed, named_refused, named_asked}
-use Rattle.cancel_laws.proofs.Kept.{IsKept, IsKeptThere, There, kept_there, Unlimited, passed_kept, flushed_kept, IsApart}
+use Rattle.cancel_laws.proofs.Kept.{IsKept, IsKeptThere, There, kept_there, Unlimited, passed_kept, IsApart}
+use Rattle.cancel_laws.proofs.KeptEnds.{flushed_kept}
 use Rattle.cancel_laws.proofs.KeptTurns.{AtCore, heard_kept, left_by_kept, fired_kept, turn_kept}
 use Rattle.cancel_laws.proofs.Once.{IsOnce, once_kept, once_asks}
 use Rattle.cancel_laws.proofs.Rest.{IsIdle}
@@ -54,7 +55,7 @@ names_there ns = record {
   round = λ r life q t h. names_stay r q progress.Begun (permits_at r q) ∙ h;
   admit = λ r life q count t h. names_stay r q progress.Admitted count ∙ h;
   place = λ r l q t h. names_stay r q.number progress.Placed (permits_at r q.number) ∙ h;
-  start = λ r l h. h;
+  start = λ r l q qs h. h;
   say = λ r l q own h. h;
   offer = λ r l h. h;
   write = λ r l k h. h;

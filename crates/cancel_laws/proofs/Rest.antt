@@ -1,12 +1,12 @@
 -- After each turn nothing is left to do, and a turn that changes nothing shows nothing.
 use Rattle.std.proofs.Common.{◌≡◌, ◌⊎◌, inl, inr, ℕ, ◌==◌, ◌&&◌, ◌||◌, not, Bool, true, false, List, [], ◌∷◌, length, Option, Some, None, refl, sym, ap, ◌∙◌, subst}
-use Rattle.containers.proofs.Choices.{chosen, taken_if, left_if, not_both}
+use Rattle.containers.proofs.Choices.{chosen, taken_if, left_if, not_both, or_left}
 use Rattle.driver_model.specs.declared.action.WaitKind.{WaitKind}
 use Rattle.resp_value.specs.declared.value.Value.TheVariants.{Nil}
 use Rattle.driver_model.specs.declared.outcome.Outcome.TheVariants as outcome
 use Rattle.link_core.specs.declared.message.Queued.{Queued}
 use Rattle.link_core.specs.declared.message.Started.{Started}
-use Rattle.link_core.specs.Link.{LinkState, Starting, holds_back, offered_of, started_one, started_each, started_all}
+use Rattle.link_core.specs.Link.{LinkState, Starting, holds_back, offered_of, is_up_to, started_one, started_each, started_all, started_to_each, started_to}
 use Rattle.link_core.specs.Outbox.{can_offer}
 use Rattle.credentials.specs.Credentials.{Credentials}
 use Rattle.mux_conn.specs.declared.act.LinkAct.TheVariants as act
@@ -19,12 +19,13 @@ use Rattle.mux_conn.specs.declared.life.Life.TheVariants.{Resting, Dialing, Want
 use Rattle.mux_conn.specs.declared.request.Progress.TheVariants as progress
 use Rattle.mux_conn.specs.declared.request.Waiting.{Waiting}
 use Rattle.mux_conn.specs.declared.renewal.Renewal.{Renewal}
-use Rattle.mux_conn.specs.Connection.{Work, acted, at_life, with_link, with_setup, has_no_permit, admits_none_at, admits_none, has_room, has_room_at, in_front, is_due, is_held_back, is_ready, are_some, is_outstanding, is_serving}
+use Rattle.mux_conn.specs.Connection.{Work, acted, at_life, with_link, with_setup, has_no_permit, admits_none_at, admits_none, has_room, has_room_at, in_front, is_due, is_held_back, is_ready, are_some, is_outstanding, is_serving, last_queued}
 use Rattle.mux_conn.specs.Renewals as renewals
-use Rattle.mux_conn.specs.Renewals.{renewing, asked_next, renewal_timed, renewal_asked, renewal_told, renewal_moved}
+use Rattle.mux_conn.specs.Renewals.{renewing, asked_next, renewal_timed, renewal_asked, started_ahead_at, started_ahead, renewal_told, renewal_moved}
 use Rattle.mux_conn.specs.Requests.{is_open_at, is_waiting_at, is_admitted_at, name_at, closed, answered, is_unbegun_at, progressed}
 use Rattle.mux_conn.specs.Effects.{cancelled_in, left}
-use Rattle.mux_conn.specs.Passes.{shown_each, starts_with, greeting_act, greeted_each, greets_with, started_at, started, placed_at, told_at_place, seated, still_admitted, moved_up, moved_up_each, moved_up_all, put_behind, seated_or_behind, let_in, admitted_at, admitted, still_waiting, admitted_each, admitted_all, passed, moved_all, round_begun, rounds_of, rounds_begun, said}
+use Rattle.mux_conn.specs.Starts.{shown_each, starts_with}
+use Rattle.mux_conn.specs.Passes.{greeting_act, greeted_each, greets_with, started_at, started, placed_at, told_at_place, seated, still_admitted, moved_up, moved_up_each, moved_up_all, put_behind, seated_or_behind, let_in, admitted_at, admitted, still_waiting, admitted_each, admitted_all, passed, moved_all, round_begun, rounds_of, rounds_begun, said}
 use Rattle.mux_conn.specs.Turn.{written_at, written, moved_wait, fresh_wait, wait_shown, moved_each_shown, moved_shown, fresh_each_shown, fresh_shown, waits_shown, flushed}
 use Rattle.cancel_laws.proofs.Links.{none_leaves}
 use Rattle.cancel_laws.proofs.Kept.{let_in_conn}
@@ -132,6 +133,12 @@ held_starts : (s : Starting) (queue : List Queued) → holds_back s.link ≡ tru
 held_starts s [] held = held
 held_starts s (q ∷ qs) held = chosen (λ (x : Starting). holds_back x.link ≡ true) (holds_back s.link) _ _ (λ t. held) (λ f. absurd (not_both (holds_back s.link) f held))
 
+-- nor any of those up to one of them
+held_ahead : (last : Option ℕ) (s : Starting) (queue : List Queued) → holds_back s.link ≡ true → holds_back (started_to_each last s queue).link ≡ true
+held_ahead last s [] held = held
+held_ahead last s (q ∷ qs) held =
+    chosen (λ (x : Starting). holds_back x.link ≡ true) (holds_back s.link || not (is_up_to last q.id)) _ _ (λ t. held) (λ f. absurd (not_both (holds_back s.link) (or_left (holds_back s.link) (not (is_up_to last q.id)) f) held))
+
 -- what is shown changes no connection
 pub conn_shown : (w : Work) (ss : List Started) → (shown_each w ss).conn ≡ w.conn
 conn_shown w [] = refl
@@ -214,19 +221,38 @@ moved_renewed w (Wanting l) cs e asked is = λ t. absurd (not_both (is_ready w.c
 moved_renewed w (SettingUp l greeting) cs e asked is = λ t. absurd (not_both (is_ready w.conn.life) (ap is_ready e) (both_left (is_ready w.conn.life) (is_due w.conn.renewal) t))
 moved_renewed w (Ended x) cs e asked is = λ t. absurd (not_both (is_ready w.conn.life) (ap is_ready e) (both_left (is_ready w.conn.life) (is_due w.conn.renewal) t))
 
--- behind their timer
-timed_renewed : (w : Work) (number : ℕ) (within : Option ℕ) → w.conn.renewal.pending ≡ true → HasRenewedIn (renewal_moved (renewal_timed w number within) w.conn.life w.conn.renewal.waiting)
-timed_renewed w number None asked = moved_renewed w w.conn.life w.conn.renewal.waiting refl asked refl
-timed_renewed w number (Some ms) asked = moved_renewed (acted w (act.RenewalTimer number ms)) w.conn.life w.conn.renewal.waiting refl asked refl
+-- their timer changes no connection
+timed_conn : (w : Work) (number : ℕ) (within : Option ℕ) → (renewal_timed w number within).conn ≡ w.conn
+timed_conn w number None = refl
+timed_conn w number (Some ms) = refl
+
+-- it is asked for
+asked_pending : (w : Work) → (renewal_asked w).conn.renewal.pending ≡ true
+asked_pending w =
+    let r = w.conn.renewal in
+    let d = renewing w (asked_next r (last_queued w.conn.life)) in
+    chosen (λ (x : Work). x.conn.renewal.pending ≡ true) r.pending w (renewal_timed d r.asked r.within) (λ t. t) (λ f. ap (λ (c : MultiplexedConnection). c.renewal.pending) (timed_conn d r.asked r.within))
+
+-- those before them that start leave them
+ahead_renewal : (w : Work) (life : Life) → (started_ahead_at w life).conn.renewal ≡ w.conn.renewal
+ahead_renewal w (Ready l) =
+    let s = started_to w.conn.renewal.last (record { link = l; out = [] }) in
+    ap (λ (c : MultiplexedConnection). c.renewal) (conn_shown (with_link w s.link) s.out)
+ahead_renewal w Resting = refl
+ahead_renewal w Dialing = refl
+ahead_renewal w (Wanting l) = refl
+ahead_renewal w (SettingUp l greeting) = refl
+ahead_renewal w (Ended e) = refl
 
 -- so all do that are to be told
 all_renewed : (w : Work) → HasRenewedIn (renewals.renewed w)
 all_renewed w =
     let r = w.conn.renewal in
-    chosen HasRenewedIn (is_ready w.conn.life && is_due r) (renewal_moved (renewal_asked w) w.conn.life r.waiting) w
-    (λ t. chosen (λ (x : Work). HasRenewedIn (renewal_moved x w.conn.life r.waiting)) r.pending w (renewal_timed (renewing w (asked_next r)) r.asked r.within)
-    (λ u. moved_renewed w w.conn.life r.waiting refl u refl)
-    (λ u. timed_renewed (renewing w (asked_next r)) r.asked r.within refl))
+    let v = renewal_asked w in
+    let a = started_ahead v in
+    let asked : a.conn.renewal.pending ≡ true = ap (λ (x : Renewal). x.pending) (ahead_renewal v v.conn.life) ∙ asked_pending w in
+    chosen HasRenewedIn (is_ready w.conn.life && is_due r) (renewal_moved a a.conn.life a.conn.renewal.waiting) w
+    (λ t. moved_renewed a a.conn.life a.conn.renewal.waiting refl asked refl)
     (λ f. λ t. absurd (not_both (is_ready w.conn.life && is_due r) f t))
 
 -- new credentials leave what is subscribed again, and hold back what was held back
@@ -241,17 +267,32 @@ moved_keeps w (Wanting l) cs e h = h
 moved_keeps w (SettingUp l greeting) cs e h = h
 moved_keeps w (Ended x) cs e h = h
 
-timed_keeps : (w : Work) (number : ℕ) (within : Option ℕ) (cs : List Credentials) → HasRepeatedIn w → HasRepeatedIn (renewal_moved (renewal_timed w number within) w.conn.life cs)
-timed_keeps w number None cs h = moved_keeps w w.conn.life cs refl h
-timed_keeps w number (Some ms) cs h = moved_keeps (acted w (act.RenewalTimer number ms)) w.conn.life cs refl h
+-- and so does their timer
+asked_keeps : (w : Work) → HasRepeatedIn w → HasRepeatedIn (renewal_asked w)
+asked_keeps w h =
+    let r = w.conn.renewal in
+    let d = renewing w (asked_next r (last_queued w.conn.life)) in
+    chosen HasRepeatedIn r.pending w (renewal_timed d r.asked r.within) (λ t. h) (λ f. subst (λ (c : MultiplexedConnection). HasRepeated c.again c.life) (sym (timed_conn d r.asked r.within)) h)
+
+-- and those before them
+ahead_keeps : (w : Work) (life : Life) → w.conn.life ≡ life → HasRepeatedIn w → HasRepeatedIn (started_ahead_at w life)
+ahead_keeps w (Ready l) e h =
+    let last = w.conn.renewal.last in
+    let s = started_to last (record { link = l; out = [] }) in
+    subst (λ (c : MultiplexedConnection). HasRepeated c.again c.life) (sym (conn_shown (with_link w s.link) s.out))
+    (λ t. let k = subst (HasRepeated w.conn.again) e h t in (k.0, held_ahead last (record { link = l; out = [] }) l.queue k.1))
+ahead_keeps w Resting e h = h
+ahead_keeps w Dialing e h = h
+ahead_keeps w (Wanting l) e h = h
+ahead_keeps w (SettingUp l greeting) e h = h
+ahead_keeps w (Ended x) e h = h
 
 renewed_keeps : (w : Work) → HasRepeatedIn w → HasRepeatedIn (renewals.renewed w)
 renewed_keeps w h =
-    let r = w.conn.renewal in
-    chosen HasRepeatedIn (is_ready w.conn.life && is_due r) (renewal_moved (renewal_asked w) w.conn.life r.waiting) w
-    (λ t. chosen (λ (x : Work). HasRepeatedIn (renewal_moved x w.conn.life r.waiting)) r.pending w (renewal_timed (renewing w (asked_next r)) r.asked r.within)
-    (λ u. moved_keeps w w.conn.life r.waiting refl h)
-    (λ u. timed_keeps (renewing w (asked_next r)) r.asked r.within r.waiting h))
+    let v = renewal_asked w in
+    let a = started_ahead v in
+    chosen HasRepeatedIn (is_ready w.conn.life && is_due w.conn.renewal) (renewal_moved a a.conn.life a.conn.renewal.waiting) w
+    (λ t. moved_keeps a a.conn.life a.conn.renewal.waiting refl (ahead_keeps v v.conn.life refl (asked_keeps w h)))
     (λ f. h)
 
 -- so all that the driver says itself is said that may be
@@ -506,6 +547,21 @@ started_stays w Resting e h = refl
 started_stays w Dialing e h = refl
 started_stays w (Ended x) e h = refl
 
+-- nor does one before new credentials on a link that is held back
+none_ahead : (last : Option ℕ) (l : LinkState) (queue : List Queued) → l.queue ≡ queue → holds_back l ≡ true → started_to_each last (record { link = l; out = [] }) queue ≡ record { link = l; out = [] }
+none_ahead last l [] e held = ap (λ (queue : List Queued). record { link = record l { queue = queue }; out = [] }) (sym e)
+none_ahead last l (q ∷ qs) e held =
+    taken_if (holds_back l || not (is_up_to last q.id)) _ _ (ap (λ (b : Bool). b || not (is_up_to last q.id)) held) ∙ ap (λ (queue : List Queued). record { link = record l { queue = queue }; out = [] }) (sym e)
+
+-- whatever the link is
+ahead_stays : (w : Work) (life : Life) → w.conn.life ≡ life → is_held_back life ≡ true → started_ahead_at w life ≡ w
+ahead_stays w (Ready l) e held = ap (starts_with w) (none_ahead w.conn.renewal.last l l.queue refl held) ∙ ap (at_life w) (sym e)
+ahead_stays w Resting e held = refl
+ahead_stays w Dialing e held = refl
+ahead_stays w (Wanting l) e held = refl
+ahead_stays w (SettingUp l greeting) e held = refl
+ahead_stays w (Ended x) e held = refl
+
 -- no request takes a place
 pub none_moved_up : (w : Work) (qs : List Waiting) → (has_room w.conn ≡ true → qs ≡ []) → moved_up_each w qs ≡ still_admitted w qs
 none_moved_up w [] h = refl
@@ -559,8 +615,11 @@ repeated_stays w h =
 pub renewed_stays : (w : Work) → HasRenewed w.conn.renewal w.conn.life → renewals.renewed w ≡ w
 renewed_stays w h =
     let r = w.conn.renewal in
-    chosen (λ (x : Work). x ≡ w) (is_ready w.conn.life && is_due r) (renewal_moved (renewal_asked w) w.conn.life r.waiting) w
-    (λ t. let k = h t in ap (λ (x : Work). renewal_moved x w.conn.life r.waiting) (taken_if r.pending w _ k.0) ∙ moved_stays_held w w.conn.life r.waiting k.1)
+    let a = started_ahead (renewal_asked w) in
+    chosen (λ (x : Work). x ≡ w) (is_ready w.conn.life && is_due r) (renewal_moved a a.conn.life a.conn.renewal.waiting) w
+    (λ t. let k = h t in
+    let same : a ≡ w = ap started_ahead (taken_if r.pending w _ k.0) ∙ ahead_stays w w.conn.life refl k.1 in
+    ap (λ (x : Work). renewal_moved x x.conn.life x.conn.renewal.waiting) same ∙ moved_stays_held w w.conn.life r.waiting k.1)
     (λ f. refl)
 
 -- the driver says nothing more

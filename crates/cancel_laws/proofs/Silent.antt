@@ -68,7 +68,7 @@ silent_kept n p = record {
     closed = closed_set r q.number p progress.Placed (permits_at r q.number) (admitted_open r q.number t) h.closed;
     unshown = h.unshown;
   };
-  start = λ lim r l ms xs h. record { there = h.there; own = h.own; closed = h.closed; unshown = h.unshown };
+  start = λ lim r l q qs ms xs h. record { there = h.there; own = h.own; closed = h.closed; unshown = h.unshown };
   say = λ lim r l ms xs q own h. record { there = h.there; own = h.own; closed = h.closed; unshown = h.unshown };
   offer = λ lim r l ms xs h. record { there = h.there; own = h.own; closed = h.closed; unshown = h.unshown };
   write = λ lim r l ms xs k h. record { there = h.there; own = h.own; closed = h.closed; unshown = h.unshown };
