@@ -1,5 +1,5 @@
 -- Taking in a caller.
-use Rattle.std.proofs.Common.{◌≡◌, ℕ, ◌+◌, ◌<◌, ◌≤◌, List, [], ◌∷◌, ◌++◌, length, refl, sym, ap, ◌∙◌, subst, arith}
+use Rattle.std.proofs.Common.{◌≡◌, ℕ, suc, ◌+◌, ◌<◌, ◌≤◌, List, [], ◌∷◌, ◌++◌, length, refl, sym, ap, ◌∙◌, subst, arith}
 use Rattle.driver_model.specs.declared.event.Event.{Event}
 use mathlib.Core.List.{IsPrefix}
 use Rattle.session_callers.specs.declared.board.View.{View}
@@ -14,12 +14,13 @@ use Rattle.std.proofs.Common.{map, Option, Some, None, inl, inr}
 use Rattle.atomic_table.specs.Seated.{TableId}
 use Rattle.atomic_table.specs.Table.{Final, Seen}
 use Rattle.session_callers.specs.declared.board.Home.{Home}
-use Rattle.session_callers.specs.Rule.{HasAll, OwnsAll, Ruled, below, out, waiting}
-use Rattle.session_callers.proofs.Whole.{closes, each_map}
+use Rattle.session_callers.specs.Claims.{AreClaimed}
+use Rattle.session_callers.specs.Rule.{Ruled, below, between, out}
+use Rattle.session_callers.proofs.Whole.{claims_all, closes, each_map}
 use Rattle.std.proofs.lemmas.Bool.Decides.{nat_tests}
 use Rattle.std.proofs.Common.{Bool, true, false, true≢false}
 use Rattle.std.specs.Prelude.{nat_le, nat_lt, ◌||◌}
-use Rattle.session_callers.specs.Closes.{are_above, knows_more, do_know_more, IsShared}
+use Rattle.session_callers.specs.Closes.{are_above, knows_more, do_know_more, AreUndialled, IsShared}
 
 each_left : {A : Type 0} (P : A → Type 0) (xs ys : List A) → Each P (xs ++ ys) → Each P xs
 each_left P [] ys h = tt
@@ -36,6 +37,7 @@ gathers_one z m c of idle single ended = record {
   made_ended = subst (Each (λ (e : Ended). e.made ≤ m)) (sym ended) tt;
   begins = λ log fronts seen. (seen, tt);
   mine = λ p. let e : total (λ (e : Ended). times p e.mine) c.view.ended ≡ 0 = ap (total (λ (e : Ended). times p e.mine)) ended in omega arith;
+  claims = λ n. let e : total (λ (e : Ended). times n e.claims) c.view.ended ≡ 0 = ap (total (λ (e : Ended). times n e.claims)) ended in omega arith;
   config = λ config word each. each.0;
 }
 
@@ -55,6 +57,8 @@ gathers_more z m cs v c k g of one ended =
       begins = λ log fronts seen. (fronts.1.0, g.begins log (each_left (λ (x : List Event). IsPrefix x log) v.fronts w.fronts fronts.1.1) fronts.0);
       mine = λ p. let a = g.mine p in let b : total (λ (e : Ended). times p e.mine) (joined v w).ended ≡ total (λ (e : Ended). times p e.mine) v.ended + times p w.mine
           = ap (λ l. total (λ (e : Ended). times p e.mine) (v.ended ++ l)) added ∙ total_append (λ (e : Ended). times p e.mine) v.ended (new ∷ []) ∙ omega arith in omega arith;
+      claims = λ n. let a = g.claims n in let b : total (λ (e : Ended). times n e.claims) (joined v w).ended ≡ total (λ (e : Ended). times n e.claims) v.ended + times n w.claims
+          = ap (λ l. total (λ (e : Ended). times n e.claims) (v.ended ++ l)) added ∙ total_append (λ (e : Ended). times n e.claims) v.ended (new ∷ []) ∙ omega arith in omega arith;
       config = λ config word each. g.config config word each.1;
     }
 
@@ -115,11 +119,21 @@ all_known z count (c ∷ cs) of e =
     let lt = k.1 in
     ((of.0, none_above count c.view.number k.0, grind (arith, nat_tests)), all_known z count cs of.1 o.1)
 
--- callers that were taken in, and that are all, are so once the seat has drawn its ticket
-pub waits_with_all : (m : ℕ) (cs : List Known) (v : View) (t : ℕ) → Gathered m cs v → 1 ≤ m → m ≤ length cs → HasAll m (waiting v t)
-waits_with_all m cs v t g some_caller enough = record { some = some_caller; all = let a = g.count in omega arith; low = g.low; low_ended = g.low_ended; made = g.made; made_ended = g.made_ended }
+-- what they claimed together, where the dial has come to this number
+pub all_claimed : (m : ℕ) (cs : List Known) (v : View) → Gathered m cs v → 1 ≤ m → m ≤ length cs → (id : ℕ) (ws : List ℕ) (xs : List (Option Home)) (dial : ℕ) → Final (Seen Ruled id v) ws xs → get_elem? ws 2 ≡ some dial → AreClaimed dial cs
+all_claimed m cs v g some_caller enough id ws xs dial final found =
+    let s = final.0 in
+    let seen = final.1 in
+    let r = seen.0 in
+    let all : m ≤ callers v = let a = g.count in omega arith in
+    let is : r.now.dial ≡ dial = some-injective r.now.dial dial (sym (ap (λ l. get_elem? l 2) r.words) ∙ ap (λ l. get_elem? l 2) final.2 ∙ found) in
+    let own = claims_all s r id v seen.1 (ap out g.idle) m all (each_append (λ (n : ℕ). n < m) v.number (map (λ (e : Ended). e.number) v.ended) g.low (each_map m v.ended g.low_ended)) some_caller g.made g.made_ended in
+    λ n. sym (g.claims n) ∙ own n ∙ ap (λ d. between 0 n (suc d)) is
 
--- the session that they have out together
-pub kept : (m : ℕ) (cs : List Known) (v : View) (t : ℕ) (seen : List Event) → Gathered m cs v → OwnsAll (waiting v t) seen → IsPrefix v.seen seen
-    → Each (λ (c : Known). IsPrefix c.view.seen seen) cs × ((p : ℕ) → total (λ (c : Known). times p c.view.mine) cs ≡ below p (length seen)) × IsShared cs v.config v.word
-kept m cs v t seen g own begins = (g.begins seen own.1 begins, (λ p. sym (g.mine p) ∙ own.0 p), (λ config word each. g.config config word each))
+-- where none of them has claimed a number, the dial stands at its start
+none_claimed : (n : ℕ) (cs : List Known) → AreUndialled cs → total (λ (c : Known). times n c.view.claims) cs ≡ 0
+none_claimed n [] h = refl
+none_claimed n (c ∷ cs) h = let a : times n c.view.claims ≡ 0 = ap (times n) h.0.1 in let r = none_claimed n cs h.1 in omega arith
+
+pub undialled_all : (dial : ℕ) (cs : List Known) → AreClaimed dial cs → AreUndialled cs → dial ≡ 0
+undialled_all dial cs claims none = let a = claims 1 in let b = none_claimed 1 cs none in omega arith

@@ -17,10 +17,9 @@ use Rattle.session_callers.specs.declared.board.View.{View}
 use Rattle.session_callers.specs.declared.board.Ended.{Ended}
 use Rattle.session_callers.specs.declared.board.Stage.{Stage}
 use Rattle.session_callers.specs.declared.board.Stage.TheVariants.{Idle, Waiting, Served, Holding, Split}
-use Rattle.session_callers.specs.Rule.{total, same, below, between, times, has, draws, out, more, numbered, callers, makes, Now, KnowsAll, InTurn, Ascends, Each, Fits, MaySpend, IsPlaced, words_of, Ruled, Sat, At, ticket_of, in_hand, history, submissions_in, waiting, served, MayGive, given, drew, looked, looked_for_all, HasAll, OwnsAll, took, gave, raised, dialled}
+use Rattle.session_callers.specs.Rule.{total, same, below, between, times, has, draws, out, more, numbered, callers, makes, Now, KnowsAll, InTurn, Ascends, Each, Fits, MaySpend, IsPlaced, words_of, Ruled, Sat, At, ticket_of, in_hand, history, submissions_in, waiting, served, MayGive, given, drew, looked, took, gave, raised, dialled}
 use Rattle.session_callers.proofs.Totals.{total_set, total_at, total_two, total_gap, total_le, prefix_all, prefix_more, prefix_length, times_last, ascends_up, ascends_last, below_up, same_self, each_up, each_counted}
 use Rattle.session_callers.proofs.Counts.{Delta, counted_set, each_set, Later, ended_later, fronts_later, fits_later, makes_up}
-use Rattle.session_callers.proofs.Whole.{owns_history}
 
 abbrev St : Type 0
 St = State (Option Home) View
@@ -148,16 +147,9 @@ draws_next slots id me st idle caller s r deep at fits =
       (t, ap (λ ws. slice_index ws 0) r.words, refl),
     )
 
--- what a look tells a seat, and that the history is its own where it has all callers
-abbrev Looked : At → Sat → ℕ → Sat → Type 0
-Looked st m found m' =
-    (found ≡ ticket_of m.0.stage % 2 ^ 64
-    → (seen : List Event) × (failure : Failure) × (made : ℕ) × IsPrefix m.0.seen seen × (m' ≡ (served m.0 seen failure made, m.1)) × ((k : ℕ) → HasAll k m.0 → OwnsAll m.0 seen))
-    × (found ≢ ticket_of m.0.stage % 2 ^ 64 → m' ≡ m)
-
 -- load serving
-looks_anyhow : (slots id : ℕ) (me : Sat) (st : At) (t : ℕ) → me.0.stage ≡ Waiting t → Allows Ruled slots id me 1 (λ n. n) (Looked st me)
-looks_anyhow slots id me st t is s r deep at fits = dite (ℕ_discrete (slice_index s.words 1) (ticket_of v.stage % 2 ^ 64)) hit miss
+pub looks : (slots id : ℕ) (me : Sat) (st : At) (t : ℕ) → me.0.stage ≡ Waiting t → Allows Ruled slots id me 1 (λ n. n) (looked st me)
+looks slots id me st t is s r deep at fits = dite (ℕ_discrete (slice_index s.words 1) (ticket_of v.stage % 2 ^ 64)) hit miss
   where
     v : View
     v = me.0
@@ -169,7 +161,7 @@ looks_anyhow slots id me st t is s r deep at fits = dite (ℕ_discrete (slice_in
     same_words = ap (λ ws. set ws 1 (slice_index ws 1)) r.words
 
     Goal : Type 0
-    Goal = (w : View) × (a : Act (Option Home)) × Valid s.homes me.1 a × Ruled (stepped s 1 (slice_index s.words 1) id me.1 w a) × Looked st me (slice_index s.words 1) (w, carried_after me.1 a)
+    Goal = (w : View) × (a : Act (Option Home)) × Valid s.homes me.1 a × Ruled (stepped s 1 (slice_index s.words 1) id me.1 w a) × looked st me (slice_index s.words 1) (w, carried_after me.1 a)
 
     hit : slice_index s.words 1 ≡ ticket_of v.stage % 2 ^ 64 → Goal
     hit e =
@@ -216,7 +208,7 @@ looks_anyhow slots id me st t is s r deep at fits = dite (ℕ_discrete (slice_in
               })
               (later_same r.now)
               (λ j u _ e. (r.each j u e).turn),
-          ((λ _. (r.now.log, r.now.mark, r.now.made, mine.seen, refl, owns_history s r id v at (ap out is))), (λ n. absurd (n e))),
+          ((λ _. (r.now.log, r.now.mark, r.now.made, mine.seen, refl)), (λ n. absurd (n e))),
         )
 
     miss : slice_index s.words 1 ≢ ticket_of v.stage % 2 ^ 64 → Goal
@@ -228,18 +220,6 @@ looks_anyhow slots id me st t is s r deep at fits = dite (ℕ_discrete (slice_in
           record { ticket = r.ticket; now = r.now; words = same_words; counted = r.counted; spent = r.spent; place = r.place; each = r.each },
       ((λ e. absurd (n e)), (λ _. refl)),
     )
-
--- by any seat
-pub looks : (slots id : ℕ) (me : Sat) (st : At) (t : ℕ) → me.0.stage ≡ Waiting t → Allows Ruled slots id me 1 (λ n. n) (looked st me)
-looks slots id me st t is s r deep at fits =
-    let l = looks_anyhow slots id me st t is s r deep at fits in
-    (l.0, l.1, l.2, l.3, ((λ e. let hit = l.4.0 e in (hit.0, hit.1, hit.2, hit.3, hit.4)), l.4.1))
-
--- and by one that has all callers
-pub looks_for_all : (slots id : ℕ) (me : Sat) (st : At) (t : ℕ) → me.0.stage ≡ Waiting t → (k : ℕ) → HasAll k me.0 → Allows Ruled slots id me 1 (λ n. n) (looked_for_all st me)
-looks_for_all slots id me st t is k all s r deep at fits =
-    let l = looks_anyhow slots id me st t is s r deep at fits in
-    (l.0, l.1, l.2, l.3, ((λ e. let hit = l.4.0 e in (hit.0, hit.1, hit.2, hit.3, hit.4, hit.5 k all)), l.4.1))
 
 -- exchange out
 pub takes_out : (slots id : ℕ) (me : Sat) (st : At) (t : ℕ) → me.0.stage ≡ Served t → Allows Ruled slots id me 0 (λ n. n) (took st me)
@@ -321,14 +301,17 @@ raises slots id me st t is s r deep at fits =
     later_as n = record { log = prefix_all r.now.log; config = (refl, refl); mark = λ _. refl; made = omega arith; dial = omega arith }
 
 -- compare-exchange of dial
-pub dials : (slots id : ℕ) (me : Sat) (said : Option Home) (g : ℕ) → g + 1 < 2 ^ 64 → (st : At) → st.first ≡ g → st.second ≡ g + 1 → Allows Ruled slots id me 2 (λ n. either (eqb n g) (g + 1) n) (dialled st me)
-dials slots id me said g fits_in st first second s r deep at fits = dite (ℕ_discrete (slice_index s.words 2) g) hit miss
+pub dials : (slots id : ℕ) (me : Sat) (said : Option Home) (g : ℕ) → length me.0.number ≡ 1 → g + 1 < 2 ^ 64 → (st : At) → st.first ≡ g → st.second ≡ g + 1 → Allows Ruled slots id me 2 (λ n. either (eqb n g) (g + 1) n) (dialled st me)
+dials slots id me said g caller fits_in st first second s r deep at fits = dite (ℕ_discrete (slice_index s.words 2) g) hit miss
   where
     v : View
     v = me.0
 
     mine : Fits r.now v
     mine = r.each id v at
+
+    one : length v.number ≡ 1
+    one = caller
 
     found : slice_index s.words 2 ≡ r.now.dial
     found = ap (λ ws. slice_index ws 2) r.words
@@ -375,7 +358,7 @@ dials slots id me said g fits_in st first second s r deep at fits = dite (ℕ_di
               (ap (λ x. set s.words 2 x) new ∙ ap (λ ws. set ws 2 (g + 1)) r.words)
               r.spent
               (λ a. subst (IsPlaced n s.homes) (omega arith) r.place)
-              (record { seen = mine.seen; turn = turns_of (g + 1) w v v.stage refl refl refl refl mine.turn; mine = mine.mine; config = mine.config; failure = mine.failure; made = mine.made; dial = omega arith; caller = mine.caller; single = mine.single; ended = ended_later r.now n later v.ended mine.ended; nothing = mine.nothing; fronts = mine.fronts })
+              (record { seen = mine.seen; turn = turns_of (g + 1) w v v.stage refl refl refl refl mine.turn; mine = mine.mine; config = mine.config; failure = mine.failure; made = mine.made; dial = omega arith; caller = mine.caller; single = mine.single; ended = ended_later r.now n later v.ended mine.ended; nothing = λ e. absurd (let none : length v.number ≡ 0 = e in omega (arith, none, one)); fronts = mine.fronts })
               later
               (λ j u _ e. turns (g + 1) u u.stage (r.each j u e).turn),
           ((λ _. refl), (λ other. absurd (other (e ∙ sym first))), (let a = mine.dial in let b = found in omega arith)),

@@ -134,7 +134,7 @@ joins id v other w k v_idle w_idle caller one s r at apart there =
       spent = r.spent;
       place = subst (IsPlaced r.now s.homes) (let a = sum (λ (v : View). out v.stage) in let b : out w.stage ≡ 0 = ap out w_idle in omega arith) r.place;
       each = each_set (Fits r.now) (set s.views id x) other nobody
-          (record { seen = (r.now.log, refl); turn = tt; mine = zero-le; config = λ one. absurd (omega arith); failure = λ n. absurd (n refl); made = zero-le; dial = zero-le; caller = zero-le; single = zero-le; ended = tt; nothing = λ _. (refl, refl); fronts = tt })
+          (record { seen = (r.now.log, refl); turn = tt; mine = zero-le; config = λ one. absurd (omega arith); failure = λ n. absurd (n refl); made = zero-le; dial = zero-le; caller = zero-le; single = zero-le; ended = tt; nothing = λ _. (refl, refl, refl); fronts = tt })
           (λ j u _ e. each_set (Fits r.now) s.views id x
           (record {
             seen = longer_prefix v.seen w.seen r.now.log mine.seen theirs.seen;

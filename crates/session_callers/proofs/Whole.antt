@@ -12,8 +12,8 @@ use Rattle.session_callers.specs.declared.board.View.{View}
 use Rattle.session_callers.specs.declared.board.Ended.{Ended}
 use Rattle.session_callers.specs.declared.board.Stage.{Stage}
 use Rattle.session_callers.specs.declared.board.Stage.TheVariants.{Idle, Waiting, Served, Holding, Split}
-use Rattle.session_callers.specs.Rule.{MaySpend, total, same, below, between, times, draws, out, more, numbered, callers, owns, makes, InTurn, Each, HasAll, OwnsAll, Ruled}
-use Rattle.session_callers.proofs.Totals.{each_append, total_at, total_two, total_le, total_append, below_up, same_self}
+use Rattle.session_callers.specs.Rule.{MaySpend, total, same, below, between, times, draws, out, more, numbered, callers, owns, claimed, makes, InTurn, Each, Ruled}
+use Rattle.session_callers.proofs.Totals.{each_counted, total_at, total_two, total_le, total_append, below_up, same_self}
 
 -- f of each number below b, added up
 abbrev upto : (ℕ → ℕ) → ℕ → ℕ
@@ -172,20 +172,34 @@ module _ (s : State (Option Home) View) (r : Ruled s) (id : ℕ) (v : View) (at 
   none_more : total (λ (v : View). more v.stage) s.views ≡ 0
   none_more = let a = total_le (λ (v : View). more v.stage) (λ (v : View). out v.stage) s.views (λ j u e. more_out u.stage) in let b = total_none (λ (v : View). out v.stage) s.views none_out in omega arith
 
-  owns_none : (p j : ℕ) (u : View) → j ≢ id → get_elem? s.views j ≡ some u → owns p u ≡ 0
-  owns_none p j u apart e = go u.number refl
+  -- another seat has no caller
+  no_caller : (j : ℕ) (u : View) → j ≢ id → get_elem? s.views j ≡ some u → length u.number ≡ 0
+  no_caller j u apart e = go u.number refl
     where
-      go : (ns : List ℕ) → u.number ≡ ns → owns p u ≡ 0
-      go [] is = let n = (r.each j u e).nothing (ap length is) in let a : times p u.mine ≡ 0 = ap (times p) n.0 in let b : total (λ (e : Ended). times p e.mine) u.ended ≡ 0 = ap (total (λ (e : Ended). times p e.mine)) n.1 in omega arith
+      go : (ns : List ℕ) → u.number ≡ ns → length u.number ≡ 0
+      go [] is = ap length is
       go (n ∷ ns) is =
           let d : times n u.number ≡ same n n + times n ns = ap (times n) is in let f = same_self n in
           let a = r.counted.numbers n in let b = total_at (numbered n) s.views j u e in let c = made_most in let g = none_more in
           let h : below n (r.now.made + total (λ (v : View). more v.stage) s.views) ≡ below n (r.now.made + 0) = ap (λ k. below n (r.now.made + k)) g in
           let i = other_has_none j u apart e n (omega arith) in absurd (omega arith)
 
-  -- each position of the history is its own, which begins with all that was seen
-  pub owns_all : OwnsAll v r.now.log
-  owns_all = ((λ p. sym (total_only (owns p) s.views id v at (owns_none p)) ∙ r.counted.positions p), (r.each id v at).fronts)
+  owns_none : (p j : ℕ) (u : View) → j ≢ id → get_elem? s.views j ≡ some u → owns p u ≡ 0
+  owns_none p j u apart e =
+      let n = (r.each j u e).nothing (no_caller j u apart e) in
+      let a : times p u.mine ≡ 0 = ap (times p) n.0 in
+      let b : total (λ (e : Ended). times p e.mine) u.ended ≡ 0 = ap (total (λ (e : Ended). times p e.mine)) n.1 in omega arith
+
+  claims_none : (g j : ℕ) (u : View) → j ≢ id → get_elem? s.views j ≡ some u → claimed g u ≡ 0
+  claims_none g j u apart e =
+      let n = (r.each j u e).nothing (no_caller j u apart e) in
+      let a : times g u.claims ≡ 0 = ap (times g) n.2 in
+      let b : total (λ (e : Ended). times g e.claims) u.ended ≡ 0 = ap (total (λ (e : Ended). times g e.claims)) n.1 in omega arith
+
+  -- each number of the dial is its own
+  pub claims_all : (n : ℕ) → claimed n v ≡ between 0 n (suc r.now.dial)
+  claims_all zero = let a = total_only (claimed 0) s.views id v at (claims_none 0) in let b = r.counted.no_claim in omega arith
+  claims_all (suc g) = let a = total_only (claimed (suc g)) s.views id v at (claims_none (suc g)) in let b = r.counted.claims g in omega arith
 
   pub closes : (h : Home) × (s.homes ≡ some (Some h) ∷ []) × IsPrefix v.seen h.session.events × Each (λ (x : List Event). IsPrefix x h.session.events) v.fronts × ((p : ℕ) → owns p v ≡ below p (length h.session.events))
       × (1 ≤ length v.number → (h.session.config ≡ v.config) × (h.session.word ≡ v.word)) × MaySpend h.session.config h.session.word h.session.events h.session.failure
@@ -205,6 +219,15 @@ module _ (s : State (Option Home) View) (r : Ruled s) (id : ℕ) (v : View) (at 
       h_events : Home → List Event
       h_events h = h.session.events
 
--- a view that has all callers owns each position
-pub owns_history : (s : State (Option Home) View) (r : Ruled s) (id : ℕ) (v : View) → get_elem? s.views id ≡ some v → out v.stage ≡ 0 → (m : ℕ) → HasAll m v → OwnsAll v r.now.log
-owns_history s r id v at home m h = owns_all s r id v at home m h.all (each_append (λ (n : ℕ). n < m) v.number (map (λ (e : Ended). e.number) v.ended) h.low (each_map m v.ended h.low_ended)) h.some h.made h.made_ended
+upto_alike : (f g : ℕ → ℕ) (b : ℕ) → ((n : ℕ) → f n ≡ g n) → upto f b ≡ upto g b
+upto_alike f g zero h = refl
+upto_alike f g (suc b) h = let r = upto_alike f g b h in let a = h b in omega arith
+
+upto_below : (b c : ℕ) → c ≤ b → upto (λ n. below n b) c ≡ c
+upto_below b zero le = refl
+upto_below b (suc c) le = let r = upto_below b c (omega arith) in omega arith
+
+-- of numbers that are those below a bound, each once, there are as many
+pub length_counted : (xs : List ℕ) (b : ℕ) → ((n : ℕ) → times n xs ≡ below n b) → length xs ≡ b
+length_counted xs b once =
+    sym (upto_times xs b (each_counted xs b (λ n. let a = once n in omega arith))) ∙ upto_alike (λ n. times n xs) (λ n. below n b) b once ∙ upto_below b b (omega arith)

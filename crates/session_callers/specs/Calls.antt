@@ -4,7 +4,7 @@ use Rattle.driver_model.specs.declared.config.Config.{Config}
 use Rattle.driver_model.specs.declared.event.Event.{Event}
 use Rattle.driver_model.specs.declared.event.EventKind.TheVariants.{Submit}
 use Rattle.driver_model.specs.declared.event.Submission.{Submission}
-use Rattle.session_callers.specs.Rule.{newcomer, MaySpend, Each, total, times, owns, callers, history, submissions_in}
+use Rattle.session_callers.specs.Rule.{newcomer, MaySpend, Each, total, times, owns, claimed, callers, history, submissions_in}
 use Rattle.session_callers.specs.declared.board.Ended.{Ended}
 use mathlib.Core.List.{IsPrefix}
 use Rattle.atomic_table.specs.Seated.{TableId}
@@ -39,6 +39,11 @@ IsIdle s = (s.me.0.stage ≡ Idle) × (s.me.1 ≡ []) × (length s.me.0.number �
 pub record Known : Type 0 where
   pub table : TableId
   pub view : View
+
+-- what is left of all callers is seen as: the table that was theirs, and the greatest number of its dial that was claimed
+pub record Kept : Type 0 where
+  pub table : TableId
+  pub dial : ℕ
 
 -- the view after a turn: the history then seen begins with what was seen, and one ticket was drawn
 pub record Turned (v w : View) : Type 0 where
@@ -133,4 +138,5 @@ pub record Gathered (m : ℕ) (cs : List Known) (w : View) : Type 0 where
   pub made_ended : Each (λ (e : Ended). e.made ≤ m) w.ended
   pub begins : (log : List Event) → Each (λ (x : List Event). IsPrefix x log) w.fronts → IsPrefix w.seen log → Each (λ (c : Known). IsPrefix c.view.seen log) cs
   pub mine : (p : ℕ) → owns p w ≡ total (λ (c : Known). times p c.view.mine) cs
+  pub claims : (n : ℕ) → claimed n w ≡ total (λ (c : Known). times n c.view.claims) cs
   pub config : (config : Config) (word : ℕ) → Each (λ (c : Known). (c.view.config ≡ config) × (c.view.word ≡ word)) cs → (w.config ≡ config) × (w.word ≡ word)

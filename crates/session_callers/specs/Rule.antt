@@ -138,7 +138,7 @@ pub record Fits (now : Now) (v : View) : Type 0 where
   pub caller : draws v.stage ≤ length v.number
   pub single : length v.number ≤ 1
   pub ended : Each (FitsEnded now) v.ended
-  pub nothing : length v.number ≡ 0 → (v.mine ≡ []) × (v.ended ≡ [])
+  pub nothing : length v.number ≡ 0 → (v.mine ≡ []) × (v.ended ≡ []) × (v.claims ≡ [])
   pub fronts : Each (λ (xs : List Event). IsPrefix xs now.log) v.fronts
 
 -- behind this history the step of some event that isn't bad would be spent
@@ -253,26 +253,6 @@ drew st m found m' = (t : ℕ) × (found ≡ t % 2 ^ 64) × (m' ≡ (waiting m.0
 abbrev pub looked : At → Sat → ℕ → Sat → Type 0
 looked st m found m' =
     (found ≡ ticket_of m.0.stage % 2 ^ 64 → (seen : List Event) × (failure : Failure) × (made : ℕ) × IsPrefix m.0.seen seen × (m' ≡ (served m.0 seen failure made, m.1)))
-    × (found ≢ ticket_of m.0.stage % 2 ^ 64 → m' ≡ m)
-
--- a view has all callers: they are so many, with numbers below that, and none of them has seen more
-pub record HasAll (m : ℕ) (v : View) : Type 0 where
-  pub some : 1 ≤ m
-  pub all : m ≤ callers v
-  pub low : Each (λ (n : ℕ). n < m) v.number
-  pub low_ended : Each (λ (e : Ended). e.number < m) v.ended
-  pub made : v.made ≤ m
-  pub made_ended : Each (λ (e : Ended). e.made ≤ m) v.ended
-
--- each place of the history is the view's own, which begins with all that it and those had seen that were joined into it
-abbrev pub OwnsAll : View → List Event → Type 0
-OwnsAll v seen = ((p : ℕ) → owns p v ≡ below p (length seen)) × Each (λ (xs : List Event). IsPrefix xs seen) v.fronts
-
--- the same of a view that has all callers: the history is its own
-abbrev pub looked_for_all : At → Sat → ℕ → Sat → Type 0
-looked_for_all st m found m' =
-    (found ≡ ticket_of m.0.stage % 2 ^ 64
-    → (seen : List Event) × (failure : Failure) × (made : ℕ) × IsPrefix m.0.seen seen × (m' ≡ (served m.0 seen failure made, m.1)) × OwnsAll m.0 seen)
     × (found ≢ ticket_of m.0.stage % 2 ^ 64 → m' ≡ m)
 
 -- the session that a seat knows

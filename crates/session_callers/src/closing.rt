@@ -1,14 +1,17 @@
-ghost use Rattle.std.specs.Prelude.{◌≡◌, ℕ, ◌≤◌, [], IfOk, IfErr, OnOk, length, false, max};
+ghost use Rattle.std.specs.Prelude.{◌≡◌, ℕ, ◌≤◌, [], IfOk, IfErr, OnOk, length, false};
 ghost use mathlib.Core.List.{IsPrefix};
 ghost use Rattle.session_callers.specs.Rule.{Each, MaySpend, total, times, below};
 ghost use Rattle.session_callers.specs.Calls.{IsOf};
+ghost use Rattle.session_callers.specs.Claims.{AreClaimed};
 ghost use Rattle.session_callers.specs.Closes.{knows_more, do_know_more, AreUndialled, IsGathered, IsMissing, IsShared};
 
 use crate::board::{Board, Home, Place};
 use crate::caller::Caller;
+use crate::keeping::Keeper;
 use crate::session::SharedSession;
 use crate::steps::merge;
 use shared_session::Session;
+use std::snapshot::Snapshot;
 
 /// Why a session was not closed.
 #[derive(Drop)]
@@ -28,7 +31,7 @@ fn knows_more(caller: &Caller, count: u64) -> bool
 }
 
 /// Whether one of these callers shows that more than so many were made.
-pub(crate) fn do_know_more(mut callers: &[Caller], count: u64) -> bool
+fn do_know_more(mut callers: &[Caller], count: u64) -> bool
     ensures { result ≡ do_know_more count callers.entry.now }
 {
     while let [caller, rest @ ..] = callers {
@@ -40,28 +43,17 @@ pub(crate) fn do_know_more(mut callers: &[Caller], count: u64) -> bool
     false
 }
 
-/// The greater of two numbers.
-fn greater(one: u64, other: u64) -> u64
-    ensures { result ≡ max one other }
-{
-    one.max(other)
-}
-
-/// The seats of callers as one, and the greatest number of the dial that it has read. They are all that were made: `made` is
-/// above their numbers, none of them saw more callers than that, and they are so many.
-pub(crate) fn gather(board: &Board, mut callers: Vec<Caller>, made: u64) -> (Place, u64)
+/// The seats of callers as one. They are all that were made: `made` is above their numbers, none of them saw more callers than
+/// that, and they are so many.
+fn gather(board: &Board, mut callers: Vec<Caller>, made: u64) -> Place
     requires sized { (board.now.table_id.words ≡ 3) × (board.now.table_id.slots ≡ 1) }
     requires of { Each (IsOf board.now.table_id made) callers.items }
     requires all { (1 ≤ made) × (made ≤ length callers.items) }
-    ensures gathered { IsGathered board.now.table_id made callers.items result.0 }
-    ensures dial { result.1 ≡ result.0.me.0.dial }
-    ensures undialled { AreUndialled callers.items
-        → (result.0.me.0.dial ≡ 0) × (result.0.me.0.claims ≡ []) }
+    ensures { IsGathered board.now.table_id made callers.items result }
 {
     let Some(last) = callers.pop() else {
         unreachable!()
     };
-    let mut dial = last.generation();
     let Caller {
         seat,
         front: _,
@@ -71,29 +63,31 @@ pub(crate) fn gather(board: &Board, mut callers: Vec<Caller>, made: u64) -> (Pla
     } = last;
     let mut seat = seat;
     while let Some(next) = callers.pop() {
-        let read = next.generation();
-        dial = greater(dial, read);
         merge(board, &mut seat, next);
     }
-    (seat, dial)
+    seat
 }
 
 impl SharedSession {
     /// Ends the sharing, where these callers are all that were made: `made` is above their numbers, none of them saw
     /// more callers than that, and they are so many.
-    fn close_all(self, callers: Vec<Caller>, made: u64) -> Session
+    fn close_all(self, callers: Vec<Caller>, made: u64) -> (Session, Keeper)
         requires of { Each (IsOf self.table.shared.table_id made) callers.items }
         requires all { (1 ≤ made) × (made ≤ length callers.items) }
-        ensures begins { Each (λ caller. IsPrefix caller.view.seen result.events) callers.items }
+        ensures begins { Each (λ caller. IsPrefix caller.view.seen result.0.events) callers.items }
         ensures mine { (p : ℕ) →
             total (λ caller. times p caller.view.mine) callers.items
-            ≡ below p (length result.events) }
-        ensures shared { IsShared callers.items result.config result.word }
-        ensures spent { MaySpend result.config result.word result.events result.failure }
+            ≡ below p (length result.0.events) }
+        ensures shared { IsShared callers.items result.0.config result.0.word }
+        ensures spent { MaySpend result.0.config result.0.word result.0.events result.0.failure }
+        ensures table { result.1.table ≡ self.table.shared.table_id }
+        ensures claims { AreClaimed result.1.dial callers.items }
     {
-        let (seat, _) = gather(&self.table.shared, callers, made);
+        let seat = gather(&self.table.shared, callers, made);
+        let place = Snapshot::of(&seat);
         let SharedSession { table } = self;
         let mut closed = table.close_with(seat);
+        let generation = closed.word(2);
         let home = closed.take(0);
         closed.free();
         match home {
@@ -103,15 +97,50 @@ impl SharedSession {
                     made: _,
                     submissions: _,
                 },
-            ) => session,
+            ) => (session, Keeper { place, generation }),
             None => unreachable!(),
         }
     }
 
-    /// Ends the sharing, and answers the session. Its history begins with what each of the callers had seen, and each
-    /// place of it is one caller's own. It has the configuration and the word that they know, and its numbers have run out
-    /// only where the step of some event would be spent. `Missing` comes exactly where fewer callers were handed in than were
-    /// made.
+    /// Ends the sharing, and answers the session and what is left of the callers. The history of the session begins with what
+    /// each of the callers had seen, and each place of it is one caller's own. It has the configuration and the word that they
+    /// know, and its numbers have run out only where the step of some event would be spent. Just one of the callers has claimed
+    /// each number of the dial up to that which the keeper knows, and none of them any other. `Missing` comes exactly where
+    /// fewer callers were handed in than were made. Waits for nobody.
+    pub fn keep(self, callers: Vec<Caller>) -> Result<(Session, Keeper), CloseError>
+        requires { Each (λ caller. caller.table ≡ self.table.shared.table_id) callers.items }
+        ensures begins { IfOk result (λ kept.
+            Each (λ caller. IsPrefix caller.view.seen kept.0.events) callers.items
+            ) }
+        ensures mine { IfOk result (λ kept.
+            (p : ℕ) → total (λ caller. times p caller.view.mine) callers.items
+            ≡ below p (length kept.0.events)
+            ) }
+        ensures shared { IfOk result (λ kept.
+            IsShared callers.items kept.0.config kept.0.word
+            ) }
+        ensures spent { IfOk result (λ kept.
+            MaySpend kept.0.config kept.0.word kept.0.events kept.0.failure
+            ) }
+        ensures all { OnOk result (
+            do_know_more (length callers.items) callers.items ≡ false
+            ) }
+        ensures table { IfOk result (λ kept. kept.1.table ≡ self.table.shared.table_id) }
+        ensures claims { IfOk result (λ kept. AreClaimed kept.1.dial callers.items) }
+        ensures undialled { IfOk result (λ kept. AreUndialled callers.items → kept.1.dial ≡ 0) }
+        ensures missing { IfErr result (λ error. IsMissing error self callers.items) }
+    {
+        let count = callers.len() as u64;
+        if count == 0 || do_know_more(callers.as_slice(), count) {
+            return Err(CloseError::Missing {
+                shared: self,
+                callers,
+            });
+        }
+        Ok(self.close_all(callers, count))
+    }
+
+    /// Ends the sharing as `keep` does, and answers the session alone.
     pub fn close(self, callers: Vec<Caller>) -> Result<Session, CloseError>
         requires { Each (λ caller. caller.table ≡ self.table.shared.table_id) callers.items }
         ensures begins { IfOk result (λ session.
@@ -130,15 +159,15 @@ impl SharedSession {
         ensures all { OnOk result (
             do_know_more (length callers.items) callers.items ≡ false
             ) }
+        ensures claims { OnOk result ((dial : ℕ) × AreClaimed dial callers.items) }
         ensures missing { IfErr result (λ error. IsMissing error self callers.items) }
     {
-        let count = callers.len() as u64;
-        if count == 0 || do_know_more(callers.as_slice(), count) {
-            return Err(CloseError::Missing {
-                shared: self,
-                callers,
-            });
+        match self.keep(callers) {
+            Ok((session, keeper)) => {
+                drop(keeper);
+                Ok(session)
+            }
+            Err(error) => Err(error),
         }
-        Ok(self.close_all(callers, count))
     }
 }

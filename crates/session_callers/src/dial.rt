@@ -1,9 +1,14 @@
 //! Claims of the dial.
 ghost use Rattle.std.specs.Prelude.{◌≡◌};
 
-/// The right to dial, which one caller has for each number. It must be spent.
+use crate::board::Place;
+use std::snapshot::Snapshot;
+
+/// The right to dial, which one caller of a table has for each number. It must be spent.
 pub struct Dial {
     pub(crate) number: u64,
+    /// A seat of the table, as it was once.
+    pub(crate) seat: Snapshot<Snapshot<Place>>,
 }
 
 impl Dial {
@@ -11,7 +16,8 @@ impl Dial {
     pub fn spend(self) -> u64
         ensures { result ≡ self.number }
     {
-        let Dial { number } = self;
+        let Dial { number, seat } = self;
+        drop(seat);
         number
     }
 }

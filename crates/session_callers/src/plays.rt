@@ -18,14 +18,6 @@ impl Play<Option<Home>, View> for Look {
     ghost then = { looked };
 }
 
-pub struct LookForAll;
-
-impl Play<Option<Home>, View> for LookForAll {
-    ghost use Rattle.session_callers.specs.Rule.{looked_for_all};
-
-    ghost then = { looked_for_all };
-}
-
 pub struct Take;
 
 impl Play<Option<Home>, View> for Take {

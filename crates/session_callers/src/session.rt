@@ -6,7 +6,7 @@ ghost use Rattle.shared_session.specs.Replay.{IsSound};
 ghost use Rattle.shared_session.specs.declared.session.Failure.TheVariants.{Sound};
 ghost use Rattle.session_callers.specs.Rule.{history, newcomer};
 ghost use Rattle.session_callers.specs.Calls.{Turned, Added, Refused, RefusedInTurn, submission_event, joined_by, with_claim};
-ghost use Rattle.session_callers.specs.Claims.{MatchClaim};
+ghost use Rattle.session_callers.specs.Claims.{IsDialOf, MatchClaim};
 ghost use Rattle.session_callers.specs.Sends.{outcome_seen};
 
 use crate::board::{Home, Origin, Turns, View};
@@ -21,6 +21,7 @@ use driver_model::{Action, Config, Event, EventKind, Outcome, Submission};
 use redis_error::ConfigName;
 use shared_session::{MakeError, Session, StepError};
 use std::alloc::{AllocError, Global};
+use std::snapshot::Snapshot;
 use std::sync::Wait;
 
 /// Why no caller was made.
@@ -293,13 +294,19 @@ impl SharedSession {
         requires known { (g ≤ caller.old.view.dial) × (g + 1 < 2 ^ 64) }
         ensures table { caller.new.table ≡ caller.old.table }
         ensures claimed { MatchClaim result
-            (λ n. (n ≡ g + 1) × (caller.new.view ≡ with_claim caller.old.view n))
+            (λ dial. IsDialOf caller.old.table (g + 1) dial
+            × (caller.new.view ≡ with_claim caller.old.view (g + 1)))
             (λ n. (g < n) × (caller.new.view ≡ record caller.old.view { dial = n })) }
     {
         let found = dial(&self.table.shared, &mut caller.seat, g);
         if found == g {
             caller.generation = g + 1;
-            Claim::Claimed(Dial { number: g + 1 })
+            let place = Snapshot::of(&caller.seat);
+            let seat = Snapshot::of(&place);
+            Claim::Claimed(Dial {
+                number: g + 1,
+                seat,
+            })
         } else {
             caller.generation = found;
             Claim::Newer(found)

@@ -4,12 +4,12 @@ ghost use mathlib.Core.List.{IsPrefix};
 ghost use mathlib.Core.Option.{none};
 ghost use Rattle.atomic_table.specs.Table.{step};
 ghost use Rattle.session_callers.specs.declared.board.Stage.TheVariants.{Idle, Waiting, Served, Holding, Split};
-ghost use Rattle.session_callers.specs.Rule.{history, submissions_in, MayGive, MaySpend, dialled, ticket_of, waiting, served, given, joined, left_of, right_of, HasAll, OwnsAll};
+ghost use Rattle.session_callers.specs.Rule.{history, submissions_in, MayGive, MaySpend, dialled, ticket_of, waiting, served, given, joined, left_of, right_of};
 ghost use Rattle.session_callers.specs.Calls.{IsAt, IsSame};
 
 use crate::board::{Board, Home, Place};
 use crate::caller::Caller;
-use crate::plays::{Dialled, Draw, Ends, Give, Look, LookForAll, Made, Raise, Take};
+use crate::plays::{Dialled, Draw, Ends, Give, Look, Made, Raise, Take};
 use std::sync::Wait;
 use std::thread;
 
@@ -34,25 +34,6 @@ pub fn wait<R: Wait>(rt: &R, board: &Board, seat: &mut Place, ticket: u64)
 {
     for _ in rt.forever() {
         if board.load::<Look>(seat, 1) == ticket {
-            return;
-        }
-        thread::yield_now();
-    }
-    unreachable!()
-}
-
-// The same of a seat that has all callers: each place of the history then seen is its own.
-pub fn wait_for_all<R: Wait>(rt: &R, board: &Board, seat: &mut Place, ticket: u64, made: u64)
-    requires at { IsAt board.now.table_id seat.old }
-    requires drew { (t : ℕ) × (ticket ≡ t % 2 ^ 64) × (seat.old.me.0.stage ≡ Waiting t) }
-    requires all { HasAll made seat.old.me.0 }
-    ensures same { IsSame seat.old seat.new }
-    ensures served { (seen : _) × (failure : _) × (made : ℕ) × IsPrefix seat.old.me.0.seen seen
-        × (seat.new.me ≡ (served seat.old.me.0 seen failure made, seat.old.me.1))
-        × OwnsAll seat.old.me.0 seen }
-{
-    for _ in rt.forever() {
-        if board.load::<LookForAll>(seat, 1) == ticket {
             return;
         }
         thread::yield_now();
@@ -139,6 +120,7 @@ pub fn split(board: &Board, seat: &mut Place) -> Place
 // Reads the dial, and claims the next number where it is g.
 pub fn dial(board: &Board, seat: &mut Place, g: u64) -> u64
     requires at { IsAt board.now.table_id seat.old }
+    requires caller { length seat.old.me.0.number ≡ 1 }
     requires room { g + 1 < 2 ^ 64 }
     ensures same { IsSame seat.old seat.new }
     ensures dialled { dialled (step 1 2 g (g + 1) none) seat.old.me result seat.new.me }

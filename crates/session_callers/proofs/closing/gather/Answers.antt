@@ -1,7 +1,6 @@
-use Rattle.std.proofs.Common.{rules, sym, ap, ◌∙◌, subst, ◌≡◌, ◌++◌, [], ◌∷◌, max}
+use Rattle.std.proofs.Common.{rules, sym, ap, ◌∙◌, subst, ◌≡◌, ◌++◌, [], ◌∷◌}
 use Rattle.std.proofs.lemmas.List.{append_assoc}
 use Rattle.session_callers.specs.Calls.{IsOf, Gathered}
-use Rattle.session_callers.specs.Closes.{IsUndialled}
 use Rattle.session_callers.specs.Rule.{Each}
 use Rattle.session_callers.proofs.Gathering.{gathers_more, each_split}
 use Rattle.session_callers.proofs.closing.gather.Goals as goal
@@ -23,16 +22,11 @@ loop-next-preserved c =
         subst (λ v. Gathered c.args.made (next ∷ i.2.0) v) (sym (ap (λ x. x.0) m.joined)) (gathers_more c.args.board.now.table_id c.args.made i.2.0 c.loop-next.seat.me.0 next o.0.0 i.2.2 each.1 o.0.1 o.1),
       ),
       each.0,
-      c.greater-dial.ensures ∙ ap (λ n. max c.loop-next.dial n) c.generation-read.ensures ∙ ap (λ n. max n next.view.dial) i.4 ∙ sym (ap (λ x. x.0.dial) m.joined),
-      (λ undialled.
-          let u = i.5 undialled in
-          let both = each_split IsUndialled left next (subst (λ l. Each IsUndialled l) divided u.0) in
-          (both.0, ap (λ x. x.0.dial) m.joined ∙ ap (λ n. max n next.view.dial) u.1 ∙ ap (λ n. max 0 n) both.1.0, ap (λ x. x.0.claims) m.joined ∙ u.2)),
     )
 
 -- the callers that were taken in are all
-pub returns-clause-gathered : goal.returns-clause-gathered
-returns-clause-gathered c =
+pub returns : goal.returns
+returns c =
     let i = c.loop-next.invariant in
     let none_left : c.loop-next.callers.items ≡ [] = search rules in
     let all : i.2.0 ≡ c.args.callers.items = ap (λ l. l ++ i.2.0) (sym none_left) ∙ i.2.1 in

@@ -1,9 +1,0 @@
-use Rattle.std.proofs.Common.{rules, ◌≡◌, false}
-use Rattle.session_callers.specs.Closes.{do_know_more}
-use Rattle.session_callers.proofs.Gathering.{all_known}
-use Rattle.session_callers.proofs.session.SharedSession.close.Goals as goal
-
-pub close_all-requires-clause-of : goal.close_all-requires-clause-of
-close_all-requires-clause-of c =
-    let none : do_know_more c.len-count.result c.args.callers.items ≡ false = search rules in
-    all_known c.args.self.table.shared.table_id c.len-count.result c.args.callers.items c.requires none
