@@ -1,5 +1,5 @@
 -- Which links are dialled, deed by deed.
-use Rattle.std.proofs.Common.{◌≡◌, ◌⊎◌, inl, inr, ℕ, ◌==◌, false, List, [], ◌∷◌, ◌++◌, None, append_assoc, refl, sym, ap, ◌∙◌, subst}
+use Rattle.std.proofs.Common.{arith, ◌≡◌, ◌⊎◌, inl, inr, ℕ, ◌==◌, false, List, [], ◌∷◌, ◌++◌, None, append_assoc, refl, sym, ap, ◌∙◌, subst}
 use Rattle.std.proofs.lemmas.List.{append-nil}
 use Rattle.containers.proofs.Choices.{chosen, not_both}
 use Rattle.driver_model.specs.declared.action.Action.{Action}
@@ -16,7 +16,7 @@ use Rattle.legal_trace.proofs.Plain.{not_none}
 use Rattle.shared_session.specs.declared.core_state.Core.{Core}
 use Rattle.shared_session.specs.Replay.{state_after, turns_on}
 use Rattle.live_run.specs.Agenda.{agenda_of, answered, begun, behind, noted, noted_each, removed, stands, undialled, without}
-use Rattle.live_run.specs.Deeds.{AllMay, AreShown, Deed, IsFirstOf, May, MayCall, did, fired, actions_in, actions_of, after, answer_of, asked, calls_in, calls_of, events_of}
+use Rattle.live_run.specs.Deeds.{AllMay, AreShown, Deed, IsFirstOf, May, MayCall, did, fired, claim, actions_in, actions_of, after, answer_of, asked, calls_in, calls_of, events_of}
 use Rattle.live_run.proofs.Shown.{turns_gained}
 use Rattle.live_laws.specs.Dials.{IsPicked, connects_by, connects_in, dials_by, dials_in}
 use Rattle.live_laws.proofs.Agendas.{Agenda, Target}
@@ -97,8 +97,8 @@ same_dials : (done : List ℕ) (a : Agenda) (asks : List ℕ) → a.early ≡ []
 same_dials done a asks early h = record { early = early; picks = subst (λ (xs : List ℕ). Picks xs a.dials asks) (sym (append-nil done)) h }
 
 call_dials : (a : Agenda) (done asks : List ℕ) (c : Call) → MayCall a c → Dials done a asks → Dials (done ++ dials_by c) (answered a c) asks
-call_dials a done asks (call.Dial l host port dialed.Yes) may h = record { early = h.early; picks = first_dialled done a.dials l host port asks may h.picks }
-call_dials a done asks (call.Dial l host port (dialed.Failed fault)) may h = record { early = h.early; picks = first_dialled done a.dials l host port asks may h.picks }
+call_dials a done asks (call.Dial l host port dialed.Yes) may h = record { early = h.early; picks = first_dialled done a.dials l host port asks may.0 h.picks }
+call_dials a done asks (call.Dial l host port (dialed.Failed fault)) may h = record { early = h.early; picks = first_dialled done a.dials l host port asks may.0 h.picks }
 call_dials a done asks (call.Read l room (got.Read k) piece) may h = same_dials done a asks h.early h.picks
 call_dials a done asks (call.Read l room got.NotYet piece) may h = same_dials done a asks h.early h.picks
 call_dials a done asks (call.Read l room got.Ended piece) may h = same_dials done (record a { links = without l a.links }) asks h.early h.picks
@@ -127,6 +127,7 @@ deed_dials (did c word actions) a done asks may h =
     (noted_dials (answered a c) actions (done ++ dials_by c) asks (call_dials a done asks c may h))
 deed_dials (fired timer word actions) a done asks may h =
     noted_dials (record a { timers = behind a.timers }) actions (done ++ []) asks (same_dials done (record a { timers = behind a.timers }) asks h.early h.picks)
+deed_dials (claim number) a done asks may h = noted_dials (record a { claimed = number }) [] (done ++ []) asks (same_dials done (record a { claimed = number }) asks h.early h.picks)
 
 -- within a pass, or before the first, where nothing was dialled
 abbrev pub Stands : List ℕ → Agenda → List ℕ → Type 0
@@ -139,7 +140,7 @@ begins early moment =
 
 first_deed : (d : Deed) (early : List Action) (core : Core) → May (agenda_of early) d → actions_of d ≡ turns_on core (events_of d)
     → Stands ([] ++ dials_in (calls_of d)) (after (agenda_of early) d) (connects_in early ++ connects_in (actions_of d))
-first_deed (did (call.Dial l host port answer) word actions) early core may is = absurd may
+first_deed (did (call.Dial l host port answer) word actions) early core may is = absurd may.0
 first_deed (did (call.Read l room answer piece) word actions) early core may is = absurd (not_both false refl may.1)
 first_deed (did (call.Write l piece answer) word actions) early core may is = absurd (not_none None piece refl may.1)
 first_deed (did (call.Close l) word actions) early core may is = absurd may
@@ -149,6 +150,7 @@ first_deed (did (call.Word w) word actions) early core may is = absurd may
 first_deed (did (call.Wait ms) word actions) early core may is =
     subst (λ (xs : List Action). Stands [] (noted_each (agenda_of early) xs) (connects_in early ++ connects_in xs)) (sym is) (inr (early, refl, refl, append-nil (connects_in early)))
 first_deed (fired timer word actions) early core may is = absurd (not_none None timer refl may)
+first_deed (claim number) early core may is = absurd (omega (arith, may.0, may.1))
 
 deed_stands : (d : Deed) (a : Agenda) (core : Core) (done asks : List ℕ) → May a d → actions_of d ≡ turns_on core (events_of d) → Stands done a asks → Stands (done ++ dials_in (calls_of d)) (after a d) (asks ++ connects_in (actions_of d))
 deed_stands d a core done asks may is (inl h) = inl (deed_dials d a done asks may h)

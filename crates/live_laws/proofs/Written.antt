@@ -1,5 +1,5 @@
 -- What a link takes, deed by deed.
-use Rattle.std.proofs.Common.{◌≡◌, ◌⊎◌, inl, inr, ℕ, false, List, [], ◌∷◌, ◌++◌, None, refl, sym, ap, ◌∙◌, subst}
+use Rattle.std.proofs.Common.{arith, ◌≡◌, ◌⊎◌, inl, inr, ℕ, false, List, [], ◌∷◌, ◌++◌, None, refl, sym, ap, ◌∙◌, subst}
 use Rattle.std.proofs.lemmas.List.{append-nil}
 use Rattle.containers.proofs.Choices.{not_both}
 use Rattle.driver_model.specs.declared.action.Action.{Action}
@@ -19,7 +19,7 @@ use Rattle.legal_trace.specs.Book.{Book, entered, entered_each}
 use Rattle.legal_trace.specs.Legal.{AllStand}
 use Rattle.legal_trace.proofs.Plain.{not_none}
 use Rattle.live_run.specs.Agenda.{agenda_of, answered, begun, behind, dialled, noted, noted_each, stands, tried, without}
-use Rattle.live_run.specs.Deeds.{Deed, did, fired, answer_of, asked, made, calls_of, events_of, actions_of, after, May, MayCall}
+use Rattle.live_run.specs.Deeds.{Deed, did, fired, claim, answer_of, asked, made, calls_of, events_of, actions_of, after, May, MayCall}
 use Rattle.live_laws.specs.Taken.{IsNoWrote, taken, taken_by}
 use Rattle.live_laws.proofs.Agendas.{Agenda}
 use Rattle.live_run.proofs.Early.{early_each, early_noted, links_none}
@@ -111,6 +111,7 @@ deed_took (did c word actions) b a core n bytes may is stand h =
 deed_took (fired timer word actions) b a core n bytes may is stand h =
     subst (λ (xs : List Action). Told b (record a { timers = behind a.timers }) xs n (bytes ++ [])) (sym is)
     (heard_told b (record a { timers = behind a.timers }) core word (event.Fired timer ∷ []) n (bytes ++ []) (fired_heard a b core.turns word n bytes h timer)) stand
+deed_took (claim number) b a core n bytes may is stand h = record { early = h.early; ties = h.ties; took = h.took ∙ sym (append-nil bytes) }
 
 -- an agenda within a pass, or before the first
 abbrev pub Stands : Book → Agenda → ℕ → List ℕ → Type 0
@@ -128,7 +129,7 @@ begins b early moment n bytes took =
 
 first_deed : (d : Deed) (b : Book) (early : List Action) (core : Core) (n : ℕ) (bytes : List ℕ) → May (agenda_of early) d → actions_of d ≡ turns_on core (events_of d) → taken_of b n ≡ bytes
     → Stands (entered_each b (actions_of d)) (after (agenda_of early) d) n (bytes ++ taken n (calls_of d))
-first_deed (did (call.Dial l host port answer) word actions) b early core n bytes may is h = absurd may
+first_deed (did (call.Dial l host port answer) word actions) b early core n bytes may is h = absurd may.0
 first_deed (did (call.Read l room answer piece) word actions) b early core n bytes may is h = absurd (not_both false refl may.1)
 first_deed (did (call.Write l piece answer) word actions) b early core n bytes may is h = absurd (not_none None piece refl may.1)
 first_deed (did (call.Close l) word actions) b early core n bytes may is h = absurd may
@@ -138,6 +139,7 @@ first_deed (did (call.Word w) word actions) b early core n bytes may is h = absu
 first_deed (did (call.Wait ms) word actions) b early core n bytes may is h =
     subst (λ (xs : List Action). Stands (entered_each b xs) (noted_each (agenda_of early) xs) n (bytes ++ [])) (sym is) (inr (early, refl, h ∙ sym (append-nil bytes)))
 first_deed (fired timer word actions) b early core n bytes may is h = absurd (not_none None timer refl may)
+first_deed (claim number) b early core n bytes may is h = absurd (omega (arith, may.0, may.1))
 
 pub deed_stands : (d : Deed) (b : Book) (a : Agenda) (core : Core) (n : ℕ) (bytes : List ℕ) → May a d → actions_of d ≡ turns_on core (events_of d) → AllStand b (actions_of d) → Stands b a n bytes
     → Stands (entered_each b (actions_of d)) (after a d) n (bytes ++ taken n (calls_of d))

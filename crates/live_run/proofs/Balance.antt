@@ -11,7 +11,7 @@ use Rattle.outside.specs.declared.world.LinkGot.TheVariants as got
 use Rattle.outside.specs.declared.world.LinkPut.TheVariants as put
 use Rattle.live_run.specs.declared.agenda.Agenda.{Agenda}
 use Rattle.live_run.specs.Agenda.{answered, behind, noted, noted_each, removed, stands, to_close, undialled, without}
-use Rattle.live_run.specs.Deeds.{Deed, did, fired, Told, IsFirst, MayCall, May, AllMay, after, after_each}
+use Rattle.live_run.specs.Deeds.{Deed, did, fired, claim, Told, IsFirst, MayCall, May, AllMay, after, after_each}
 use Rattle.live_run.specs.Closing.{times, connected, closed, ups, downs, close_calls}
 use Rattle.live_run.proofs.Searches.{unmoved}
 use Rattle.live_run.proofs.Runs.{told_adds, told_more}
@@ -92,6 +92,7 @@ held_answered n a (call.Wait ms) word actions may = refl
 held_after : (n : ℕ) (a : Agenda) (d : Deed) → May a d → times n (connected d) + held n a ≡ times n (closed d) + held n (after a d)
 held_after n a (did c word actions) may = let e = held_answered n a c word actions may in let f = held_each n (answered a c) actions in omega (arith, e, f)
 held_after n a (fired timer word actions) may = let f = held_each n (record a { timers = behind a.timers }) actions in omega (arith, f)
+held_after n a (claim number) may = refl
 
 -- deeds leave as many links to be closed as they connect and don't close
 pub even_after : (n : ℕ) (a : Agenda) (ds : List Deed) → AllMay a ds → ups n ds + held n a ≡ downs n ds + held n (after_each a ds)

@@ -1,5 +1,5 @@
 -- What was asked before the first pass is known once it is noted, and then all that is asked.
-use Rattle.std.proofs.Common.{◌≡◌, ◌⊎◌, inl, inr, ℕ, false, List, [], ◌∷◌, ◌++◌, None, append_assoc, refl, sym, ap, ◌∙◌, subst}
+use Rattle.std.proofs.Common.{arith, ◌≡◌, ◌⊎◌, inl, inr, ℕ, false, List, [], ◌∷◌, ◌++◌, None, append_assoc, refl, sym, ap, ◌∙◌, subst}
 use Rattle.std.proofs.lemmas.List.{append-nil}
 use Rattle.containers.proofs.Choices.{chosen, not_both}
 use Rattle.driver_model.specs.declared.action.Action.{Action}
@@ -22,7 +22,7 @@ use Rattle.legal_trace.proofs.Books.{book_append, stand_front, stand_behind}
 use Rattle.live_run.specs.Passes.{Each}
 use Rattle.live_run.specs.declared.agenda.Agenda.{Agenda}
 use Rattle.live_run.specs.Agenda.{agenda_of, answered, begun, behind, noted, noted_each, offered, removed, stands, undialled, without}
-use Rattle.live_run.specs.Deeds.{Deed, did, fired, events_of, events_in, actions_of, actions_in, after, after_each, May, AllMay, AreShown}
+use Rattle.live_run.specs.Deeds.{Deed, did, fired, claim, events_of, events_in, actions_of, actions_in, after, after_each, May, AllMay, AreShown}
 use Rattle.live_run.proofs.Shown.{turns_gained}
 use Rattle.live_run.proofs.Standing.{IsKnownLink, Knows, noted_known}
 use Rattle.live_run.proofs.Heard.{deed_known}
@@ -73,6 +73,7 @@ early_answered a (call.Wait ms) none = none
 early_after : (a : Agenda) (d : Deed) → a.early ≡ [] → (after a d).early ≡ []
 early_after a (did c word actions) none = early_each (answered a c) actions ∙ early_answered a c none
 early_after a (fired timer word actions) none = early_each (record a { timers = behind a.timers }) actions ∙ none
+early_after a (claim number) none = none
 
 -- while no link is up
 pub links_none : (a : Agenda) (x : Action) → a.links ≡ [] → (noted a x).links ≡ []
@@ -134,7 +135,7 @@ known_of b a (inr h) = subst (Knows b) (sym h.1) (knows_nothing b h.0)
 
 first_deed : (d : Deed) (b : Book) (early : List Action) (core : Core) → May (agenda_of early) d → actions_of d ≡ turns_on core (events_of d) → ((moment : ℕ) → Knows b (begun (agenda_of early) moment))
     → Stands (entered_each b (actions_of d)) (after (agenda_of early) d)
-first_deed (did (call.Dial l host port answer) word actions) b early core may is h = absurd may
+first_deed (did (call.Dial l host port answer) word actions) b early core may is h = absurd may.0
 first_deed (did (call.Read l room answer bytes) word actions) b early core may is h = absurd (not_both false refl may.1)
 first_deed (did (call.Write l piece answer) word actions) b early core may is h = absurd (not_none None piece refl may.1)
 first_deed (did (call.Close l) word actions) b early core may is h = absurd may
@@ -143,6 +144,7 @@ first_deed (did (call.Now moment) word actions) b early core may is h =
 first_deed (did (call.Word w) word actions) b early core may is h = absurd may
 first_deed (did (call.Wait ms) word actions) b early core may is h = subst (λ (xs : List Action). Stands (entered_each b xs) (noted_each (agenda_of early) xs)) (sym is) (inr (early, refl, h))
 first_deed (fired timer word actions) b early core may is h = absurd (not_none None timer refl may)
+first_deed (claim number) b early core may is h = absurd (omega (arith, may.0, may.1))
 
 deed_stands : (d : Deed) (b : Book) (a : Agenda) (core : Core) → May a d → actions_of d ≡ turns_on core (events_of d) → AllStand b (actions_of d) → Stands b a → Stands (entered_each b (actions_of d)) (after a d)
 deed_stands d b a core may is stand (inl h) = inl (early_after a d h.0, deed_known d b a core h.0 may is stand h.1)

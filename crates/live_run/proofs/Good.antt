@@ -57,8 +57,8 @@ module _ (a : Agenda) (b : Book) (h : Knows b a) where
 
   call_good : (c : Call) → MayCall a c → Each (IsGoodKind b) (answer_of c)
   unfolding is_bad_event
-  call_good (call.Dial l host port dialed.Yes) may = (link_dialled l host port may, tt)
-  call_good (call.Dial l host port (dialed.Failed fault)) may = (link_dialled l host port may, tt)
+  call_good (call.Dial l host port dialed.Yes) may = (link_dialled l host port may.0, tt)
+  call_good (call.Dial l host port (dialed.Failed fault)) may = (link_dialled l host port may.0, tt)
   call_good (call.Read l room (got.Read n) bytes) may = (link_up l room may, tt)
   call_good (call.Read l room got.NotYet bytes) may = tt
   call_good (call.Read l room got.Ended bytes) may = (link_up l room may, tt)

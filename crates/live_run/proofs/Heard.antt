@@ -23,7 +23,7 @@ use Rattle.live_run.specs.declared.agenda.Target.{Target}
 use Rattle.live_run.specs.declared.links.Link.{Link}
 use Rattle.live_run.specs.declared.timers.Pending.{Pending}
 use Rattle.live_run.specs.Agenda.{answered, behind, dialled, noted, noted_each, offered, tried, without}
-use Rattle.live_run.specs.Deeds.{Deed, did, fired, answer_of, made, events_of, actions_of, after, MayCall, May}
+use Rattle.live_run.specs.Deeds.{Deed, did, fired, claim, answer_of, made, events_of, actions_of, after, MayCall, May}
 use Rattle.live_run.proofs.Agendas.{each_behind, each_last, each_offered, each_without, first_dialled, none_offered, single_last, single_offered, single_without}
 use Rattle.live_run.proofs.Hearing.{IsNoTurn, IsNoWrote, turn_grows, turn_of}
 use Rattle.live_run.proofs.Standing.{IsKnown, IsKnownLink, Knows, known_grown, noted_known, wrote_known}
@@ -115,7 +115,7 @@ module _ (a : Agenda) (b : Book) (number word : ℕ) (h : Knows b a) where
       wrote_known a.dials (offered l [] a.links) a.timers b number word l count (none_offered l a.links h.single) known
 
   call_heard : (c : Call) → a.early ≡ [] → MayCall a c → Hears b (answered a c) number word (answer_of c)
-  call_heard (call.Dial l host port dialed.Yes) none may = dialled_known l (first_dialled (λ n. n < b.links) a.dials l host port h.dials may)
+  call_heard (call.Dial l host port dialed.Yes) none may = dialled_known l (first_dialled (λ n. n < b.links) a.dials l host port h.dials may.0)
   call_heard (call.Dial l host port (dialed.Failed fault)) none may = refused_known l (event.Refused l fault) tt
   call_heard (call.Read l room (got.Read n) bytes) none may = known_grown (turn_grows b number word (event.Bytes l bytes) tt) h
   call_heard (call.Read l room got.NotYet bytes) none may = h
@@ -141,3 +141,4 @@ deed_known (did c word actions) b a core none may is stand h =
     subst (Told b (answered a c)) (sym is) (heard_told b (answered a c) core word (answer_of c) (call_heard a b core.turns word h c none may)) stand
 deed_known (fired timer word actions) b a core none may is stand h =
     subst (Told b (record a { timers = behind a.timers })) (sym is) (heard_told b (record a { timers = behind a.timers }) core word (event.Fired timer ∷ []) (fired_heard a b core.turns word h timer)) stand
+deed_known (claim number) b a core none may is stand h = record { dials = h.dials; links = h.links; single = h.single; timers = h.timers }

@@ -13,7 +13,7 @@ use Rattle.live_run.specs.declared.agenda.Target.{Target}
 use Rattle.live_run.specs.Agenda.{begun, first_due}
 use Rattle.live_run.specs.Closing.{close_calls}
 use Rattle.live_run.specs.Deeds.{Deed, did, Told, Does, Broke, AllMay, AreShown, after, after_each, calls_in, events_in, actions_in}
-use Rattle.live_run.specs.Passes.{Stage, Then, Beginning, closes_of, Closing, IsDial, AreDials, Dialing, InTurn, Reading, Writing, IsFire, Firing, Pass}
+use Rattle.live_run.specs.Passes.{Stage, Then, Beginning, closes_of, Closing, IsDialled, AreDials, Dialing, InTurn, Reading, Writing, IsFire, Firing, Pass}
 use Rattle.live_run.specs.Steps.{One}
 use Rattle.live_run.proofs.Runs.{broke_more, does_more, does_as, went_call, went_calls}
 use Rattle.live_run.proofs.Shown.{shown_none}
@@ -144,12 +144,17 @@ pub cut_writing : {old mid new : Option (List Call)} {before between after : His
 cut_writing one two = does_last Pass FromWriting false one (then_cut Writing Firing two)
 
 -- one more dial
-dial_form : (n : ℕ) (a b : Agenda) (ds : List Deed) → b ≡ after_each a ds → One IsDial ds → Until (AreDials (suc n)) a (AreDials n) b ds
-dial_form n a b ds leads one whole later h =
-    subst (λ (xs : List Deed). AreDials (suc n) whole a (xs ++ later)) (sym one.1)
-    (one.2, subst (λ (x : Agenda). AreDials n whole x later) (leads ∙ ap (λ (xs : List Deed). after_each a xs) one.1) h)
+dial_form : (n : ℕ) (a b : Agenda) (ds : List Deed) → b ≡ after_each a ds → IsDialled ds → Until (AreDials (suc n)) a (AreDials n) b ds
+dial_form n a b [] leads dialled whole later h = absurd dialled
+dial_form n a b (d ∷ ds) leads (inl one) whole later h =
+    inl (
+      one.0,
+      subst (λ (xs : List Deed). AreDials n whole (after a d) (xs ++ later)) (sym one.1)
+          (subst (λ (x : Agenda). AreDials n whole x later) (leads ∙ ap (λ (xs : List Deed). after_each (after a d) xs) one.1) h),
+    )
+dial_form n a b (d ∷ ds) leads (inr more) whole later h = inr (more.0, dial_form n (after a d) b ds leads more.1 whole later h)
 
-pub dial_more : {old mid new : Option (List Call)} {before between after : History} {a b c : Agenda} (m k n : ℕ) → k ≡ n + 1 → Does old mid before between a b (Until (AreDials m) a (AreDials k) b) → Does mid new between after b c (One IsDial)
+pub dial_more : {old mid new : Option (List Call)} {before between after : History} {a b c : Agenda} (m k n : ℕ) → k ≡ n + 1 → Does old mid before between a b (Until (AreDials m) a (AreDials k) b) → Does mid new between after b c IsDialled
     → Does old new before after a c (Until (AreDials m) a (AreDials n) c)
 dial_more {b = b} {c = c} m k n is one two =
     let succ : k ≡ suc n = omega (arith, is) in
@@ -157,9 +162,9 @@ dial_more {b = b} {c = c} m k n is one two =
 
 -- the first link that was to be dialled was dialled
 pub dial_next : {old mid new : Option (List Call)} {before between after : History} {a b c : Agenda} {t : Target} {rest : List Target} (m k n : ℕ) → k ≡ n + 1 → b.dials ≡ t ∷ rest
-    → Does old mid before between a b (Until (AreDials m) a (AreDials k) b) → Does mid new between after (record b { dials = t ∷ rest }) c (One IsDial) → Does old new before after a c (Until (AreDials m) a (AreDials n) c)
+    → Does old mid before between a b (Until (AreDials m) a (AreDials k) b) → Does mid new between after (record b { dials = t ∷ rest }) c IsDialled → Does old new before after a c (Until (AreDials m) a (AreDials n) c)
 dial_next {mid = mid} {new = new} {between = between} {after = after} {b = b} {c = c} m k n is front one two =
-    dial_more m k n is one (subst (λ (ts : List Target). Does mid new between after (record b { dials = ts }) c (One IsDial)) (sym front) two)
+    dial_more m k n is one (subst (λ (ts : List Target). Does mid new between after (record b { dials = ts }) c IsDialled) (sym front) two)
 
 pub dial_broke : {error : StepError} {old mid new : Option (List Call)} {before between after : History} {a b : Agenda} {P : List Deed → Type 0} {t : Target} {rest : List Target} → b.dials ≡ t ∷ rest
     → Does old mid before between a b P → Broke error mid new between after (record b { dials = t ∷ rest }) → Broke error old new before after a

@@ -1,5 +1,5 @@
 -- A dial, a read, a write and a timer that fires, each with its turn.
-use Rattle.std.proofs.Common.{arith, ◌≡◌, ◌≢◌, ◌<◌, ℕ, true, List, [], ◌∷◌, length, Option, Some, is_some, refl, sym, inl, subst}
+use Rattle.std.proofs.Common.{arith, ◌≡◌, ◌≢◌, ◌<◌, max, ℕ, true, List, [], ◌∷◌, length, Option, Some, is_some, refl, sym, inl, subst}
 use Rattle.driver_model.specs.declared.event.EventKind.{EventKind}
 use Rattle.driver_model.specs.declared.event.EventKind.TheVariants as event
 use Rattle.outside.specs.World.{Adds, LinkPutWithin}
@@ -14,23 +14,26 @@ use Rattle.live_run.specs.declared.agenda.Agenda.{Agenda}
 use Rattle.live_run.specs.declared.agenda.Target.{Target}
 use Rattle.live_run.specs.Agenda.{answered, behind, first_due, offer_of}
 use Rattle.live_run.specs.Deeds.{Deed, did, fired, Does, Broke, IsNameOf, answer_of}
-use Rattle.live_run.specs.Passes.{InTurn, IsUp, Offers, IsReadOf, IsWriteOf, IsDial, IsFire}
+use Rattle.live_run.specs.Passes.{InTurn, IsUp, Offers, IsReadOf, IsWriteOf, IsDialled, IsFire}
 use Rattle.live_run.specs.Steps.{One, Settled, Unsettled, to_dial}
+use Rattle.live_run.proofs.Claiming.{claimed_and_broke, claimed_and_dialled, enough}
 use Rattle.live_run.proofs.Runs.{does_as}
 use Rattle.live_run.proofs.Settling.{settled_call, settled_fire, broke_settle}
 
--- the first link that is to be dialled
-pub dialled_one : {old mid new : Option (List Call)} {before after : History} {kinds : List EventKind} {a b d : Agenda} {name : List ℕ} {answer : Dialed} (target : Target) → IsNameOf target.host name
-    → Adds old mid (call.Dial target.link name target.port answer) → answer_of (call.Dial target.link name target.port answer) ≡ kinds
-    → b ≡ answered (to_dial target a) (call.Dial target.link name target.port answer) → Settled mid new before after kinds b d → Does old new before after (to_dial target a) d (One IsDial)
-dialled_one {name = name} {answer = answer} target named adds is noted s =
-    does_as (λ ds leads one. (did (call.Dial target.link name target.port answer) one.0 one.1, one.2, tt))
-    (settled_call (call.Dial target.link name target.port answer) adds is (refl, named, refl) noted s)
+-- the first link that is to be dialled, once the dial is claimed up to its generation
+pub dialled_one : {old mid new : Option (List Call)} {before after : History} {kinds : List EventKind} {a b d : Agenda} {name : List ℕ} {answer : Dialed} (target : Target) (m : ℕ) → m ≡ max a.claimed target.generation
+    → IsNameOf target.host name → Adds old mid (call.Dial target.link name target.port answer) → answer_of (call.Dial target.link name target.port answer) ≡ kinds
+    → b ≡ answered (to_dial target (record a { claimed = m })) (call.Dial target.link name target.port answer) → Settled mid new before after kinds b d → Does old new before after (to_dial target a) d IsDialled
+dialled_one {a = a} {name = name} {answer = answer} target m most named adds is noted s =
+    claimed_and_dialled target a m most
+    (does_as (λ ds leads one. (did (call.Dial target.link name target.port answer) one.0 one.1, one.2, tt))
+    (settled_call (call.Dial target.link name target.port answer) adds is ((refl, named, refl), enough target a m most) noted s))
 
-pub dial_broken : {error : StepError} {old mid new : Option (List Call)} {before after : History} {kinds : List EventKind} {a : Agenda} {name : List ℕ} {answer : Dialed} (target : Target) → IsNameOf target.host name
-    → Adds old mid (call.Dial target.link name target.port answer) → answer_of (call.Dial target.link name target.port answer) ≡ kinds
+pub dial_broken : {error : StepError} {old mid new : Option (List Call)} {before after : History} {kinds : List EventKind} {a : Agenda} {name : List ℕ} {answer : Dialed} (target : Target) (m : ℕ) → m ≡ max a.claimed target.generation
+    → IsNameOf target.host name → Adds old mid (call.Dial target.link name target.port answer) → answer_of (call.Dial target.link name target.port answer) ≡ kinds
     → Unsettled error mid new before after kinds → Broke error old new before after (to_dial target a)
-dial_broken {name = name} {answer = answer} target named adds is s = broke_settle (call.Dial target.link name target.port answer) adds is (refl, named, refl) s
+dial_broken {a = a} {name = name} {answer = answer} target m most named adds is s =
+    claimed_and_broke target a m most (broke_settle (call.Dial target.link name target.port answer) adds is ((refl, named, refl), enough target a m most) s)
 
 -- a link in its turn
 one_turn : (Has : Agenda → ℕ → Type 0) (Is : ℕ → Deed → Type 0) (l : ℕ) (a : Agenda) (d : Deed) (ds : List Deed) → Has a l → Is l d → ds ≡ d ∷ [] → InTurn Has Is (l ∷ []) true a ds

@@ -8,7 +8,7 @@ use Rattle.driver_model.specs.declared.event.EventKind.TheVariants as event
 use Rattle.outside.specs.World.{Adds}
 use Rattle.outside.specs.declared.world.Call.{Call}
 use Rattle.outside.specs.declared.world.Call.TheVariants as call
-use Rattle.session_callers.specs.Calls.{Known}
+use Rattle.session_callers.specs.Calls.{Kept}
 use Rattle.shared_session.specs.History.{History}
 use Rattle.shared_session.specs.declared.errors.StepError.{StepError}
 use Rattle.live_run.specs.declared.agenda.Agenda.{Agenda}
@@ -18,7 +18,7 @@ use Rattle.live_run.specs.declared.running.Next.TheVariants as next
 use Rattle.live_run.specs.Agenda.{agenda_of}
 use Rattle.live_run.specs.Claims.{HasClaimed}
 use Rattle.live_run.specs.Closing.{close_calls, downs, times, ups}
-use Rattle.live_run.specs.Deeds.{Deed, did, fired, Does, Broke, Told, AllMay, after_each, events_in, events_of, answer_of, made, of_end}
+use Rattle.live_run.specs.Deeds.{Deed, did, fired, claim, Does, Broke, Told, AllMay, after_each, events_in, events_of, answer_of, made, of_end}
 use Rattle.live_run.specs.Passes.{Pass, IsQuiet, IsIdle, IsRound, EachRound, EndsIdle, Each, joined}
 use Rattle.live_run.specs.Endings.{Goes, Over}
 use Rattle.live_run.specs.Rounds.{IsNext}
@@ -54,6 +54,7 @@ rest_none (x ∷ xs) ys is = absurd (cc)
 quiet_one : (d : Deed) → events_of d ≡ [] → IsQuiet d
 quiet_one (did c word actions) is = none_made word (answer_of c) is
 quiet_one (fired timer word actions) is = absurd (cc)
+quiet_one (claim number) is = refl
 
 quiet_each : (ds : List Deed) → events_in ds ≡ [] → Each IsQuiet ds
 quiet_each [] is = tt
@@ -195,7 +196,7 @@ driven {last = last} {b = b} early run goes end_of = record {
 }
 
 -- and with what is claimed behind it
-pub driven_with : {old mid new : Option (List Call)} {before last after : History} {count : ℕ} {b : Agenda} {ending : Ending} (early : List Action) (keeper : Known)
+pub driven_with : {old mid new : Option (List Call)} {before last after : History} {count : ℕ} {b : Agenda} {ending : Ending} (early : List Action) (keeper : Kept)
     → Does old mid before last (agenda_of early) b (Ran ending last count (agenda_of early)) → Goes before last count → IsEnd mid new last after (b.closes ++ b.unclosed) → HasClaimed b.claimed keeper
     → DrivenWith keeper early old new before after count ending
 unfolding driven

@@ -8,7 +8,7 @@ use Rattle.outside.specs.declared.world.Dialed.TheVariants as dialed
 use Rattle.outside.specs.declared.world.LinkGot.TheVariants as got
 use Rattle.outside.specs.declared.world.LinkPut.TheVariants as put
 use Rattle.live_run.specs.declared.agenda.Agenda.{Agenda}
-use Rattle.live_run.specs.Deeds.{Deed, did, fired, MayCall, May, AllMay, after, calls_of, events_of, calls_in, events_in}
+use Rattle.live_run.specs.Deeds.{Deed, did, fired, claim, MayCall, May, AllMay, after, calls_of, events_of, calls_in, events_in}
 use Rattle.live_run.specs.Events.{answers_in, words_in, untimed_in, words_of}
 
 answers_call : (a : Agenda) (c : Call) (word : ℕ) (actions : List Action) → MayCall a c → untimed_in (events_of (did c word actions)) ≡ answers_in (calls_of (did c word actions))
@@ -29,6 +29,7 @@ answers_call a (call.Wait ms) word actions h = refl
 answers_one : (a : Agenda) (d : Deed) → May a d → untimed_in (events_of d) ≡ answers_in (calls_of d)
 answers_one a (did c word actions) h = answers_call a c word actions h
 answers_one a (fired timer word actions) h = refl
+answers_one a (claim number) h = refl
 
 words_call : (a : Agenda) (c : Call) (word : ℕ) (actions : List Action) → MayCall a c → words_of (events_of (did c word actions)) ≡ words_in (calls_of (did c word actions))
 words_call a (call.Dial link host port dialed.Yes) word actions h = refl
@@ -48,6 +49,7 @@ words_call a (call.Wait ms) word actions h = refl
 words_one : (a : Agenda) (d : Deed) → May a d → words_of (events_of d) ≡ words_in (calls_of d)
 words_one a (did c word actions) h = words_call a c word actions h
 words_one a (fired timer word actions) h = refl
+words_one a (claim number) h = refl
 
 answers_append : (xs ys : List Call) → answers_in (xs ++ ys) ≡ answers_in xs ++ answers_in ys
 answers_append [] ys = refl

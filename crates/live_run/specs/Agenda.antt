@@ -1,5 +1,5 @@
 -- What the actions of a session ask of the world and is not done yet.
-use Rattle.std.specs.Prelude.{ℕ, ◌+◌, ◌-◌, ◌^◌, ◌==◌, nat_le, nat_lt, min, max, Bool, true, false, ◌&&◌, List, [], ◌∷◌, ◌++◌, Option, Some, None, if◌then◌else◌}
+use Rattle.std.specs.Prelude.{ℕ, ◌+◌, ◌-◌, ◌^◌, ◌==◌, nat_le, nat_lt, min, Bool, true, false, ◌&&◌, List, [], ◌∷◌, ◌++◌, Option, Some, None, if◌then◌else◌}
 use Rattle.driver_model.specs.declared.action.Action.{Action}
 use Rattle.driver_model.specs.declared.action.Action.TheVariants as action
 use Rattle.outside.specs.declared.world.Call.{Call}
@@ -137,9 +137,9 @@ abbrev pub first_generation : List Target → ℕ
 first_generation [] = 0
 first_generation (t ∷ ts) = t.generation
 
--- the first dial is done, and the number of its generation claimed, and each below it
+-- the first dial is done
 abbrev pub tried : Agenda → Agenda
-tried a = record a { dials = behind a.dials; claimed = max a.claimed (first_generation a.dials) }
+tried a = record a { dials = behind a.dials }
 
 -- what a call's answer is to it: the first dial or close is done; a link that ended or failed is no longer read and written; an
 -- offer is answered

@@ -1,6 +1,6 @@
 -- What a driver does, one thing after another: the calls of the world that it makes, the events that it steps, and what their
 -- turns ask.
-use Rattle.std.specs.Prelude.{◌≡◌, ◌≢◌, ◌⊎◌, ℕ, true, List, [], ◌∷◌, ◌++◌, Option, Some, is_some, length, ◌≤◌}
+use Rattle.std.specs.Prelude.{◌≡◌, ◌≢◌, ◌⊎◌, ℕ, suc, true, List, [], ◌∷◌, ◌++◌, Option, Some, is_some, length, ◌≤◌}
 use Rattle.std.specs.Str.{IsUtf8}
 use Rattle.driver_model.specs.declared.action.Action.{Action}
 use Rattle.driver_model.specs.declared.config.Config.{Config}
@@ -21,7 +21,7 @@ use Rattle.shared_session.specs.declared.errors.StepError.TheVariants.{BadEvent,
 use Rattle.shared_session.specs.declared.session.Failure.TheVariants as failure
 use Rattle.live_run.specs.declared.agenda.Agenda.{Agenda}
 use Rattle.live_run.specs.declared.agenda.Target.{Target}
-use Rattle.live_run.specs.Agenda.{offer_of, first_due, noted_each, answered, behind}
+use Rattle.live_run.specs.Agenda.{offer_of, first_due, first_generation, noted_each, answered, behind}
 
 -- what the answer of a call is to a session: nothing where it has none, or is NotYet
 abbrev pub answer_of : Call → List EventKind
@@ -53,16 +53,18 @@ abbrev pub IsFirst : List ℕ → ℕ → Type 0
 IsFirst [] l = ⊥
 IsFirst (x ∷ xs) l = l ≡ x
 
--- a call of the world that asks for no word; or a timer that fires. Where an event came of it, with the event's word and the
--- actions of its turn
+-- A call of the world that asks for no word; or a timer that fires; or a number of the dial is claimed. Where an event came of it,
+-- with the event's word and the actions of its turn
 pub data Deed : Type 0 where
   did : Call → ℕ → List Action → Deed
   fired : ℕ → ℕ → List Action → Deed
+  claim : ℕ → Deed
 
 -- what it is to the session
 abbrev pub kinds_of : Deed → List EventKind
 kinds_of (did c word actions) = answer_of c
 kinds_of (fired timer word actions) = event.Fired timer ∷ []
+kinds_of (claim number) = []
 
 -- a word is asked for each event
 abbrev pub asked : ℕ → List EventKind → List Call
@@ -77,16 +79,19 @@ made word (kind ∷ kinds) = record { word = word; kind = kind } ∷ made word k
 abbrev pub calls_of : Deed → List Call
 calls_of (did c word actions) = c ∷ asked word (answer_of c)
 calls_of (fired timer word actions) = call.Word word ∷ []
+calls_of (claim number) = []
 
 -- the events that it steps
 abbrev pub events_of : Deed → List Event
 events_of (did c word actions) = made word (answer_of c)
 events_of (fired timer word actions) = record { word = word; kind = event.Fired timer } ∷ []
+events_of (claim number) = []
 
 -- what the turns of its events ask
 abbrev pub actions_of : Deed → List Action
 actions_of (did c word actions) = actions
 actions_of (fired timer word actions) = actions
+actions_of (claim number) = []
 
 abbrev pub calls_in : List Deed → List Call
 calls_in [] = []
@@ -104,16 +109,18 @@ actions_in (d ∷ ds) = actions_of d ++ actions_in ds
 abbrev pub after : Agenda → Deed → Agenda
 after a (did c word actions) = noted_each (answered a c) actions
 after a (fired timer word actions) = noted_each (record a { timers = behind a.timers }) actions
+after a (claim number) = record a { claimed = number }
 
 abbrev pub after_each : Agenda → List Deed → Agenda
 after_each a [] = a
 after_each a (d ∷ ds) = after_each (after a d) ds
 
--- What may be done. The first link that is to be dialled is dialled, by the name of its host; a link that is up is read, in a
--- room of 65,536 bytes; the whole unanswered offer of a link that is up is written; the first link that is to be closed is
--- closed; a timer that is due fires.
+-- What may be done. The first link that is to be dialled is dialled, by the name of its host, where the dial is claimed up to its
+-- generation; a link that is up is read, in a room of 65,536 bytes; the whole unanswered offer of a link that is up is written; the
+-- first link that is to be closed is closed; a timer that is due fires; the next number of the dial is claimed, as far as the first
+-- link that is to be dialled needs it.
 abbrev pub MayCall : Agenda → Call → Type 0
-MayCall a (call.Dial l host port answer) = IsFirstOf a.dials l host port
+MayCall a (call.Dial l host port answer) = IsFirstOf a.dials l host port × (first_generation a.dials ≤ a.claimed)
 MayCall a (call.Read l room answer bytes) = (room ≡ 65_536) × (is_some (offer_of l a.links) ≡ true)
 MayCall a (call.Write l piece answer) = (piece ≢ []) × (offer_of l a.links ≡ Some piece) × LinkPutWithin (length piece) answer
 MayCall a (call.Close l) = IsFirst a.closes l
@@ -124,6 +131,7 @@ MayCall a (call.Word word) = ⊥
 abbrev pub May : Agenda → Deed → Type 0
 May a (did c word actions) = MayCall a c
 May a (fired timer word actions) = first_due a ≡ Some timer
+May a (claim number) = (number ≡ suc a.claimed) × (number ≤ first_generation a.dials)
 
 -- each of these may be done behind those before it
 abbrev pub AllMay : Agenda → List Deed → Type 0

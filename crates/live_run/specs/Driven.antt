@@ -5,7 +5,7 @@ use Rattle.driver_model.specs.declared.event.Event.{Event}
 use Rattle.driver_model.specs.declared.event.EventKind.TheVariants as event
 use Rattle.outside.specs.declared.world.Call.{Call}
 use Rattle.outside.specs.declared.world.Call.TheVariants as call
-use Rattle.session_callers.specs.Calls.{Known}
+use Rattle.session_callers.specs.Calls.{Kept}
 use Rattle.shared_session.specs.History.{History}
 use Rattle.live_run.specs.declared.agenda.Agenda.{Agenda}
 use Rattle.live_run.specs.declared.ending.Ending.{Ending}
@@ -66,8 +66,8 @@ pub record Driven (early : List Action) (old new : Option (List Call)) (before a
   pub answers : untimed_in (events_in deeds) ≡ answers_in (calls_in deeds)
   pub words : words_of (events_in deeds) ≡ words_in (calls_in deeds)
 
--- A run, and what this caller has claimed of the dial behind it: the numbers up to the last generation that was dialled. Each
--- link is dialled with the number of its generation claimed
-pub record DrivenWith (keeper : Known) (early : List Action) (old new : Option (List Call)) (before after : History) (count : ℕ) (ending : Ending) : Type 0 where
+-- A run, and how far this keeper has claimed the dial behind it: as far as the deeds of the run have. Before a link is dialled the
+-- number of its generation is claimed, and each below it
+pub record DrivenWith (keeper : Kept) (early : List Action) (old new : Option (List Call)) (before after : History) (count : ℕ) (ending : Ending) : Type 0 where
   pub run : Driven early old new before after count ending
   pub claims : HasClaimed (after_each (agenda_of early) run.deeds).claimed keeper

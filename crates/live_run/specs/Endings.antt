@@ -1,5 +1,5 @@
 -- When a run is over.
-use Rattle.std.specs.Prelude.{◌≡◌, ℕ, ◌<◌, ◌≤◌, List, [], ◌∷◌, ◌++◌, Option, Some, None, length}
+use Rattle.std.specs.Prelude.{◌≡◌, ℕ, ◌+◌, ◌<◌, ◌≤◌, List, [], ◌∷◌, ◌++◌, Option, Some, None, length, max}
 use Rattle.driver_model.specs.declared.event.Event.{Event}
 use Rattle.live_run.specs.declared.ending.Ending.{Ending}
 use Rattle.live_run.specs.declared.ending.Ending.TheVariants.{Answered, Idle, Full}
@@ -37,6 +37,13 @@ pub record Goes (before after : History) (count : ℕ) : Type 0 where
   pub config : after.config ≡ before.config
   pub word : after.word ≡ before.word
   pub going : AreGoing before count gained
+
+-- a session has no more events than it had and one, or than a history may have before its shutdown, or it had
+abbrev pub GainsOne : History → History → Type 0
+GainsOne before after = length after.events ≤ length before.events + 1
+
+abbrev pub StaysWithin : History → History → Type 0
+StaysWithin before after = length after.events ≤ max most_events (length before.events)
 
 -- why a run is over before its passes are all idle, if it is
 abbrev pub Over : Option Ending → History → ℕ → Type 0

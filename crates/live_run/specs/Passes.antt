@@ -3,7 +3,7 @@ use Rattle.std.specs.Prelude.{◌≡◌, ◌⊎◌, ℕ, zero, suc, Bool, true, 
 use Rattle.outside.specs.declared.world.Call.TheVariants as call
 use Rattle.live_run.specs.declared.agenda.Agenda.{Agenda}
 use Rattle.live_run.specs.Agenda.{first_due, numbers_of, offer_of}
-use Rattle.live_run.specs.Deeds.{Deed, did, fired, kinds_of, after, after_each}
+use Rattle.live_run.specs.Deeds.{Deed, did, fired, claim, kinds_of, after, after_each}
 
 -- A stage of a pass: whether it was done whole, for a run may be over in the middle of it; what was asked of the world as it
 -- began; and its deeds.
@@ -37,11 +37,20 @@ abbrev pub IsDial : Deed → Type 0
 IsDial (did (call.Dial l host port answer) word actions) = Unit {0}
 IsDial _ = ⊥
 
--- at most so many dials: just so many where it was done whole, or until none is to be dialled
+abbrev pub IsClaim : Deed → Type 0
+IsClaim (claim number) = Unit {0}
+IsClaim _ = ⊥
+
+-- numbers are claimed, and then a link is dialled
+abbrev pub IsDialled : List Deed → Type 0
+IsDialled [] = ⊥
+IsDialled (d ∷ ds) = (IsDial d × (ds ≡ [])) ⊎ (IsClaim d × IsDialled ds)
+
+-- at most so many dials, with claims before them: just so many where it was done whole, or until none is to be dialled
 abbrev pub AreDials : ℕ → Bool → Agenda → List Deed → Type 0
 AreDials n whole a [] = whole ≡ true → (n ≡ 0) ⊎ (a.dials ≡ [])
 AreDials zero whole a (d ∷ ds) = ⊥
-AreDials (suc n) whole a (d ∷ ds) = IsDial d × AreDials n whole (after a d) ds
+AreDials (suc n) whole a (d ∷ ds) = (IsDial d × AreDials n whole (after a d) ds) ⊎ (IsClaim d × AreDials (suc n) whole (after a d) ds)
 
 -- as many links are dialled as were to be dialled as the stage began; what is asked meanwhile is left to the next pass
 abbrev pub Dialing : Stage

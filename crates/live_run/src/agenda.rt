@@ -1,4 +1,4 @@
-ghost use Rattle.std.specs.Prelude.{◌≡◌, ℕ, List, IfSome, OnOk, None, true, max};
+ghost use Rattle.std.specs.Prelude.{◌≡◌, ℕ, List, IfSome, OnOk, None, true};
 ghost use Rattle.live_run.specs.Agenda.{agenda_of, answered, asks, begun, behind, first_due, noted, noted_each, undialled};
 ghost use Rattle.live_run.specs.Places.{AreOthers, IsFirstAt, target_link};
 ghost use Rattle.live_run.specs.Steps.{to_dial};
@@ -39,7 +39,7 @@ pub(crate) struct Agenda {
     pub(crate) moment: u64,
     /// The generation that began last, whose links are asked for now: 0 before the first.
     pub(crate) generation: u32,
-    /// The last generation that was dialled: 0 before the first. Its number, and each below it, is claimed of the dial.
+    /// Up to which number the dial is claimed.
     pub(crate) claimed: u32,
 }
 
@@ -198,11 +198,8 @@ impl Agenda {
     ) -> Result<(), AllocError>
         ensures noted { OnOk result ((host : List ℕ) → (port : ℕ)
             → self.new ≡ answered (to_dial target.now self.old) (Call.Dial target.now.link host port answer)) }
-        ensures claims { OnOk result (
-            self.new.claimed ≡ max self.old.claimed target.now.generation
-            ) }
+        ensures claims { OnOk result (self.new.claimed ≡ self.old.claimed) }
     {
-        self.claimed = self.claimed.max(target.generation);
         match answer {
             Dialed::Failed(_) => Ok(()),
             Dialed::Yes => {

@@ -3,7 +3,8 @@ ghost use Rattle.live_run.specs.Agenda.{first_due};
 ghost use Rattle.live_run.specs.Claims.{HasClaimed};
 ghost use Rattle.live_run.specs.Closing.{close_calls};
 ghost use Rattle.live_run.specs.Deeds.{Broke, Does, IsNameOf, Told, answer_of};
-ghost use Rattle.live_run.specs.Passes.{InTurn, IsDial, IsFire, IsReadOf, IsUp, IsWriteOf, Offers};
+ghost use Rattle.live_run.specs.Endings.{GainsOne};
+ghost use Rattle.live_run.specs.Passes.{InTurn, IsDialled, IsFire, IsReadOf, IsUp, IsWriteOf, Offers};
 ghost use Rattle.live_run.specs.Steps.{One, Refused, Settled, Stepped, Unsettled, kinds_in, to_dial};
 ghost use Rattle.outside.specs.World.{LinkGotWithin, link_given};
 
@@ -109,6 +110,7 @@ fn settle<W: World>(
         (kinds_in kind) agenda.old agenda.new) }
     ensures err { IfErr result (λ error.
         Unsettled error (W.told world.old) (W.told world.new) session.old session.new (kinds_in kind)) }
+    ensures few { IfErr result (λ _. GainsOne session.old session.new) }
 {
     let Some(kind) = kind else {
         return Ok(());
@@ -123,8 +125,7 @@ fn settle<W: World>(
     }
 }
 
-/// Dials a link, which was the first that is to be dialled. A generation is dialled with its number claimed of the dial; where
-/// another caller claimed it, memory is refused.
+/// Dials a link, which was the first that is to be dialled, once the dial is claimed up to its generation.
 pub(crate) fn dial_link<W: World>(
     alloc: Global,
     agenda: &mut Agenda,
@@ -137,14 +138,13 @@ pub(crate) fn dial_link<W: World>(
     ensures claims { OnOk result (HasClaimed agenda.new.claimed keeper.new) }
     ensures did { OnOk result (
         Does (W.told world.old) (W.told world.new) session.old session.new
-        (to_dial target.now agenda.old) agenda.new (One IsDial)) }
+        (to_dial target.now agenda.old) agenda.new IsDialled) }
     ensures err { IfErr result (λ error.
         Broke error (W.told world.old) (W.told world.new) session.old session.new
         (to_dial target.now agenda.old)) }
+    ensures few { IfErr result (λ _. GainsOne session.old session.new) }
 {
-    if !claim_up_to(keeper, agenda.claimed, target.generation) {
-        return Err(StepError::NoMemory);
-    }
+    agenda.claimed = claim_up_to(keeper, agenda.claimed, target.generation);
     let name = host_text(&target.host);
     let answer = world.dial(target.link, name, target.port);
     match agenda.after_dial(alloc, target, answer) {
@@ -174,6 +174,7 @@ pub(crate) fn read_link<W: World>(
         (InTurn IsUp IsReadOf (link ∷ []) true agenda.old)) }
     ensures err { IfErr result (λ error.
         Broke error (W.told world.old) (W.told world.new) session.old session.new agenda.old) }
+    ensures few { IfErr result (λ _. GainsOne session.old session.new) }
 {
     if !is_up(&agenda.links, link) {
         return Ok(());
@@ -204,6 +205,7 @@ pub(crate) fn write_link<W: World>(
         (InTurn Offers IsWriteOf (link ∷ []) true agenda.old)) }
     ensures err { IfErr result (λ error.
         Broke error (W.told world.old) (W.told world.new) session.old session.new agenda.old) }
+    ensures few { IfErr result (λ _. GainsOne session.old session.new) }
 {
     let Some(offer) = unanswered(&agenda.links, link) else {
         return Ok(());
@@ -232,6 +234,7 @@ pub(crate) fn fire_timer<W: World>(
         (One IsFire)) }
     ensures err { IfErr result (λ error.
         Broke error (W.told world.old) (W.told world.new) session.old session.new agenda.old) }
+    ensures few { IfErr result (λ _. GainsOne session.old session.new) }
 {
     agenda.drop_timer();
     match settle(

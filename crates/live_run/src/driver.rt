@@ -2,7 +2,7 @@ ghost use Rattle.std.specs.Prelude.{◌≡◌, length, is_none, IfOk, IfErr, OnO
 ghost use Rattle.live_run.specs.Agenda.{agenda_of};
 ghost use Rattle.live_run.specs.Claims.{HasClaimed};
 ghost use Rattle.live_run.specs.Deeds.{Broke, Does};
-ghost use Rattle.live_run.specs.Endings.{Goes, Over};
+ghost use Rattle.live_run.specs.Endings.{Goes, Over, StaysWithin};
 ghost use Rattle.live_run.specs.Passes.{Dialing, Firing, Pass, Reading, Then, Writing};
 
 use crate::agenda::Agenda;
@@ -54,6 +54,7 @@ impl Driver {
         ensures same { OnOk result (self.new.verdict.submissions ≡ self.old.verdict.submissions) }
         ensures err { IfErr result (λ error.
             Broke error (W.told world.old) (W.told world.new) session.old session.new self.old.agenda) }
+        ensures few { IfErr result (λ _. StaysWithin session.old session.new) }
     {
         let mut left = self.agenda.dials.len();
         'dials: while left > 0 {
@@ -97,6 +98,7 @@ impl Driver {
         ensures same { OnOk result (self.new.verdict.submissions ≡ self.old.verdict.submissions) }
         ensures err { IfErr result (λ error.
             Broke error (W.told world.old) (W.told world.new) session.old session.new self.old.agenda) }
+        ensures few { IfErr result (λ _. StaysWithin session.old session.new) }
     {
         let mut left = match numbers_up(self.alloc, &self.agenda.links) {
             Ok(left) => left,
@@ -129,6 +131,7 @@ impl Driver {
         ensures same { OnOk result (self.new.verdict.submissions ≡ self.old.verdict.submissions) }
         ensures err { IfErr result (λ error.
             Broke error (W.told world.old) (W.told world.new) session.old session.new self.old.agenda) }
+        ensures few { IfErr result (λ _. StaysWithin session.old session.new) }
     {
         let mut left = match numbers_up(self.alloc, &self.agenda.links) {
             Ok(left) => left,
@@ -161,6 +164,7 @@ impl Driver {
         ensures same { OnOk result (self.new.verdict.submissions ≡ self.old.verdict.submissions) }
         ensures err { IfErr result (λ error.
             Broke error (W.told world.old) (W.told world.new) session.old session.new self.old.agenda) }
+        ensures few { IfErr result (λ _. StaysWithin session.old session.new) }
     {
         'fires: while let Some(timer) = self.agenda.first_due() {
             if let Some(ending) = self.verdict.ending(session) {
@@ -192,6 +196,7 @@ impl Driver {
         ensures same { OnOk result (self.new.verdict.submissions ≡ self.old.verdict.submissions) }
         ensures err { IfErr result (λ error.
             Broke error (W.told world.old) (W.told world.new) session.old session.new self.old.agenda) }
+        ensures few { IfErr result (λ _. StaysWithin session.old session.new) }
     {
         match self.read_all(session, world, room) {
             Ok(None) => {}
@@ -228,6 +233,7 @@ impl Driver {
         ensures same { OnOk result (self.new.verdict.submissions ≡ self.old.verdict.submissions) }
         ensures err { IfErr result (λ error.
             Broke error (W.told world.old) (W.told world.new) session.old session.new self.old.agenda) }
+        ensures few { IfErr result (λ _. StaysWithin session.old session.new) }
     {
         let moment = world.now();
         match self.agenda.begin(self.alloc, moment) {

@@ -4,7 +4,7 @@ ghost use Rattle.live_run.specs.Agenda.{agenda_of};
 ghost use Rattle.live_run.specs.Claims.{HasClaimed};
 ghost use Rattle.live_run.specs.Deeds.{Broke, Does};
 ghost use Rattle.live_run.specs.Driven.{DrivenWith, Ran};
-ghost use Rattle.live_run.specs.Endings.{Goes};
+ghost use Rattle.live_run.specs.Endings.{Goes, StaysWithin};
 ghost use Rattle.live_run.specs.Rounds.{IsNext, IsOverNext};
 ghost use Rattle.live_run.specs.Steps.{IsEnd};
 
@@ -60,6 +60,7 @@ fn round<W: World>(
         ) }
     ensures err { IfErr result (λ error.
         Broke error (W.told world.old) (W.told world.new) session.old session.new driver.old.agenda) }
+    ensures few { IfErr result (λ _. StaysWithin session.old session.new) }
 {
     let before = session.events_taken();
     match driver.pass(session, keeper, world, room) {
@@ -94,6 +95,7 @@ fn run<W: World>(
         ) }
     ensures err { IfErr result (λ error.
         Broke error (W.told world.old) (W.told world.new) session.old session.new driver.old.agenda) }
+    ensures few { IfErr result (λ _. StaysWithin session.old session.new) }
 {
     let mut idle = 0u32;
     'passes: while idle < IDLE_PASSES {
@@ -116,6 +118,7 @@ fn end<W: World>(driver: &mut Driver, session: &mut Session, world: &mut W) -> R
         (driver.old.agenda.closes ++ driver.old.agenda.unclosed)) }
     ensures err { IfErr result (λ error.
         Broke error (W.told world.old) (W.told world.new) session.old session.new driver.old.agenda) }
+    ensures few { IfErr result (λ _. StaysWithin session.old session.new) }
 {
     match step(driver.alloc, session, world, EventKind::Shutdown) {
         Ok(gained) => drop(gained),
@@ -143,6 +146,7 @@ fn run_out<W: World>(
         ) }
     ensures err { IfErr result (λ error.
         Broke error (W.told world.old) (W.told world.new) session.old session.new driver.old.agenda) }
+    ensures few { IfErr result (λ _. StaysWithin session.old session.new) }
 {
     let ending = match run(driver, session, keeper, world, room) {
         Ok(ending) => ending,
@@ -158,8 +162,8 @@ fn run_out<W: World>(
 /// holds 9,999,999 events. Then the session is shut down, and the links are closed.
 ///
 /// `actions` are those of the turns so far, in order, and `submissions` is how many submissions were handed in. No more
-/// come. `keeper`, which has claimed nothing of the dial yet, claims the number of each generation before that is dialled.
-/// After an error the session keeps the events that it has taken.
+/// come. `keeper`, of whose dial nothing was claimed yet, claims the number of each generation before that is dialled.
+/// After an error the session keeps the events that it has taken, and has no more than it had, or that many.
 pub fn drive<W: World>(
     alloc: Global,
     session: &mut Session,
@@ -176,6 +180,7 @@ pub fn drive<W: World>(
     ensures err { IfErr result (λ error.
         Broke error (W.told world.old) (W.told world.new) session.old session.new
         (agenda_of actions.items)) }
+    ensures few { IfErr result (λ _. StaysWithin session.old session.new) }
 {
     let mut room = match new_room(alloc) {
         Ok(room) => room,

@@ -7,3 +7,6 @@ returns-in-Ok-clause-did g c = fired_one c.args.timer c.requires c.drop_timer.en
 
 pub returns-in-Err-clause-err : goal.returns-in-Err-clause-err
 returns-in-Err-clause-err g c = broke_fire c.args.timer c.requires c.in-Err.ensures.err
+
+pub returns-in-Err-clause-few : goal.returns-in-Err-clause-few
+returns-in-Err-clause-few g c = c.in-Err.ensures.few

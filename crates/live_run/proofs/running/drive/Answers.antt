@@ -1,3 +1,4 @@
+use Rattle.std.proofs.Common.{arith}
 use Rattle.std.proofs.lemmas.Result.{IfOk-weaker}
 use Rattle.live_run.proofs.Runs.{broke_nothing}
 use Rattle.live_run.proofs.running.drive.Goals as goal
@@ -11,3 +12,9 @@ returns-clause-driven g c =
 
 pub returns-clause-err : goal.returns-clause-err
 returns-clause-err g c = rw c.new-driver.ensures.agenda at c.run_out-ended.ensures.err
+
+pub returns-in-Err-clause-few : goal.returns-in-Err-clause-few
+returns-in-Err-clause-few g c = omega arith
+
+pub returns-clause-few : goal.returns-clause-few
+returns-clause-few g c = c.run_out-ended.ensures.few

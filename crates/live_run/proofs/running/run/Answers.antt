@@ -1,5 +1,5 @@
 use Rattle.std.proofs.Common.{arith, refl, ◌∙◌}
-use Rattle.live_run.proofs.Going.{goes_more, goes_none}
+use Rattle.live_run.proofs.Going.{goes_more, goes_none, goes_then}
 use Rattle.live_run.proofs.Runs.{broke_more}
 use Rattle.live_run.proofs.Whole.{next_within, ran_over, sofar_more, sofar_none}
 use Rattle.live_run.proofs.running.run.Goals as goal
@@ -29,3 +29,6 @@ returns-in-Err-clause-err g c = broke_more c.passes.invariant.does c.in-Err.ensu
 
 pub returns-in-Ok-Over-clause-goes : goal.returns-in-Ok-Over-clause-goes
 returns-in-Ok-Over-clause-goes g c = goes_more c.passes.invariant.goes (rw (c.ending.ensures.same, c.passes.invariant.same) at c.in-Ok-Over.ensures.goes)
+
+pub returns-in-Err-clause-few : goal.returns-in-Err-clause-few
+returns-in-Err-clause-few g c = goes_then c.passes.invariant.goes c.in-Err.ensures.few

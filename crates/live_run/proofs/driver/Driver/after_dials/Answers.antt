@@ -1,6 +1,6 @@
 use Rattle.std.specs.Prelude.{false, is_none}
 use Rattle.live_run.specs.Passes.{Firing, Reading, Writing}
-use Rattle.live_run.proofs.Going.{goes_more}
+use Rattle.live_run.proofs.Going.{goes_more, goes_then}
 use Rattle.live_run.proofs.Runs.{broke_more}
 use Rattle.live_run.proofs.Stages.{FromReading, FromWriting, does_last, does_until, then_cut, then_next}
 use Rattle.live_run.proofs.driver.Driver.after_dials.Goals as goal
@@ -34,3 +34,9 @@ pub returns-in-Ok-clause-goes : goal.returns-in-Ok-clause-goes
 returns-in-Ok-clause-goes g c =
     goes_more c.in-Ok-None.ensures.goes (goes_more (rw c.in-Ok-None.ensures.same at c.in-Ok-None-write_all.ensures.goes)
     (rw (c.in-Ok-None-write_all.ensures.same, c.in-Ok-None.ensures.same) at c.in-Ok.ensures.goes))
+
+pub returns-in-Err-write_all-clause-few : goal.returns-in-Err-write_all-clause-few
+returns-in-Err-write_all-clause-few g c = goes_then c.in-Ok-None.ensures.goes c.in-Err-write_all.ensures.few
+
+pub returns-in-Err-fire_all-clause-few : goal.returns-in-Err-fire_all-clause-few
+returns-in-Err-fire_all-clause-few g c = goes_then c.in-Ok-None.ensures.goes (goes_then c.in-Ok-None-write_all.ensures.goes c.in-Err-fire_all.ensures.few)

@@ -1,5 +1,5 @@
 use Rattle.std.proofs.Common.{arith, ◌≡◌, ◌+◌, ◌-◌, length, inl, refl, ◌∙◌}
-use Rattle.live_run.proofs.Going.{goes_more, goes_none, goes_one}
+use Rattle.live_run.proofs.Going.{goes_dialled, goes_more, goes_none, goes_one, goes_then_one}
 use Rattle.live_run.proofs.Stages.{dial_next, dial_broke, dials_cut, dials_done, dials_none}
 use Rattle.live_run.proofs.driver.Driver.dial_all.Goals as goal
 
@@ -14,7 +14,7 @@ dials-preserved g c =
     let next : c.dials.left ≡ (c.dials.left - 1) + 1 = omega (arith, c.dials-test.true) in
     record {
       does = dial_next (length c.args.self.now.agenda.dials) c.dials.left (c.dials.left - 1) next c.in-Some-pop_front.ensures c.dials.invariant.does c.in-Ok.ensures.did;
-      goes = goes_more c.dials.invariant.goes (goes_one (rw (← c.dials.invariant.same) (c.in_default.ensures.going refl)) c.in-Ok.ensures.did);
+      goes = goes_more c.dials.invariant.goes (goes_dialled (rw (← c.dials.invariant.same) (c.in_default.ensures.going refl)) c.in-Ok.ensures.did);
       same = c.ending.ensures.same ∙ c.dials.invariant.same;
       claims = c.in-Ok.ensures.claims;
     }
@@ -26,3 +26,6 @@ pub returns-clause-did : goal.returns-clause-did
 returns-clause-did g c =
     let none : c.dials.left ≡ 0 = omega (arith, c.dials-test.false) in
     dials_done (length c.args.self.now.agenda.dials) c.dials.left (inl none) c.dials.invariant.does
+
+pub returns-in-Err-clause-few : goal.returns-in-Err-clause-few
+returns-in-Err-clause-few g c = goes_then_one c.dials.invariant.goes (rw (← c.dials.invariant.same) (c.in_default.ensures.going refl)) c.in-Err.ensures.few

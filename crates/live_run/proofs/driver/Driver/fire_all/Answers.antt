@@ -1,5 +1,5 @@
 use Rattle.std.proofs.Common.{refl, ◌∙◌, sym}
-use Rattle.live_run.proofs.Going.{goes_more, goes_one}
+use Rattle.live_run.proofs.Going.{goes_more, goes_one, goes_then_one}
 use Rattle.live_run.proofs.Runs.{broke_more}
 use Rattle.live_run.proofs.Stages.{fire_more, fires_cut, fires_done}
 use Rattle.live_run.proofs.driver.Driver.fire_all.Goals as goal
@@ -15,3 +15,6 @@ returns-in-Err-clause-err g c = broke_more c.fires.invariant.does c.in-Err.ensur
 
 pub returns-clause-did : goal.returns-clause-did
 returns-clause-did g c = fires_done (sym c.in_default.ensures) c.fires.invariant.does
+
+pub returns-in-Err-clause-few : goal.returns-in-Err-clause-few
+returns-in-Err-clause-few g c = goes_then_one c.fires.invariant.goes (rw (← c.fires.invariant.same) (c.in_default-ending.ensures.going refl)) c.in-Err.ensures.few

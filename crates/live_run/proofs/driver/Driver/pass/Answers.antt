@@ -1,6 +1,6 @@
-use Rattle.std.proofs.Common.{ℕ, List, ap}
+use Rattle.std.proofs.Common.{arith, ℕ, List, ap}
 use Rattle.std.specs.Prelude.{is_none}
-use Rattle.live_run.proofs.Going.{goes_more}
+use Rattle.live_run.proofs.Going.{goes_more, goes_then}
 use Rattle.live_run.proofs.Runs.{broke_none, broke_more}
 use Rattle.live_run.specs.Passes.{Pass}
 use Rattle.live_run.proofs.Stages.{FromReading, did_now, does_last, pass_begun, pass_closed, pass_dialled, cut_dialling}
@@ -30,3 +30,12 @@ returns-in-Err-after_dials-clause-err g c =
 
 pub returns-in-Ok-after_dials-clause-goes : goal.returns-in-Ok-after_dials-clause-goes
 returns-in-Ok-after_dials-clause-goes g c = goes_more c.in-Ok-None.ensures.goes (rw c.in-Ok-None.ensures.same at c.in-Ok-after_dials.ensures.goes)
+
+pub returns-in-Err-clause-few : goal.returns-in-Err-clause-few
+returns-in-Err-clause-few g c = omega arith
+
+pub returns-in-Err-dial_all-clause-few : goal.returns-in-Err-dial_all-clause-few
+returns-in-Err-dial_all-clause-few g c = c.in-Err-dial_all.ensures.few
+
+pub returns-in-Err-after_dials-clause-few : goal.returns-in-Err-after_dials-clause-few
+returns-in-Err-after_dials-clause-few g c = goes_then c.in-Ok-None.ensures.goes c.in-Err-after_dials.ensures.few

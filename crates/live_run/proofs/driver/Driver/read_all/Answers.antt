@@ -1,7 +1,7 @@
-use Rattle.std.proofs.Common.{refl, ◌∙◌}
+use Rattle.std.proofs.Common.{arith, refl, ◌∙◌}
 use Rattle.live_run.specs.Agenda.{numbers_of}
 use Rattle.live_run.specs.Passes.{IsUp, IsReadOf}
-use Rattle.live_run.proofs.Going.{goes_in_turn, goes_more, goes_none}
+use Rattle.live_run.proofs.Going.{goes_in_turn, goes_more, goes_none, goes_then_one}
 use Rattle.live_run.proofs.Runs.{broke_more, broke_nothing}
 use Rattle.live_run.proofs.Stages.{turn_more, turns_cut, turns_done}
 use Rattle.live_run.proofs.driver.Driver.read_all.Goals as goal
@@ -25,3 +25,9 @@ returns-in-Err-read_link-clause-err g c = broke_more c.loop-link.invariant.does 
 
 pub returns-clause-did : goal.returns-clause-did
 returns-clause-did g c = turns_done IsUp IsReadOf (numbers_of c.args.self.now.agenda.links) c.loop-link.left c.in_default.ensures.0 c.loop-link.invariant.does
+
+pub returns-in-Err-clause-few : goal.returns-in-Err-clause-few
+returns-in-Err-clause-few g c = omega arith
+
+pub returns-in-Err-read_link-clause-few : goal.returns-in-Err-read_link-clause-few
+returns-in-Err-read_link-clause-few g c = goes_then_one c.loop-link.invariant.goes (rw (← c.loop-link.invariant.same) (c.in_default-ending.ensures.going refl)) c.in-Err-read_link.ensures.few
