@@ -85,4 +85,3 @@ refused_lines calls (refusal.Line n) words plan source source' plans why =
 refused_lines calls refusal.NoMemory words plan source source' plans why = inl refl
 refused_lines calls refusal.Usage words plan source source' plans why = absurd why
 refused_lines calls (refusal.Config name) words plan source source' plans why = absurd why
-refused_lines calls (refusal.Spent events) words plan source source' plans why = absurd why

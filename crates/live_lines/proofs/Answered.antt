@@ -1,6 +1,5 @@
 -- Each line of a live run has its outcome.
 use Rattle.std.proofs.Common.{◌≡◌, ℕ, ◌+◌, ◌<◌, Bool, true, false, ◌||◌, List, [], ◌∷◌, ◌++◌, length, Option, is_some, refl, sym, ap, ◌∙◌, subst, arith}
-use mathlib.Core.List.{IsPrefix}
 use Rattle.caller_threads.specs.declared.job.Turn.{Turn}
 use Rattle.caller_threads.specs.Each.{EachAt}
 use Rattle.caller_threads.specs.Submits.{Line, IsTurnOf, event_of, numbers_of}
@@ -12,7 +11,7 @@ use Rattle.driver_model.specs.declared.outcome.Outcome.{Outcome}
 use Rattle.legal_laws.specs.Answers.{cancels, is_cancel, shuts_down, submissions_of}
 use Rattle.legal_laws.proofs.Submissions.HandedIn.{each_answered, or_left, or_right}
 use Rattle.legal_trace.specs.Book.{shuts, submitted_by}
-use Rattle.live_run.specs.Deeds.{Deed, IsGood, IsUnspent, answer_of, did, events_in, fired, made}
+use Rattle.live_run.specs.Deeds.{Deed, IsGood, IsUnspent, answer_of, claim, did, events_in, fired, made}
 use Rattle.live_run.specs.Driven.{shutdown}
 use Rattle.outside.specs.declared.world.Call.{Call}
 use Rattle.outside.specs.declared.world.Call.TheVariants as call
@@ -22,7 +21,6 @@ use Rattle.outside.specs.declared.world.LinkPut.TheVariants as put
 use Rattle.session_callers.specs.Rule.{Each, submissions_in, submits}
 use Rattle.session_laws.proofs.Turn.Legality.{replay_legal, replay_outcomes}
 use Rattle.session_laws.specs.Outcomes.{last_outcome}
-use Rattle.shared_session.specs.History.{History}
 use Rattle.shared_session.specs.Replay.{AreGood, AreUnspent, IsSound}
 use Rattle.live_lines.specs.Flights.{IsFlight, IsOfLine}
 use Rattle.live_lines.specs.Outcomes.{HasOutcome}
@@ -65,6 +63,7 @@ deeds_stay : (ds : List Deed) → cancels (events_in ds) ≡ false
 deeds_stay [] = refl
 deeds_stay (did c word actions ∷ ds) = cancels_more (made word (answer_of c)) (events_in ds) (answers_stay word c) (deeds_stay ds)
 deeds_stay (fired timer word actions ∷ ds) = deeds_stay ds
+deeds_stay (claim number ∷ ds) = deeds_stay ds
 
 -- it is shut down at last
 shuts_last : (es fs : List Event) → shuts_down fs ≡ true → shuts_down (es ++ fs) ≡ true

@@ -15,7 +15,7 @@ use Rattle.program_ends.specs.Sides.{Side, Fails, IfTold}
 use Rattle.program_ends.specs.declared.status.Status.{Status}
 use Rattle.program_ends.specs.declared.status.Status.TheVariants as status
 use Rattle.script_text.specs.Lines.{lines_of}
-use Rattle.live_lines.specs.Does.{IsLineRun, IsConfigRun, IsRefusedPlan, IsSpentRun, DoesLive}
+use Rattle.live_lines.specs.Does.{IsLineRun, IsConfigRun, IsRefusedPlan, DoesLive}
 use Rattle.live_lines.specs.Flights.{AskedWord}
 use Rattle.live_lines.specs.Live.{IsAsked, IsAtFault, IsLive, IsPlan, IsRefused, Writes, flight_text, refusal_line, refusal_status}
 use Rattle.live_lines.specs.Plans.{plan_of, refused_of}
@@ -115,9 +115,9 @@ module _ (usage : List ℕ) (words : List (List ℕ)) (s : Status) (source sourc
         write = λ is. failed status.Done s text sink sink' (λ e. apart status.Done status.WriteFault refl e) w is;
         read = λ is. absurd (other status.ReadFault refl refl is);
         fault = λ is. absurd (other status.ReadFault refl refl is);
-        spent = λ is bytes told. absurd (other status.Spent refl refl is);
+        spent = λ is. other status.Spent refl refl is;
         exact = λ bytes told plan reads writes. absurd (not_refused bytes (live bytes told) plan);
-        complete = λ bytes told asked sound reads writes. well_done (well_by status.Done s text sink sink' writes w);
+        complete = λ bytes told asked sound reads writes. well_by status.Done s text sink sink' writes w;
       }
     where
       none_of : (s ≡ status.Usage) ⊎ (s ≡ status.Script) ⊎ (s ≡ status.ReadFault) → ⊥
@@ -130,16 +130,11 @@ module _ (usage : List ℕ) (words : List (List ℕ)) (s : Status) (source sourc
           let same : plan.config.asked.plan ≡ live.asked.plan = one_plan plan.config.asked.plan live.asked.plan (sym plan.config.asked.plans ∙ live.asked.plans) in
           none_some plan.name (sym (none_refused live.asked.plan live.flight.sound live.flight.bare) ∙ ap refused_of (sym same) ∙ plan.config.refused)
 
-      well_done : (s ≡ status.Done) ⊎ (s ≡ status.NoMemory) → (s ≡ status.Done) ⊎ (s ≡ status.NoMemory) ⊎ (s ≡ status.Spent)
-      well_done (inl is) = inl is
-      well_done (inr is) = inr (inl is)
-
   -- what a refusal of some status is
   usage_by : (r : Refusal) → IsRefused r words source source' old new → refusal_status r ≡ status.Usage → (plan_of words ≡ None) × (refusal_line usage r ≡ usage)
   usage_by refusal.Usage h e = (h.0, refl)
   usage_by (refusal.Line n) h e = absurd (apart status.Script status.Usage refl e)
   usage_by (refusal.Config name) h e = absurd (apart status.Config status.Usage refl e)
-  usage_by (refusal.Spent events) h e = absurd (apart status.Spent status.Usage refl e)
   usage_by refusal.ReadFault h e = absurd (apart status.ReadFault status.Usage refl e)
   usage_by refusal.NoMemory h e = absurd (apart status.NoMemory status.Usage refl e)
 
@@ -147,7 +142,6 @@ module _ (usage : List ℕ) (words : List (List ℕ)) (s : Status) (source sourc
   line_by refusal.Usage h e gained = absurd (apart status.Usage status.Script refl e)
   line_by (refusal.Line n) h e gained = λ bytes told. record { line = n; fault = h.1 bytes told; told = gained }
   line_by (refusal.Config name) h e gained = absurd (apart status.Config status.Script refl e)
-  line_by (refusal.Spent events) h e gained = absurd (apart status.Spent status.Script refl e)
   line_by refusal.ReadFault h e gained = absurd (apart status.ReadFault status.Script refl e)
   line_by refusal.NoMemory h e gained = absurd (apart status.NoMemory status.Script refl e)
 
@@ -155,7 +149,6 @@ module _ (usage : List ℕ) (words : List (List ℕ)) (s : Status) (source sourc
   config_by refusal.Usage h e gained = absurd (apart status.Usage status.Config refl e)
   config_by (refusal.Line n) h e gained = absurd (apart status.Script status.Config refl e)
   config_by (refusal.Config name) h e gained = λ bytes told. record { name = name; refused = h.1 bytes told; told = gained }
-  config_by (refusal.Spent events) h e gained = absurd (apart status.Spent status.Config refl e)
   config_by refusal.ReadFault h e gained = absurd (apart status.ReadFault status.Config refl e)
   config_by refusal.NoMemory h e gained = absurd (apart status.NoMemory status.Config refl e)
 
@@ -163,33 +156,22 @@ module _ (usage : List ℕ) (words : List (List ℕ)) (s : Status) (source sourc
   fault_by refusal.Usage h e = absurd (apart status.Usage status.ReadFault refl e)
   fault_by (refusal.Line n) h e = absurd (apart status.Script status.ReadFault refl e)
   fault_by (refusal.Config name) h e = absurd (apart status.Config status.ReadFault refl e)
-  fault_by (refusal.Spent events) h e = absurd (apart status.Spent status.ReadFault refl e)
   fault_by refusal.ReadFault h e = (h.1, refl)
   fault_by refusal.NoMemory h e = absurd (apart status.NoMemory status.ReadFault refl e)
 
-  spent_by : (r : Refusal) → IsRefused r words source source' old new → refusal_status r ≡ status.Spent → Gained sink.bytes sink'.bytes (refusal_line usage r) → IfTold source (λ bytes. IsSpentRun words bytes old new sink sink')
-  spent_by refusal.Usage h e gained = absurd (apart status.Usage status.Spent refl e)
-  spent_by (refusal.Line n) h e gained = absurd (apart status.Script status.Spent refl e)
-  spent_by (refusal.Config name) h e gained = absurd (apart status.Config status.Spent refl e)
-  spent_by (refusal.Spent events) h e gained = λ bytes told. record { events = events; ran_out = h.1 bytes told; told = gained }
-  spent_by refusal.ReadFault h e gained = absurd (apart status.ReadFault status.Spent refl e)
-  spent_by refusal.NoMemory h e gained = absurd (apart status.NoMemory status.Spent refl e)
-
-  -- a refusal is none of a run that came to its end or met a bad event, and none that a failed sink tells
-  never : (r : Refusal) → (refusal_status r ≡ status.Done → ⊥) × (refusal_status r ≡ status.BadEvent → ⊥) × (refusal_status r ≡ status.WriteFault → ⊥)
-  never refusal.Usage = (apart status.Usage status.Done refl, apart status.Usage status.BadEvent refl, apart status.Usage status.WriteFault refl)
-  never (refusal.Line n) = (apart status.Script status.Done refl, apart status.Script status.BadEvent refl, apart status.Script status.WriteFault refl)
-  never (refusal.Config name) = (apart status.Config status.Done refl, apart status.Config status.BadEvent refl, apart status.Config status.WriteFault refl)
-  never (refusal.Spent events) = (apart status.Spent status.Done refl, apart status.Spent status.BadEvent refl, apart status.Spent status.WriteFault refl)
-  never refusal.ReadFault = (apart status.ReadFault status.Done refl, apart status.ReadFault status.BadEvent refl, apart status.ReadFault status.WriteFault refl)
-  never refusal.NoMemory = (apart status.NoMemory status.Done refl, apart status.NoMemory status.BadEvent refl, apart status.NoMemory status.WriteFault refl)
+  -- a refusal is none of a run that came to its end or met a bad event, or whose numbers ran out, and none that a failed sink tells
+  never : (r : Refusal) → (refusal_status r ≡ status.Done → ⊥) × (refusal_status r ≡ status.BadEvent → ⊥) × (refusal_status r ≡ status.Spent → ⊥) × (refusal_status r ≡ status.WriteFault → ⊥)
+  never refusal.Usage = (apart status.Usage status.Done refl, apart status.Usage status.BadEvent refl, apart status.Usage status.Spent refl, apart status.Usage status.WriteFault refl)
+  never (refusal.Line n) = (apart status.Script status.Done refl, apart status.Script status.BadEvent refl, apart status.Script status.Spent refl, apart status.Script status.WriteFault refl)
+  never (refusal.Config name) = (apart status.Config status.Done refl, apart status.Config status.BadEvent refl, apart status.Config status.Spent refl, apart status.Config status.WriteFault refl)
+  never refusal.ReadFault = (apart status.ReadFault status.Done refl, apart status.ReadFault status.BadEvent refl, apart status.ReadFault status.Spent refl, apart status.ReadFault status.WriteFault refl)
+  never refusal.NoMemory = (apart status.NoMemory status.Done refl, apart status.NoMemory status.BadEvent refl, apart status.NoMemory status.Spent refl, apart status.NoMemory status.WriteFault refl)
 
   -- words that are no plan are refused for that
   unknown_by : (r : Refusal) → IsRefused r words source source' old new → plan_of words ≡ None → (refusal_status r ≡ status.Usage) ⊎ (refusal_status r ≡ status.NoMemory)
   unknown_by refusal.Usage h none = inl refl
   unknown_by (refusal.Line n) h none = absurd (plan_not_none words h.0 none)
   unknown_by (refusal.Config name) h none = absurd (plan_not_none words h.0 none)
-  unknown_by (refusal.Spent events) h none = absurd (plan_not_none words h.0 none)
   unknown_by refusal.ReadFault h none = absurd (plan_not_none words h.0 none)
   unknown_by refusal.NoMemory h none = inr refl
 
@@ -207,7 +189,6 @@ module _ (usage : List ℕ) (words : List (List ℕ)) (s : Status) (source sourc
   uncalled_by refusal.Usage h e = h.1
   uncalled_by (refusal.Line n) h e = h.2
   uncalled_by (refusal.Config name) h e = absurd (no_way status.Config status.Usage status.Script status.ReadFault refl refl refl e)
-  uncalled_by (refusal.Spent events) h e = absurd (no_way status.Spent status.Usage status.Script status.ReadFault refl refl refl e)
   uncalled_by refusal.ReadFault h e = h.2
   uncalled_by refusal.NoMemory h e = absurd (no_way status.NoMemory status.Usage status.Script status.ReadFault refl refl refl e)
 
@@ -216,7 +197,6 @@ module _ (usage : List ℕ) (words : List (List ℕ)) (s : Status) (source sourc
   undialled_by refusal.Usage h e = absurd (apart status.Usage status.Config refl e)
   undialled_by (refusal.Line n) h e = absurd (apart status.Script status.Config refl e)
   undialled_by (refusal.Config name) h e = h.2
-  undialled_by (refusal.Spent events) h e = absurd (apart status.Spent status.Config refl e)
   undialled_by refusal.ReadFault h e = absurd (apart status.ReadFault status.Config refl e)
   undialled_by refusal.NoMemory h e = absurd (apart status.NoMemory status.Config refl e)
 
@@ -226,25 +206,20 @@ module _ (usage : List ℕ) (words : List (List ℕ)) (s : Status) (source sourc
   refused_by refusal.Usage bytes h told plan reads = absurd (plan_not_none words (record { plan = plan.config.asked.plan; plans = plan.config.asked.plans }) h.0)
   refused_by (refusal.Line n) bytes h told plan reads = absurd (not_at_fault n bytes (h.1 bytes told) plan.config.asked)
   refused_by (refusal.Config name) bytes h told plan reads = inl refl
-  refused_by (refusal.Spent events) bytes h told plan reads =
-      let r = h.1 bytes told in
-      let same : r.asked.plan ≡ plan.config.asked.plan = one_plan r.asked.plan plan.config.asked.plan (sym r.asked.plans ∙ plan.config.asked.plans) in
-      absurd (none_some plan.name (sym r.sound ∙ ap refused_of same ∙ plan.config.refused))
   refused_by refusal.ReadFault bytes h told plan reads = absurd (reads h.1)
   refused_by refusal.NoMemory bytes h told plan reads = inr refl
 
-  -- where all is well but numbers or memory, it is refused for one of these
+  -- where all is well but memory, it is refused for want of that
   well_refused : (r : Refusal) (bytes : List ℕ) → IsRefused r words source source' old new → source.bytes ≡ Some bytes → (asked : IsAsked words bytes) → refused_of asked.plan ≡ None → (Fails source source' → ⊥)
-      → (refusal_status r ≡ status.Spent) ⊎ (refusal_status r ≡ status.NoMemory)
+      → refusal_status r ≡ status.NoMemory
   well_refused refusal.Usage bytes h told asked sound reads = absurd (plan_not_none words (record { plan = asked.plan; plans = asked.plans }) h.0)
   well_refused (refusal.Line n) bytes h told asked sound reads = absurd (not_at_fault n bytes (h.1 bytes told) asked)
   well_refused (refusal.Config name) bytes h told asked sound reads =
       let r = h.1 bytes told in
       let same : asked.plan ≡ r.asked.plan = one_plan asked.plan r.asked.plan (sym asked.plans ∙ r.asked.plans) in
       absurd (none_some name (sym sound ∙ ap refused_of same ∙ r.refused))
-  well_refused (refusal.Spent events) bytes h told asked sound reads = inl refl
   well_refused refusal.ReadFault bytes h told asked sound reads = absurd (reads h.1)
-  well_refused refusal.NoMemory bytes h told asked sound reads = inr refl
+  well_refused refusal.NoMemory bytes h told asked sound reads = refl
 
   -- a live run that was refused
   pub not_flown : (r : Refusal) → IsRefused r words source source' old new → Writes (refusal_status r) (refusal_line usage r) s sink sink' → DoesLive usage words s source source' sink sink' old new
@@ -262,10 +237,10 @@ module _ (usage : List ℕ) (words : List (List ℕ)) (s : Status) (source sourc
         undialled = λ is. undialled_by r h (wrote its status.Config s text sink sink' refl w is).0;
         bad = λ is. (never r).1 (wrote its status.BadEvent s text sink sink' refl w is).0;
         cut = λ why bytes told. record { text = text; output = inr (r, h, refl); part = part_of its s text sink sink' w };
-        write = λ is. failed its s text sink sink' (never r).2 w is;
+        write = λ is. failed its s text sink sink' (never r).3 w is;
         read = λ is. (fault_by r h (wrote its status.ReadFault s text sink sink' refl w is).0).0;
         fault = λ is. let t = wrote its status.ReadFault s text sink sink' refl w is in subst (λ (xs : List ℕ). Gained sink.bytes sink'.bytes xs) (fault_by r h t.0).1 t.1;
-        spent = λ is. let t = wrote its status.Spent s text sink sink' refl w is in spent_by r h t.0 t.1;
+        spent = λ is. (never r).2 (wrote its status.Spent s text sink sink' refl w is).0;
         exact = λ bytes told plan reads writes. refused_then (refused_by r bytes h told plan reads) (well_by its s text sink sink' writes w);
         complete = λ bytes told asked sound reads writes. well_then (well_refused r bytes h told asked sound reads) (well_by its s text sink sink' writes w);
       }
@@ -286,7 +261,6 @@ module _ (usage : List ℕ) (words : List (List ℕ)) (s : Status) (source sourc
       unknown_then (inr n) (inl is) = inr (inr (is ∙ n))
       unknown_then any (inr other) = inr other
 
-      well_then : (refusal_status r ≡ status.Spent) ⊎ (refusal_status r ≡ status.NoMemory) → (s ≡ refusal_status r) ⊎ (s ≡ status.NoMemory) → (s ≡ status.Done) ⊎ (s ≡ status.NoMemory) ⊎ (s ≡ status.Spent)
-      well_then (inl u) (inl is) = inr (inr (is ∙ u))
-      well_then (inr n) (inl is) = inr (inl (is ∙ n))
-      well_then any (inr none) = inr (inl none)
+      well_then : refusal_status r ≡ status.NoMemory → (s ≡ refusal_status r) ⊎ (s ≡ status.NoMemory) → (s ≡ status.Done) ⊎ (s ≡ status.NoMemory)
+      well_then n (inl is) = inr (is ∙ n)
+      well_then n (inr none) = inr none

@@ -1,8 +1,10 @@
 mod Allowed
 mod Answered
+mod Counted
 mod Dealt
 mod Does
 mod Flown
+mod Long
 mod Orders
 mod Planned
 mod RunningOut
@@ -11,3 +13,5 @@ mod Stopped
 mod Submitted
 mod Unbroken
 mod Writing
+mod Late
+mod Few

@@ -68,7 +68,7 @@ abbrev AreOnce : ℕ → ℕ → List Turn → Type 0
 AreOnce from top ts = (p : ℕ) → times p (places_of ts) ≡ below p top - below p from
 
 -- what a line hands in is good
-line_good : (c : Core) (line : Line) → IsAllowed c.kind line → is_bad c (event_of line).kind ≡ false
+pub line_good : (c : Core) (line : Line) → IsAllowed c.kind line → is_bad c (event_of line).kind ≡ false
 unfolding is_bad
 line_good c line allowed = allowed
 

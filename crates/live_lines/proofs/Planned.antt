@@ -1,5 +1,5 @@
 -- Plans of which nothing is refused.
-use Rattle.std.proofs.Common.{◌≡◌, Bool, false, Option, None, ap, ◌∙◌}
+use Rattle.std.proofs.Common.{◌≡◌, false, Option, None, ap, ◌∙◌}
 use Rattle.driver_model.specs.Config.{first_fault, wants_credentials}
 use Rattle.redis_error.specs.declared.config_name.ConfigName.{ConfigName}
 use Rattle.live_lines.specs.Plans.{creds_fault, or_else, refused_of}

@@ -1,5 +1,5 @@
 -- What a live run does, and the status that it ends with.
-use Rattle.std.specs.Prelude.{◌≡◌, ◌⊎◌, ℕ, ◌+◌, List, Option, None, codes}
+use Rattle.std.specs.Prelude.{◌≡◌, ◌⊎◌, ℕ, List, Option, None, codes}
 use Rattle.outside.specs.Ends.{Gained, GainedPart}
 use Rattle.outside.specs.declared.world.Call.{Call}
 use Rattle.program_ends.specs.Lines.{numbered_line, config_line, read_fault_line}
@@ -9,7 +9,7 @@ use Rattle.program_ends.specs.declared.status.Status.TheVariants as status
 use Rattle.redis_error.specs.declared.config_name.ConfigName.{ConfigName}
 use Rattle.session_callers.specs.Rule.{Each}
 use Rattle.live_lines.specs.Flights.{AskedWord}
-use Rattle.live_lines.specs.Live.{IsAsked, IsAtFault, IsLive, IsRefused, IsRefusedConfig, IsRunOut, flight_text, refusal_line}
+use Rattle.live_lines.specs.Live.{IsAsked, IsAtFault, IsLive, IsRefused, IsRefusedConfig, flight_text, refusal_line}
 use Rattle.live_lines.specs.Outcomes.{HasOutcome}
 use Rattle.live_lines.specs.Plans.{plan_of, refused_of}
 use Rattle.live_lines.specs.declared.flying.Flight.{Flight}
@@ -34,12 +34,6 @@ pub record IsConfigRun (words : List (List ℕ)) (bytes : List ℕ) (sink sink' 
   pub refused : IsRefusedConfig words bytes name
   pub told : Gained sink.bytes sink'.bytes (config_line name)
 
--- numbers ran out behind so many events, and the sink gained the number of the next, counted from 1
-pub record IsSpentRun (words : List (List ℕ)) (bytes : List ℕ) (old new : Option (List Call)) (sink sink' : Side) : Type 0 where
-  pub events : ℕ
-  pub ran_out : IsRunOut words bytes old new events
-  pub told : Gained sink.bytes sink'.bytes (numbered_line (codes "spent event") (events + 1))
-
 -- all that a live run may write: the outcome of each line, or the line that tells why there was none
 abbrev pub IsOutput : List ℕ → List (List ℕ) → List ℕ → Side → Side → Option (List Call) → Option (List Call) → List ℕ → Type 0
 IsOutput usage words bytes source source' old new text =
@@ -58,11 +52,11 @@ pub record IsRefusedPlan (words : List (List ℕ)) (bytes : List ℕ) : Type 0 w
   pub config : IsRefusedConfig words bytes name
 
 -- where the words are a plan of which nothing is refused, the bytes are lines, and no count of faults rose, the run comes to
--- its end, or numbers run out, or memory is refused
+-- its end, or memory is refused
 abbrev pub EndsWell : List (List ℕ) → List ℕ → Status → Side → Side → Side → Side → Type 0
 EndsWell words bytes s source source' sink sink' =
     (asked : IsAsked words bytes) → refused_of asked.plan ≡ None → (Fails source source' → ⊥) → (Fails sink sink' → ⊥)
-    → (s ≡ status.Done) ⊎ (s ≡ status.NoMemory) ⊎ (s ≡ status.Spent)
+    → (s ≡ status.Done) ⊎ (s ≡ status.NoMemory)
 
 -- where the words are a plan of which something is refused, the bytes are lines, and no count of faults rose, that is the
 -- status, or memory was refused
@@ -94,9 +88,9 @@ pub record DoesLive (usage : List ℕ) (words : List (List ℕ)) (s : Status) (s
   -- 6
   pub read : s ≡ status.ReadFault → Fails source source'
   pub fault : s ≡ status.ReadFault → Gained sink.bytes sink'.bytes read_fault_line
-  -- 8
-  pub spent : s ≡ status.Spent → IfTold source (λ bytes. IsSpentRun words bytes old new sink sink')
+  -- 8: a run has fewer events than numbers
+  pub spent : s ≡ status.Spent → ⊥
   -- 3 or 5
   pub exact : IfTold source (λ bytes. EndsRefused words bytes s source source' sink sink')
-  -- 0, 5 or 8
+  -- 0 or 5
   pub complete : IfTold source (λ bytes. EndsWell words bytes s source source' sink sink')

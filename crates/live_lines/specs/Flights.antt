@@ -111,9 +111,13 @@ StoppedBy plan lines old new BadEvent = ⊥
 abbrev pub AreOf : List Event → List Known → Type 0
 AreOf log callers = Each (λ (c : Known). IsPrefix c.view.seen log) callers × ((p : ℕ) → total (λ (c : Known). times p c.view.mine) callers ≡ below p (length log))
 
+-- so many lines are more than a source has
+abbrev pub HasManyLines : List Line → Type 0
+HasManyLines lines = 999_999_999 ≤ length lines
+
 -- Why there was none: what is refused first of the plan, of which the world knows nothing but that its word was asked for; or
--- that numbers ran out, of a plan of which nothing is refused; or memory
+-- that numbers ran out, of a plan of which nothing is refused, and behind so many lines; or memory
 abbrev pub IsNoFlight : Plan → List Line → Option (List Call) → Option (List Call) → FlightError → Type 0
 IsNoFlight plan lines old new (flight.Config name) = (refused_of plan ≡ Some name) × AskedWord old new
-IsNoFlight plan lines old new (flight.Spent count) = (refused_of plan ≡ None) × RanOut plan.config count × StoppedBy plan lines old new (Spent count)
+IsNoFlight plan lines old new (flight.Spent count) = (refused_of plan ≡ None) × RanOut plan.config count × StoppedBy plan lines old new (Spent count) × HasManyLines lines
 IsNoFlight plan lines old new flight.NoMemory = (new ≡ old) ⊎ StoppedBy plan lines old new NoMemory

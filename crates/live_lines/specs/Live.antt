@@ -1,5 +1,5 @@
 -- What is written of a live run, and why there is none.
-use Rattle.std.specs.Prelude.{◌≡◌, ⊤, ◌⊎◌, ℕ, ◌+◌, List, [], Option, Some, None, Ok, Err, codes}
+use Rattle.std.specs.Prelude.{◌≡◌, ⊤, ◌⊎◌, ℕ, List, [], Option, Some, None, Ok, Err, codes}
 use Rattle.caller_threads.specs.Submits.{Line}
 use Rattle.driver_model.specs.Config.{kind_of}
 use Rattle.driver_model.specs.declared.kind.SessionKind.{SessionKind}
@@ -11,8 +11,8 @@ use Rattle.program_ends.specs.Sides.{Side, Fails, IfTold}
 use Rattle.program_ends.specs.declared.status.Status.{Status}
 use Rattle.program_ends.specs.declared.status.Status.TheVariants as status
 use Rattle.script_text.specs.Lines.{lines_of}
-use Rattle.shared_session.specs.declared.errors.StepError.TheVariants.{Spent, NoMemory}
-use Rattle.live_lines.specs.Flights.{AskedWord, IsFlight, RanOut, StoppedBy}
+use Rattle.shared_session.specs.declared.errors.StepError.TheVariants.{NoMemory}
+use Rattle.live_lines.specs.Flights.{AskedWord, IsFlight, StoppedBy}
 use Rattle.live_lines.specs.Outcomes.{outcome_lines, outcomes_of}
 use Rattle.live_lines.specs.Plans.{plan_of, refused_of}
 use Rattle.live_lines.specs.declared.flying.Flight.{Flight}
@@ -24,6 +24,11 @@ use Rattle.live_lines.specs.declared.reading.Refusal.TheVariants as refusal
 pub record AreLines (kind : SessionKind) (old left : Option (List ℕ)) (lines : List Line) : Type 0 where
   pub read : (bytes : List ℕ) → old ≡ Some bytes → lines_of kind bytes ≡ Ok lines
   pub ended : (bytes : List ℕ) → old ≡ Some bytes → left ≡ Some []
+
+-- what was kept of a source's bytes decides which lines they are, to a session of any kind; where they are some, it has nothing left
+pub record DecidesLines (old left : Option (List ℕ)) (kept : List ℕ) : Type 0 where
+  pub same : (kind : SessionKind) (bytes : List ℕ) → old ≡ Some bytes → lines_of kind bytes ≡ lines_of kind kept
+  pub ended : (kind : SessionKind) (bytes : List ℕ) (lines : List Line) → old ≡ Some bytes → lines_of kind kept ≡ Ok lines → left ≡ Some []
 
 -- words are a plan, and a source's bytes the lines for it
 pub record IsAsked (words : List (List ℕ)) (bytes : List ℕ) : Type 0 where
@@ -49,13 +54,6 @@ pub record IsRefusedConfig (words : List (List ℕ)) (bytes : List ℕ) (name : 
   pub asked : IsAsked words bytes
   pub refused : refused_of asked.plan ≡ Some name
 
--- they were, nothing of the plan is refused, and numbers ran out behind so many events
-pub record IsRunOut (words : List (List ℕ)) (bytes : List ℕ) (old new : Option (List Call)) (events : ℕ) : Type 0 where
-  pub asked : IsAsked words bytes
-  pub sound : refused_of asked.plan ≡ None
-  pub ran_out : RanOut asked.plan.config events
-  pub stopped : StoppedBy asked.plan asked.lines old new (Spent events)
-
 -- they were, and memory was refused to their run
 pub record IsStopped (words : List (List ℕ)) (bytes : List ℕ) (old new : Option (List Call)) : Type 0 where
   pub asked : IsAsked words bytes
@@ -73,17 +71,14 @@ HasNoLines kind (refusal.Line n) source source' = IfTold source (λ bytes. lines
 HasNoLines kind refusal.NoMemory source source' = ⊤
 HasNoLines kind refusal.Usage source source' = ⊥
 HasNoLines kind (refusal.Config name) source source' = ⊥
-HasNoLines kind (refusal.Spent events) source source' = ⊥
 
 -- Why there was no live run, in this order: the words are no plan; the source failed; this line of its bytes is the first at
--- fault; the configuration is refused. Numbers run out only behind all of these, and memory may be refused at any moment. The
--- world had no call before the lines were read, and only its word was asked for where the configuration is refused.
+-- fault; the configuration is refused. Memory may be refused at any moment. The world had no call before the lines were read, and only its word was asked for where the configuration is refused.
 abbrev pub IsRefused : Refusal → List (List ℕ) → Side → Side → Option (List Call) → Option (List Call) → Type 0
 IsRefused refusal.Usage words source source' old new = (plan_of words ≡ None) × (new ≡ old)
 IsRefused refusal.ReadFault words source source' old new = IsPlan words × Fails source source' × (new ≡ old)
 IsRefused (refusal.Line n) words source source' old new = IsPlan words × IfTold source (λ bytes. IsAtFault words bytes n) × (new ≡ old)
 IsRefused (refusal.Config name) words source source' old new = IsPlan words × IfTold source (λ bytes. IsRefusedConfig words bytes name) × AskedWord old new
-IsRefused (refusal.Spent events) words source source' old new = IsPlan words × IfTold source (λ bytes. IsRunOut words bytes old new events)
 IsRefused refusal.NoMemory words source source' old new = (new ≡ old) ⊎ IfTold source (λ bytes. IsStopped words bytes old new)
 
 -- the line that tells why there was none, where this one tells words that are no plan
@@ -91,7 +86,6 @@ abbrev pub refusal_line : List ℕ → Refusal → List ℕ
 refusal_line usage refusal.Usage = usage
 refusal_line usage (refusal.Line n) = numbered_line (codes "script line") n
 refusal_line usage (refusal.Config name) = config_line name
-refusal_line usage (refusal.Spent events) = numbered_line (codes "spent event") (events + 1)
 refusal_line usage refusal.ReadFault = read_fault_line
 refusal_line usage refusal.NoMemory = []
 
@@ -99,7 +93,6 @@ abbrev pub refusal_status : Refusal → Status
 refusal_status refusal.Usage = status.Usage
 refusal_status (refusal.Line n) = status.Script
 refusal_status (refusal.Config name) = status.Config
-refusal_status (refusal.Spent events) = status.Spent
 refusal_status refusal.ReadFault = status.ReadFault
 refusal_status refusal.NoMemory = status.NoMemory
 

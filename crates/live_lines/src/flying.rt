@@ -8,7 +8,8 @@ ghost use Rattle.session_callers.specs.Closes.{IsUndialled};
 ghost use Rattle.session_callers.specs.Rule.{Each};
 ghost use Rattle.live_run.specs.Claims.{HasClaimed};
 ghost use Rattle.shared_session.specs.Replay.{IsSound, trace_of};
-ghost use Rattle.live_lines.specs.Flights.{AreOf, AreSubmitted, AskedWord, IsBare, IsFlight, IsNoFlight};
+ghost use Rattle.live_lines.specs.Flights.{AreOf, AreSubmitted, AskedWord, HasManyLines, IsBare};
+ghost use Rattle.live_lines.specs.Flights.{IsFlight, IsNoFlight};
 ghost use Rattle.live_lines.specs.Flights.{RanOut, StoppedBy};
 ghost use Rattle.live_lines.specs.Plans.{refused_of};
 ghost use Rattle.outside.specs.declared.world.Call.{Call};
@@ -32,7 +33,7 @@ pub struct Flight {
     pub session: Session,
     /// The number of each line's submission, in the order of the lines.
     pub numbers: Vec<u32>,
-    /// The caller that was left, which claimed the number of each generation that was dialled.
+    /// What was left of the callers, which claimed the number of each generation that was dialled.
     pub keeper: Keeper,
     pub ending: Ending,
 }
@@ -54,6 +55,7 @@ fn refused(error: StepError) -> FlightError
         → refused_of plan ≡ None
         → ((n : ℕ) → error ≡ StepError.Spent n → RanOut plan.config n)
         → StoppedBy plan lines old new error
+        → ((n : ℕ) → error ≡ StepError.Spent n → HasManyLines lines)
         → IsNoFlight plan lines old new result }
 {
     match error {
@@ -64,12 +66,7 @@ fn refused(error: StepError) -> FlightError
 }
 
 /// Why lines were not submitted. Where numbers have run out, the callers give their session back first.
-fn stopped<R: Wait>(
-    rt: &R,
-    shared: SharedSession,
-    callers: Vec<Caller>,
-    error: StepError,
-) -> FlightError
+fn stopped(shared: SharedSession, callers: Vec<Caller>, error: StepError) -> FlightError
     requires good { error ≡ StepError.BadEvent → ⊥ }
     requires of { Each (λ caller. caller.table ≡ shared.table.shared.table_id) callers.items }
     ensures sound { (name : ConfigName) → result ≡ FlightError.Config name → ⊥ }
@@ -78,7 +75,7 @@ fn stopped<R: Wait>(
 {
     match error {
         StepError::BadEvent => unreachable!(),
-        StepError::Spent { events } => match shared.keep(rt, callers) {
+        StepError::Spent { events } => match shared.keep(callers) {
             Ok(kept) => {
                 drop(kept);
                 FlightError::Spent(events)
@@ -122,7 +119,7 @@ fn join_all<R: Wait>(
     Ok(callers)
 }
 
-/// The session of a plan, whose callers submitted these lines, the numbers of the submissions, and the caller that is left.
+/// The session of a plan, whose callers submitted these lines, the numbers of the submissions, and what is left of the callers.
 /// `actions` gains all that was asked so far.
 fn submitted<R: Threads + Wait + Sync>(
     rt: &R,
@@ -150,8 +147,14 @@ fn submitted<R: Threads + Wait + Sync>(
     let wanted = config.wants_credentials();
     let (shared, first) = match SharedSession::new(alloc, config, word, actions) {
         Ok(made) => made,
-        Err(MakeError::Config { name }) => return Err(FlightError::Config(name)),
-        Err(MakeError::NoMemory) => return Err(FlightError::NoMemory),
+        Err(MakeError::Config { name }) => {
+            drop(lines);
+            return Err(FlightError::Config(name));
+        }
+        Err(MakeError::NoMemory) => {
+            drop(lines);
+            return Err(FlightError::NoMemory);
+        }
     };
     if wanted {
         drop(shared);
@@ -179,57 +182,15 @@ fn submitted<R: Threads + Wait + Sync>(
         Ok(()) => {}
         Err(error) => {
             drop(numbers);
-            return Err(stopped(rt, shared, callers, error));
+            return Err(stopped(shared, callers, error));
         }
     }
-    match shared.keep(rt, callers) {
+    match shared.keep(callers) {
         Ok((session, keeper)) => Ok((session, numbers, keeper)),
         Err(missing) => {
             drop(missing);
             drop(numbers);
             Err(FlightError::NoMemory)
-        }
-    }
-}
-
-/// A live run of so many lines.
-fn fly_counted<R: Threads + Wait + Sync, W: World>(
-    rt: &R,
-    alloc: Global,
-    plan: Plan,
-    lines: Vec<(Submission, u64)>,
-    count: u32,
-    world: &mut W,
-) -> Result<Flight, FlightError>
-    requires allowed { Each (IsAllowed (kind_of plan.config)) lines.items }
-    requires count { count ≡ length lines.items }
-    ensures flight { IfOk result (
-        IsFlight plan lines.items (W.told world.old) (W.told world.new)
-        ) }
-    ensures err { IfErr result (
-        IsNoFlight plan lines.items (W.told world.old) (W.told world.new)
-        ) }
-{
-    let mut actions = Vec::new(alloc);
-    let word = world.word();
-    let (session, numbers, keeper) = match submitted(rt, alloc, plan, word, lines, &mut actions) {
-        Ok(made) => made,
-        Err(error) => return Err(error),
-    };
-    let mut session = session;
-    let mut keeper = keeper;
-    match drive(alloc, &mut session, &mut keeper, actions, count, world) {
-        Ok(ending) => Ok(Flight {
-            session,
-            numbers,
-            keeper,
-            ending,
-        }),
-        Err(error) => {
-            drop(session);
-            drop(numbers);
-            drop(keeper);
-            Err(refused(error))
         }
     }
 }
@@ -251,10 +212,27 @@ pub fn fly<R: Threads + Wait + Sync, W: World>(
         IsNoFlight plan lines.items (W.told world.old) (W.told world.new)
         ) }
 {
-    let Ok(count) = u32::try_from(lines.len()) else {
-        drop(plan);
-        drop(lines);
-        return Err(FlightError::NoMemory);
+    let mut actions = Vec::new(alloc);
+    let word = world.word();
+    let (session, numbers, keeper) = match submitted(rt, alloc, plan, word, lines, &mut actions) {
+        Ok(made) => made,
+        Err(error) => return Err(error),
     };
-    fly_counted(rt, alloc, plan, lines, count, world)
+    let mut session = session;
+    let mut keeper = keeper;
+    let count = session.events_taken();
+    match drive(alloc, &mut session, &mut keeper, actions, count, world) {
+        Ok(ending) => Ok(Flight {
+            session,
+            numbers,
+            keeper,
+            ending,
+        }),
+        Err(error) => {
+            drop(session);
+            drop(numbers);
+            drop(keeper);
+            Err(refused(error))
+        }
+    }
 }

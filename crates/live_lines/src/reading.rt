@@ -1,24 +1,26 @@
-ghost use Rattle.std.specs.Prelude.{◌≡◌, Some, Err, OnOk, IfOk, IfErr};
+ghost use Rattle.std.specs.Prelude.{◌≡◌, ◌≤◌, nat_lt, length, Some, Err, OnOk, IfOk, IfErr, IsErrOf};
 ghost use Rattle.outside.specs.Ends.{Rose};
 ghost use Rattle.caller_threads.specs.Submits.{IsAllowed};
 ghost use Rattle.program_ends.specs.Sides.{side, IfTold};
 ghost use Rattle.script_text.specs.Lines.{lines_of, texts};
+ghost use Rattle.script_text.specs.Script.{max_text};
 ghost use Rattle.session_callers.specs.Rule.{Each};
-ghost use Rattle.live_lines.specs.Live.{AreLines, HasNoLines, IsLive, IsPlan, IsRefused};
+ghost use Rattle.live_lines.specs.Live.{AreLines, DecidesLines, HasNoLines, IsLive, IsPlan, IsRefused};
 
 use crate::flying::{Flight, FlightError, fly};
 use crate::planning::plan_of;
+use containers::Bytes;
 use driver_model::{SessionKind, Submission};
-use outside::{ReadAllError, Source, World, read_all};
+use outside::{Fed, Feed, FeedError, Source, World, feed_all};
 use redis_error::ConfigName;
 use script_text::{ScriptError, read_lines};
-use std::alloc::Global;
+use std::alloc::{AllocError, Global};
 use std::sync::Wait;
 use std::thread::Threads;
 use text_laws::a_slice_has_bytes;
 
-/// The most bytes of lines that are kept: twice as many as lines may have. Of a source that has more, memory is refused.
-const MOST: usize = 134_217_728;
+/// The most bytes that lines may have. Of a source that has more, a line is at fault, whatever comes behind.
+const MOST: usize = 67_108_864;
 
 /// Why no live run came to its end.
 #[derive(Clone, Copy, PartialEq, Eq)]
@@ -32,11 +34,45 @@ pub enum Refusal {
     NoMemory,
     /// The source failed.
     ReadFault,
-    /// Numbers ran out: behind so many events the step of some event would be spent.
-    Spent(u32),
 }
 
-/// The lines of a source to a session of this kind. The source is read to its end.
+/// The bytes of lines, until there are more than they may have.
+#[derive(Drop)]
+struct Kept {
+    bytes: Bytes,
+}
+
+impl Feed for Kept {
+    ghost kept = { λ k. k.bytes };
+
+    ghost enough = { λ k. nat_lt max_text (length k.bytes) };
+
+    ghost most = { λ _. max_text };
+
+    fn push(&mut self, piece: &[u8]) -> Result<bool, AllocError> {
+        self.bytes.extend_from_slice(piece)?;
+        Ok(self.bytes.len() <= MOST)
+    }
+}
+
+/// The bytes of a source, as far as they decide its lines.
+fn read_text<S: Source>(alloc: Global, source: &mut S) -> Result<Bytes, FeedError>
+    ensures text { IfOk result (DecidesLines (S.left source.old) (S.left source.new)) }
+    ensures later { S.fault_count source.old ≤ S.fault_count source.new }
+    ensures cause { IsErrOf result FeedError.Fault
+        → Rose (S.fault_count source.old) (S.fault_count source.new) }
+{
+    let mut kept = Kept {
+        bytes: Bytes::new(alloc),
+    };
+    match feed_all(alloc, source, &mut kept) {
+        Ok(Fed::Ended) => Ok(kept.bytes),
+        Ok(Fed::Enough) => Ok(kept.bytes),
+        Err(error) => Err(error),
+    }
+}
+
+/// The lines of a source to a session of this kind. The source is read to its end, or as far as a line of it is at fault.
 fn source_lines<S: Source>(
     alloc: Global,
     kind: SessionKind,
@@ -46,17 +82,17 @@ fn source_lines<S: Source>(
         AreLines kind (S.left source.old) (S.left source.new) lines.items
         ) }
     ensures allowed { IfOk result (λ lines. Each (IsAllowed kind) lines.items) }
+    ensures few { IfOk result (λ lines. length lines.items ≤ 1_000_000) }
     ensures refused { IfErr result (λ refusal.
         HasNoLines kind refusal
         (side (S.left source.old) (S.fault_count source.old))
         (side (S.left source.new) (S.fault_count source.new))
         ) }
 {
-    let text = match read_all(alloc, source, MOST) {
+    let text = match read_text(alloc, source) {
         Ok(text) => text,
-        Err(ReadAllError::Fault) => return Err(Refusal::ReadFault),
-        Err(ReadAllError::TooLong) => return Err(Refusal::NoMemory),
-        Err(ReadAllError::NoMemory) => return Err(Refusal::NoMemory),
+        Err(FeedError::Fault) => return Err(Refusal::ReadFault),
+        Err(FeedError::NoMemory) => return Err(Refusal::NoMemory),
     };
     a_slice_has_bytes(text.as_slice());
     match read_lines(alloc, kind, text.as_slice()) {
@@ -102,7 +138,7 @@ pub fn flight_of<R: Threads + Wait + Sync, S: Source, W: World>(
     match fly(rt, alloc, plan, lines, world) {
         Ok(flight) => Ok(flight),
         Err(FlightError::Config(name)) => Err(Refusal::Config(name)),
-        Err(FlightError::Spent(events)) => Err(Refusal::Spent(events)),
+        Err(FlightError::Spent(_)) => unreachable!(),
         Err(FlightError::NoMemory) => Err(Refusal::NoMemory),
     }
 }

@@ -22,7 +22,6 @@ fn push_refusal(
         Refusal::Line(number) => push_line(alloc, line, b"script line", u64::from(number)),
         Refusal::Config(name) => push_config_line(alloc, line, name),
         Refusal::ReadFault => line.extend_from_slice(READ_FAULT),
-        Refusal::Spent(events) => push_line(alloc, line, b"spent event", u64::from(events) + 1),
         Refusal::NoMemory => Ok(()),
     }
 }
@@ -45,7 +44,6 @@ fn refusal_status(refusal: Refusal) -> Status
         Refusal::Line(_) => Status::Script,
         Refusal::Config(_) => Status::Config,
         Refusal::ReadFault => Status::ReadFault,
-        Refusal::Spent(_) => Status::Spent,
         Refusal::NoMemory => Status::NoMemory,
     }
 }

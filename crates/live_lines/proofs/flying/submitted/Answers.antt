@@ -1,4 +1,4 @@
-use Rattle.std.proofs.Common.{arith, length, sym, ◌++◌, List, ap, ◌∙◌, subst, ℕ}
+use Rattle.std.proofs.Common.{arith, sym, ◌++◌, List, ap, ◌∙◌, subst, ℕ}
 use Rattle.driver_model.specs.declared.action.Action.{Action}
 use Rattle.driver_model.specs.declared.config.Config.{Config}
 use Rattle.session_callers.specs.Rule.{Each}
@@ -28,7 +28,7 @@ returns-in-Err-clause-err g c =
     let callers = c.in-Ok-join_all.callers.items in
     let bare = subst (λ (config : Config). Each (IsBare config first.word) callers) (ap (λ v. v.config) is) c.in-Ok-join_all.ensures.bare in
     λ old new asked. none_submitted c.args.plan first.word callers c.submit_lines.new.callers.items c.args.lines.items c.in-Err.error c.stopped.result
-    (none_refused c.args.plan c.in-Ok.ensures.sound (sym c.wants_credentials-wanted.ensures ∙ c.if-wanted.false)) (omega (arith, c.in-Ok-join_all.ensures.count)) bare c.in-Err.ensures.err c.stopped.ensures.sound c.stopped.ensures.spent asked
+    c.in-Ok.ensures.sound c.requires.allowed (none_refused c.args.plan c.in-Ok.ensures.sound (sym c.wants_credentials-wanted.ensures ∙ c.if-wanted.false)) (omega (arith, c.in-Ok-join_all.ensures.count)) bare c.in-Err.ensures.err c.stopped.ensures.sound c.stopped.ensures.spent asked
 
 pub keep-requires : goal.keep-requires
 keep-requires g c =

@@ -22,19 +22,6 @@ returns-in-Err-Config-clause-refused g c =
       why.1,
     )
 
-pub returns-in-Err-Spent-clause-refused : goal.returns-in-Err-Spent-clause-refused
-returns-in-Err-Spent-clause-refused g c =
-    let plans = sym c.in-Ok-Some.ensures ∙ c.in-Ok-Some.field-0-is in
-    let why = rw c.in-Err-Spent.field-0-is at c.in-Err-Spent.ensures.err in (
-      record { plan = c.in-Ok-Some.plan; plans = plans },
-      (λ bytes told. record {
-        asked = record { plan = c.in-Ok-Some.plan; plans = plans; lines = c.in-Ok.lines.items; reads = subst (λ (kind : SessionKind). lines_of kind bytes ≡ Ok c.in-Ok.lines.items) c.kind.ensures (c.in-Ok.ensures.lines.read bytes told) };
-        sound = why.0;
-        ran_out = why.1;
-        stopped = why.2;
-      }),
-    )
-
 pub returns-in-Err-NoMemory-clause-refused : goal.returns-in-Err-NoMemory-clause-refused
 returns-in-Err-NoMemory-clause-refused g c =
     let plans = sym c.in-Ok-Some.ensures ∙ c.in-Ok-Some.field-0-is in
