@@ -223,4 +223,4 @@ live_note status.BadEvent = []
 live_note status.NoMemory = codes "memory was refused: standard output has a front of the outcomes" ++ codes "\n"
 live_note status.ReadFault = codes "standard input could not be read to its end" ++ codes "\n"
 live_note status.WriteFault = codes "standard output took no more: what it has is a front of the output" ++ codes "\n"
-live_note status.Spent = codes "a number of 32 bits has run out: hand in fewer lines" ++ codes "\n"
+live_note status.Spent = []

@@ -42,9 +42,6 @@ const REFUSED_NOTE: &[u8] =
 /// Where memory was refused to a live run.
 const OUTCOMES_NOTE: &[u8] = b"memory was refused: standard output has a front of the outcomes\n";
 
-/// Where a number has run out in a live run.
-const LIVE_SPENT_NOTE: &[u8] = b"a number of 32 bits has run out: hand in fewer lines\n";
-
 /// Where a URL is no address.
 const URL_WORDS: &[u8] =
     b"the URL is no address: it has the scheme redis or valkey and a host, and beside them no more than a user, a password, a port, a database and a protocol";
@@ -96,7 +93,7 @@ pub fn live_note(status: Status) -> &'static [u8]
         Status::NoMemory => OUTCOMES_NOTE,
         Status::ReadFault => READ_NOTE,
         Status::WriteFault => WRITE_NOTE,
-        Status::Spent => LIVE_SPENT_NOTE,
+        Status::Spent => b"",
     }
 }
 

@@ -188,17 +188,33 @@ pub fn replay_into<K: Sink>(
     let mut actions = Vec::new(alloc);
     let mut session = match open_session(alloc, config, word, &mut actions, text) {
         Ok(session) => session,
-        Err(stop) => return Err(stop),
+        Err(stop) => {
+            drop(actions);
+            drop(events);
+            return Err(stop);
+        }
     };
     let mut left = Queue::from_vec(events.into_vec());
     while let Some(event) = left.pop_front() {
         match take_turn(alloc, &mut session, event, &mut actions, text, note) {
             Ok(()) => {}
-            Err(stop) => return Err(stop),
+            Err(stop) => {
+                drop(left);
+                drop(session);
+                drop(actions);
+                return Err(stop);
+            }
         }
         if !write_large(sink, text) {
+            drop(left);
+            drop(session);
+            drop(actions);
             return Err(Stop::WriteFault);
         }
     }
-    Ok(open_after(alloc, &session))
+    drop(left);
+    drop(actions);
+    let open = open_after(alloc, &session);
+    drop(session);
+    Ok(open)
 }

@@ -1,4 +1,4 @@
-ghost use Rattle.std.specs.Prelude.{◌≡◌, ◌⊎◌, ◌≤◌, ◌++◌, ℕ, List, [], true, false, codes, Ok, Option};
+ghost use Rattle.std.specs.Prelude.{◌≡◌, ◌⊎◌, ◌≤◌, ◌++◌, ℕ, List, [], true, false, codes, Ok, Err, Option};
 ghost use Rattle.std.specs.Prelude.{OnOk, IfOk, IfErr, IfSome, IsErrOf};
 ghost use Rattle.outside.specs.Ends.{Rose, Gained, GainedPart};
 ghost use Rattle.shared_session.specs.Replay.{trace_of, AreGood, AreUnspent, IsSound};
@@ -147,6 +147,24 @@ fn replay_noted<K: Sink>(alloc: Global, script: Script, sink: &mut K) -> Ending
     }
 }
 
+/// Refuses a text that was read from a source, whatever the source is, for the line that is at fault.
+fn refuse_noted<K: Sink>(alloc: Global, text: &[u8], line: u32, sink: &mut K) -> Ending
+    ensures does { (source : Side) (source' : Side) (kept : List ℕ)
+        → Decides source.bytes source'.bytes kept → script_of kept ≡ Err line
+        → Does Command.Replay result.0 source source'
+        (side (K.held sink.old) (K.fault_count sink.old))
+        (side (K.held sink.new) (K.fault_count sink.new)) }
+    ensures own { (source : Side) (left : Option (List ℕ)) (kept : List ℕ)
+        → Decides source.bytes left kept → script_of kept ≡ Err line
+        → IsOwn result.0 source result.1 }
+{
+    match refuse_script(alloc, line, sink) {
+        Ok(()) => (Status::Script, script_note(alloc, text, line)),
+        Err(PutError::NoMemory) => (Status::NoMemory, Bytes::new(alloc)),
+        Err(PutError::WriteFault) => (Status::WriteFault, Bytes::new(alloc)),
+    }
+}
+
 /// Reads a script to the source's end, and replays it.
 fn replay_source<S: Source, K: Sink>(alloc: Global, source: &mut S, sink: &mut K) -> Ending
     ensures does { Does Command.Replay result.0
@@ -171,12 +189,15 @@ fn replay_source<S: Source, K: Sink>(alloc: Global, source: &mut S, sink: &mut K
     a_slice_has_bytes(text);
     let script = match read_script(alloc, text) {
         Ok(script) => script,
-        Err(ScriptError::Line(line)) => match refuse_script(alloc, line, sink) {
-            Ok(()) => return (Status::Script, script_note(alloc, text, line)),
-            Err(PutError::NoMemory) => return (Status::NoMemory, Bytes::new(alloc)),
-            Err(PutError::WriteFault) => return (Status::WriteFault, Bytes::new(alloc)),
-        },
-        Err(ScriptError::NoMemory) => return (Status::NoMemory, Bytes::new(alloc)),
+        Err(ScriptError::Line(line)) => {
+            let ending = refuse_noted(alloc, text, line, sink);
+            drop(intake);
+            return ending;
+        }
+        Err(ScriptError::NoMemory) => {
+            drop(intake);
+            return (Status::NoMemory, Bytes::new(alloc));
+        }
     };
     drop(intake);
     replay_noted(alloc, script, sink)
