@@ -88,15 +88,17 @@ fn copy_map(alloc: Global, map: &Option<AddressMap>) -> Result<Option<AddressMap
 }
 
 impl ClusterSettings {
-    /// An equal value of its own.
-    pub fn clone(&self, alloc: Global) -> Result<ClusterSettings, AllocError>
-        ensures { IfOk result (λ settings. settings ≡ self.now) }
+    /// The same words, with these in place of those that own memory.
+    fn with_copies(
+        &self,
+        nodes: Names,
+        password: Option<Bytes>,
+        user: Option<Bytes>,
+        map: Option<AddressMap>,
+    ) -> ClusterSettings
+        ensures { result ≡ record self.now { nodes = nodes; password = password; user = user; map = map } }
     {
-        let nodes = self.nodes.clone(alloc)?;
-        let password = copy_text(alloc, &self.password)?;
-        let user = copy_text(alloc, &self.user)?;
-        let map = copy_map(alloc, &self.map)?;
-        Ok(ClusterSettings {
+        ClusterSettings {
             kind: self.kind,
             nodes,
             connect: self.connect,
@@ -119,6 +121,17 @@ impl ClusterSettings {
             reads: self.reads,
             map,
             attempts: self.attempts,
-        })
+        }
+    }
+
+    /// An equal value of its own.
+    pub fn clone(&self, alloc: Global) -> Result<ClusterSettings, AllocError>
+        ensures { IfOk result (λ settings. settings ≡ self.now) }
+    {
+        let nodes = self.nodes.clone(alloc)?;
+        let password = copy_text(alloc, &self.password)?;
+        let user = copy_text(alloc, &self.user)?;
+        let map = copy_map(alloc, &self.map)?;
+        Ok(self.with_copies(nodes, password, user, map))
     }
 }

@@ -1,5 +1,6 @@
 mod Entries
 mod SubscriptionCalls
+mod Said
 mod Sends
 mod Resubscribing
 mod Links

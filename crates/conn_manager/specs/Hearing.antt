@@ -92,6 +92,19 @@ is_passed_on (link_act.Start message p need len) = false
 is_passed_on (link_act.Outcome p o) = false
 is_passed_on _ = true
 
+-- and the manager says it as its own
+abbrev pub is_said : LinkAct → Bool
+is_said (link_act.Took p count) = true
+is_said (link_act.Timer p ms) = true
+is_said (link_act.RenewalTimer k ms) = true
+is_said link_act.NeedCreds = true
+is_said link_act.NeedRenewals = true
+is_said (link_act.Push info) = true
+is_said (link_act.Write bytes) = true
+is_said (link_act.SetUp message need len) = true
+is_said (link_act.Renewed message need len) = true
+is_said _ = false
+
 -- its acts, in order
 abbrev pub noted_each : ConnectionManager → ℕ → List LinkAct → ConnectionManager
 noted_each m draw [] = m

@@ -1,4 +1,5 @@
 ghost use Rattle.std.specs.Prelude.{◌≡◌, true, Some, IfOk, OnOk, IsErrOf};
+ghost use Rattle.conn_manager.specs.Hearing.{is_said};
 ghost use Rattle.conn_manager.specs.Manager.{pending};
 
 use crate::manager::ConnectionManager;
@@ -24,12 +25,41 @@ fn response_timer(request: u32, ms: u64) -> ManagerAct
     }
 }
 
+/// Whether the manager says an act of its connection as its own.
+fn is_said(act: &LinkAct) -> bool
+    ensures { result ≡ is_said act.now }
+{
+    match act {
+        LinkAct::Took {
+            request: _,
+            count: _,
+        } => true,
+        LinkAct::Timer { request: _, ms: _ } => true,
+        LinkAct::RenewalTimer { number: _, ms: _ } => true,
+        LinkAct::NeedCreds => true,
+        LinkAct::NeedRenewals => true,
+        LinkAct::Push { info: _ } => true,
+        LinkAct::Write { bytes: _ } => true,
+        LinkAct::SetUp {
+            message: _,
+            need: _,
+            len: _,
+        } => true,
+        LinkAct::Renewed {
+            message: _,
+            need: _,
+            len: _,
+        } => true,
+        _ => false,
+    }
+}
+
 impl ConnectionManager {
     ghost use Rattle.driver_model.specs.News.{told};
     ghost use Rattle.mux_conn.specs.Effects.{IsWithin};
     ghost use Rattle.conn_manager.specs.Hearing.{has_names, set_up, opening_failed, opened, resubscribed};
     ghost use Rattle.conn_manager.specs.Hearing.{closed, came_to, waits, starts, noted, noted_each};
-    ghost use Rattle.conn_manager.specs.Hearing.{is_passed_on};
+    ghost use Rattle.conn_manager.specs.Hearing.{is_passed_on, is_said};
     ghost use Rattle.conn_manager.specs.Hearing.{affected, timed_out};
 
     /// Whether some name is subscribed.
@@ -142,14 +172,13 @@ impl ConnectionManager {
         })
     }
 
-    /// An act of the connection that changes nothing of the manager's own is passed on, or let go.
-    fn pass_on(&mut self, draw: u64, act: LinkAct) -> Result<(), AllocError>
-        requires { is_passed_on act ≡ true }
+    /// An act of the connection that the manager says as its own is said.
+    fn say_of_link(&mut self, draw: u64, act: LinkAct) -> Result<(), AllocError>
+        requires { is_said act ≡ true }
         ensures { OnOk result (self.new ≡ noted self.old draw act) }
     {
         let link = self.link();
         match act {
-            LinkAct::Round { request: _ } => Ok(()),
             LinkAct::Took { request, count } => self.say(ManagerAct::Took {
                 request: Pending { number: request },
                 count,
@@ -159,23 +188,9 @@ impl ConnectionManager {
                 timer: ManagerTimer::Renewal { link, number },
                 ms,
             }),
-            LinkAct::RepeatTimer { ms: _ } => Ok(()),
             LinkAct::NeedCreds => self.say(ManagerAct::NeedCreds { link }),
             LinkAct::NeedRenewals => self.say(ManagerAct::NeedCreds { link }),
             LinkAct::Push { info } => self.say(ManagerAct::Push { link, info }),
-            LinkAct::Message { msg } => {
-                drop(msg);
-                Ok(())
-            }
-            LinkAct::Monitor { value } => {
-                drop(value);
-                Ok(())
-            }
-            LinkAct::Watch {
-                message: _,
-                need: _,
-                len: _,
-            } => Ok(()),
             LinkAct::Write { bytes } => self.say(ManagerAct::Write { link, bytes }),
             LinkAct::SetUp { message, need, len } => self.say(ManagerAct::SetUp {
                 link,
@@ -189,28 +204,21 @@ impl ConnectionManager {
                 need,
                 len,
             }),
-            LinkAct::Repeated {
-                message: _,
-                need: _,
-                len: _,
-            } => Ok(()),
-            LinkAct::Created { error: _ } => unreachable!(),
-            LinkAct::Close => unreachable!(),
-            LinkAct::Wait {
-                request: _,
-                wait: _,
-            } => unreachable!(),
-            LinkAct::Start {
-                message: _,
-                request: _,
-                need: _,
-                len: _,
-            } => unreachable!(),
-            LinkAct::Outcome {
-                request: _,
-                outcome: _,
-            } => unreachable!(),
+            _ => unreachable!(),
         }
+    }
+
+    /// An act of the connection that changes nothing of the manager's own is passed on, or let go.
+    #[tactic(auto, using(crate::proofs::Said::unsaid))]
+    fn pass_on(&mut self, draw: u64, act: LinkAct) -> Result<(), AllocError>
+        requires { is_passed_on act ≡ true }
+        ensures { OnOk result (self.new ≡ noted self.old draw act) }
+    {
+        if is_said(&act) {
+            return self.say_of_link(draw, act);
+        }
+        drop(act);
+        Ok(())
     }
 
     /// An act of the connection.

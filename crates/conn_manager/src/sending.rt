@@ -62,6 +62,24 @@ impl ConnectionManager {
         Ok(())
     }
 
+    /// A generation begins with it, and it waits.
+    fn begin_with(&mut self, alloc: Global, request: HeldRequest) -> Result<(), ConnectionError>
+        ensures done { OnOk result (self.new ≡ waiting (begins self.old) request) }
+        ensures outcomes { self.new.outcomes ≡ self.old.outcomes }
+        ensures spent { IsErrOf result ConnectionError.Spent
+            → runs_out (begins self.old).generations ≡ true }
+    {
+        match self.begin(alloc) {
+            Ok(()) => {}
+            Err(error) => {
+                drop(request);
+                return Err(error);
+            }
+        }
+        self.hold(request)?;
+        Ok(())
+    }
+
     /// It is answered at once with this error, which may be a cause for the next generation.
     fn answer_at_once(
         &mut self,
@@ -92,14 +110,7 @@ impl ConnectionManager {
             → runs_out (placed_at self.old request self.old.generations.phase).generations ≡ true }
     {
         match &self.generations.phase {
-            Phase::Idle => {
-                match self.begin(alloc) {
-                    Ok(()) => {}
-                    Err(error) => return Err(error),
-                }
-                self.hold(request)?;
-                Ok(())
-            }
+            Phase::Idle => self.begin_with(alloc, request),
             Phase::Opening => {
                 self.hold(request)?;
                 Ok(())

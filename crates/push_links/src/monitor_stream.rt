@@ -46,7 +46,10 @@ fn converted<T: FromRedisValue>(alloc: Global, value: Value) -> Result<Option<T>
 {
     match T::from_redis_value(alloc, value) {
         Ok(item) => Ok(Some(item)),
-        Err(ConvertError::Convert { value: _ }) => Ok(None),
+        Err(ConvertError::Convert { value }) => {
+            drop(value);
+            Ok(None)
+        }
         Err(ConvertError::NoMemory) => Err(AllocError),
     }
 }
