@@ -31,6 +31,8 @@ pub fn others_stand_in()
         (having (Connected 0) (Reconnecting 1) (Connected 2)) ≡ at 0 7_002 2 }
     ensures primary { tried (Some by.Random) None (to 12 ReplicaOptional)
         (having (Connected 0) (Reconnecting 1) Connecting) ≡ at 1 7_000 0 }
+    ensures replica_first { tried (Some by.Random) None (to 12 ReplicaOptional)
+        (having (Connected 0) (Connected 1) (Reconnecting 2)) ≡ at 1 7_001 1 }
     ensures random { tried None None (to 12 Master)
         (having (Reconnecting 0) (Connected 1) (Connected 2)) ≡ at 1 7_002 2 }
     ensures both_draws { tried (Some by.Random) None (to 12 ReplicaRequired)

@@ -8,7 +8,7 @@ use Rattle.resp_value.specs.Data.{Data, nil, int, array, simple, dict, attribute
 use Rattle.resp_read.specs.Grammar.{max_depth}
 use Rattle.resp_read.specs.Parser.{read, short, bad, Found, found_and_then, found_map, parse}
 use Rattle.resp_read.proofs.ReadLaws.{reads_where_found, malformed_from_bad}
-use Rattle.protocol_examples.specs.Limits.{Wrapping, wrapped_text, wrapped, wrappings, MayNest, MayHoldNil, MayNotNest, MayNotHoldEmpty}
+use Rattle.protocol_examples.specs.Limits.{Wrapping, wrapped_text, wrapped, wrappings, MayNest, MayHoldNil, MayNotNest, MayNotHoldEmpty, MayNotHoldLess}
 use Rattle.protocol_examples.proofs.Computed.{each}
 
 -- a value in one of these is what it is around it, at any depth; and where none more may stand, it is none
@@ -94,6 +94,10 @@ may_not_hold_empty : (w : Wrapping) → Wraps w → MayNotHoldEmpty 100 w
 unfolding max_depth
 may_not_hold_empty w is = malformed_from_bad (wrapped_text w (codes "*0\r\n") 100) (nested_bad w is (codes "*0\r\n") refl 100)
 
+may_not_hold_less : (w : Wrapping) → Wraps w → MayNotHoldLess 100 w
+unfolding max_depth
+may_not_hold_less w is = malformed_from_bad (wrapped_text w (codes "*-2\r\n") 100) (nested_bad w is (codes "*-2\r\n") refl 100)
+
 pub each_nests : All (MayNest 100) wrappings
 each_nests = of_each (MayNest 100) may_nest
 
@@ -105,3 +109,6 @@ none_nests_deeper = of_each (MayNotNest 101) may_not_nest
 
 pub none_holds_empty : All (MayNotHoldEmpty 100) wrappings
 none_holds_empty = of_each (MayNotHoldEmpty 100) may_not_hold_empty
+
+pub none_holds_less : All (MayNotHoldLess 100) wrappings
+none_holds_less = of_each (MayNotHoldLess 100) may_not_hold_less

@@ -24,6 +24,14 @@ pub older_bytes : length (pack_pipeline (pipeline_of (setup (plain RESP2) true))
 unfolding digits
 older_bytes = refl
 
+pub older_user : pack_pipeline (pipeline_of (opening RESP2 (Some (codes "u")) (Some (codes "pw")))) ≡ codes "*3\r\n$4\r\nAUTH\r\n$1\r\nu\r\n$2\r\npw\r\n"
+unfolding digits
+older_user = refl
+
+pub newer_user : pack_pipeline (pipeline_of (opening RESP3 (Some (codes "u")) (Some (codes "pw")))) ≡ codes "*5\r\n$5\r\nHELLO\r\n$1\r\n3\r\n$4\r\nAUTH\r\n$1\r\nu\r\n$2\r\npw\r\n"
+unfolding digits
+newer_user = refl
+
 pub unnamed : (info : RedisConnectionInfo) → setup info false ≡ setup (record info { username = None }) true
 unnamed info = refl
 

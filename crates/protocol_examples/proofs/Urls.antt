@@ -5,7 +5,7 @@ use Rattle.std.proofs.lemmas.Str.{IsUtf8-from_is_utf8}
 use Rattle.std.specs.Str.Lossy.{utf8_lossy, utf8_valid_len}
 use Rattle.url.proofs.OnLiterals.{url_on_literals}
 use Rattle.percent_encoding.proofs.OnLiterals.{percent_encoding_on_literals}
-use Rattle.connection_info.specs.declared.protocol.ProtocolVersion.TheVariants.{RESP2}
+use Rattle.connection_info.specs.declared.protocol.ProtocolVersion.TheVariants.{RESP2, RESP3}
 use Rattle.connection_info.specs.Address.{address_of}
 use Rattle.connection_info.specs.Written.{url_of, ReadsBack}
 use Rattle.protocol_examples.specs.Connections.{at, place, secured}
@@ -21,6 +21,10 @@ database = refl
 pub every_part : address_of (codes "valkey://u%40v:p%3Aq@[::1]:7000/2?a=b&protocol=3#c") ≡ Some (secured (codes "::1") 7000 (codes "u@v") (codes "p:q"))
 unfolding url_on_literals utf8_lossy utf8_valid_len
 every_part = refl
+
+pub first_protocol : address_of (codes "redis://h?protocol=resp3&protocol=2") ≡ Some (at (codes "h") 6379 (pos 0) RESP3)
+unfolding url_on_literals utf8_lossy utf8_valid_len
+first_protocol = refl
 
 pub encrypted : address_of (codes "rediss://h") ≡ None
 unfolding url_on_literals

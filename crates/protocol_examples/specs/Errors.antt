@@ -9,9 +9,11 @@ use Rattle.resp_value.specs.declared.server_error.ServerError.{ServerError}
 use Rattle.resp_value.specs.declared.value.Value.TheVariants.{Nil}
 use Rattle.resp_value.specs.ErrorTable.{kind_of, method_of}
 use Rattle.resp_value.specs.Redirect.{IsRedirect}
+use Rattle.redis_error.specs.declared.config_name.ConfigName.{ConfigName}
 use Rattle.redis_error.specs.declared.config_name.ConfigName.TheVariants as config
 use Rattle.redis_error.specs.declared.error_kind.ErrorKind.{ErrorKind}
 use Rattle.redis_error.specs.declared.error_kind.ErrorKind.TheVariants as kind
+use Rattle.redis_error.specs.declared.fault_kind.FaultKind.{FaultKind}
 use Rattle.redis_error.specs.declared.fault_kind.FaultKind.TheVariants as fault
 use Rattle.redis_error.specs.declared.redis_error.RedisError.{RedisError}
 use Rattle.redis_error.specs.declared.redis_error.RedisError.TheVariants as error
@@ -177,4 +179,38 @@ errors_in_words =
     ∷ (error.RouteWithoutLink (3 ∷ 0 ∷ []), codes "no-link 3 0\n")
     ∷ (error.CreateFailed (codes "io refused"), codes "create-failed io%20refused\n")
     ∷ (error.Convert Nil, codes "convert _%0D%0A\n")
+    ∷ []
+
+-- the kinds of faults by their names
+abbrev pub names_of_faults : List (FaultKind × List ℕ)
+names_of_faults =
+    (fault.Refused, codes "refused")
+    ∷ (fault.Reset, codes "reset")
+    ∷ (fault.Aborted, codes "aborted")
+    ∷ (fault.NotConnected, codes "not-connected")
+    ∷ (fault.BrokenPipe, codes "broken-pipe")
+    ∷ (fault.Eof, codes "eof")
+    ∷ (fault.TimedOut, codes "timed-out")
+    ∷ (fault.Interrupted, codes "interrupted")
+    ∷ (fault.Denied, codes "denied")
+    ∷ (fault.Other, codes "other")
+    ∷ []
+
+-- and what is refused of a configuration
+abbrev pub names_of_settings : List (ConfigName × List ℕ)
+names_of_settings =
+    (config.Url, codes "url")
+    ∷ (config.Push, codes "push")
+    ∷ (config.Limit, codes "limit")
+    ∷ (config.Buffer, codes "buffer")
+    ∷ (config.Resub, codes "resub")
+    ∷ (config.Base, codes "base")
+    ∷ (config.Nodes, codes "nodes")
+    ∷ (config.Password, codes "password")
+    ∷ (config.User, codes "user")
+    ∷ (config.Protocol, codes "protocol")
+    ∷ (config.Database, codes "database")
+    ∷ (config.Keys, codes "keys")
+    ∷ (config.Creds, codes "creds")
+    ∷ (config.Kind, codes "kind")
     ∷ []

@@ -10,3 +10,5 @@ pub mod Tracking
 pub mod Routes
 pub mod SlotRows
 pub mod Connections
+pub mod Conversions
+pub mod Lines

@@ -46,6 +46,10 @@ MayNotNest n w = IsMalformed (wrapped_text w (codes ":1\r\n") n)
 abbrev pub MayNotHoldEmpty : ℕ → Wrapping → Type 0
 MayNotHoldEmpty n w = IsMalformed (wrapped_text w (codes "*0\r\n") n)
 
+-- nor so many with an array of a size below -1 inside
+abbrev pub MayNotHoldLess : ℕ → Wrapping → Type 0
+MayNotHoldLess n w = IsMalformed (wrapped_text w (codes "*-2\r\n") n)
+
 -- a line of so many bytes, none of them a CR, is a simple string
 abbrev pub IsReadToItsEnd : ℕ → Type 0
 IsReadToItsEnd n = (text rest : List ℕ) → length text ≡ n → All (λ b. b ≢ 13) text → Reads (codes "+" ++ text ++ (codes "\r\n" ++ rest)) (simple text) rest

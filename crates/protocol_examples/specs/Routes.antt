@@ -12,6 +12,8 @@ use Rattle.command_table.specs.declared.routing.SingleNodeRoutingInfo.TheVariant
 use Rattle.command_table.specs.declared.routing.RoutingInfo.{RoutingInfo}
 use Rattle.command_table.specs.declared.routing.RoutingInfo.TheVariants.{SingleNode, MultiNode}
 use Rattle.command_table.specs.Selection.{part_of}
+use Rattle.resp_write.specs.Pack.{commands_of}
+use Rattle.mux_routing.specs.Routes.{Agreement, agreed, agreement, crossed}
 
 -- a command's name and arguments, and its route, if it has a name
 abbrev pub Routing : Type 0
@@ -105,4 +107,65 @@ abbrev pub commands_of_parts : List ((List (List ℕ) × List ℕ) × List (List
 commands_of_parts =
     ((codes "MGET" ∷ codes "a" ∷ codes "b" ∷ codes "c" ∷ [], 0 ∷ 2 ∷ []), codes "MGET" ∷ codes "a" ∷ codes "c" ∷ [])
     ∷ ((codes "MSET" ∷ codes "a" ∷ codes "1" ∷ codes "b" ∷ codes "2" ∷ [], 1 ∷ []), codes "MSET" ∷ codes "b" ∷ codes "2" ∷ [])
+    ∷ []
+
+-- further commands by their names alone: of two words, and of one
+abbrev pub routes_by_name : List Routing
+routes_by_name =
+    (codes "FUNCTION" ∷ codes "LOAD" ∷ codes "x" ∷ [], to_several AllMasters AllSucceeded)
+    ∷ (codes "FUNCTION" ∷ codes "DELETE" ∷ codes "x" ∷ [], to_several AllMasters AllSucceeded)
+    ∷ (codes "FUNCTION" ∷ codes "FLUSH" ∷ [], to_several AllMasters AllSucceeded)
+    ∷ (codes "SCRIPT" ∷ codes "FLUSH" ∷ [], to_several AllMasters AllSucceeded)
+    ∷ (codes "SCRIPT" ∷ codes "KILL" ∷ [], to_several AllMasters OneSucceeded)
+    ∷ (codes "CONFIG" ∷ codes "RESETSTAT" ∷ [], to_several AllNodes AllSucceeded)
+    ∷ (codes "CONFIG" ∷ codes "REWRITE" ∷ [], to_several AllNodes AllSucceeded)
+    ∷ (codes "CLIENT" ∷ codes "SETNAME" ∷ codes "x" ∷ [], to_several AllNodes AllSucceeded)
+    ∷ (codes "SLOWLOG" ∷ codes "RESET" ∷ [], to_several AllNodes AllSucceeded)
+    ∷ (codes "SLOWLOG" ∷ codes "GET" ∷ [], to_several AllNodes Special)
+    ∷ (codes "MEMORY" ∷ codes "STATS" ∷ [], to_several AllNodes Special)
+    ∷ (codes "PUBSUB" ∷ codes "NUMPAT" ∷ [], to_several AllNodes Sum)
+    ∷ (codes "PUBSUB" ∷ codes "SHARDCHANNELS" ∷ [], to_several AllNodes CombineArrays)
+    ∷ (codes "PUBSUB" ∷ codes "SHARDNUMSUB" ∷ [], to_several AllNodes CombineMaps)
+    ∷ (codes "LASTSAVE" ∷ [], to_several AllNodes Special)
+    ∷ (codes "FLUSHDB" ∷ [], to_several AllMasters AllSucceeded)
+    ∷ (codes "CLIENT" ∷ codes "GETNAME" ∷ [], to_one Random)
+    ∷ (codes "SCAN" ∷ codes "0" ∷ [], to_one Random)
+    ∷ (codes "PUBLISH" ∷ codes "foo" ∷ codes "x" ∷ [], to_one Random)
+    ∷ (codes "CLUSTER" ∷ codes "SLOTS" ∷ [], to_one Random)
+    ∷ (codes "EVALSHA" ∷ codes "sha" ∷ codes "1" ∷ codes "foo" ∷ [], to_slot Master 12_182)
+    ∷ (codes "EVALSHA_RO" ∷ codes "sha" ∷ codes "1" ∷ codes "foo" ∷ [], to_slot ReplicaOptional 12_182)
+    ∷ (codes "EVAL_RO" ∷ codes "return 1" ∷ codes "1" ∷ codes "foo" ∷ [], to_slot ReplicaOptional 12_182)
+    ∷ (codes "FCALL" ∷ codes "f" ∷ codes "1" ∷ codes "foo" ∷ [], to_slot Master 12_182)
+    ∷ (codes "BITOP" ∷ codes "AND" ∷ codes "foo" ∷ codes "bar" ∷ [], to_slot Master 12_182)
+    ∷ (codes "XINFO" ∷ codes "STREAM" ∷ codes "foo" ∷ [], to_slot ReplicaOptional 12_182)
+    ∷ (codes "UNLINK" ∷ codes "foo" ∷ [], to_slot Master 12_182)
+    ∷ (codes "TOUCH" ∷ codes "foo" ∷ [], to_slot Master 12_182)
+    ∷ []
+
+-- what the commands of a pipeline agree on, by this draw
+abbrev pub agreed_by : ℕ × List (List (List ℕ)) → Agreement
+agreed_by asked = agreement asked.0 (commands_of asked.1)
+
+abbrev get : List ℕ → List (List ℕ)
+get key = codes "GET" ∷ key ∷ []
+
+abbrev set : List ℕ → List (List ℕ)
+set key = codes "SET" ∷ key ∷ codes "1" ∷ []
+
+abbrev pub on_slot : SlotAddr → ℕ → Agreement
+on_slot addr slot = agreed (Some (record { slot = slot; addr = addr }))
+
+-- pipelines: to the slot of all their keys, and to its primary where one command is for that; a slot is drawn for any primary; what
+-- goes to any node, or to several, doesn't count; and the slots of the first two keys that differ
+abbrev pub pipelines_routed : List ((ℕ × List (List (List ℕ))) × Agreement)
+pipelines_routed =
+    ((0, []), agreed None)
+    ∷ ((0, (codes "ECHO" ∷ codes "x" ∷ []) ∷ (codes "PING" ∷ []) ∷ []), agreed None)
+    ∷ ((0, get (codes "foo") ∷ get (codes "{foo}bar") ∷ []), on_slot ReplicaOptional 12_182)
+    ∷ ((0, get (codes "foo") ∷ set (codes "foo") ∷ []), on_slot Master 12_182)
+    ∷ ((0, set (codes "foo") ∷ get (codes "foo") ∷ []), on_slot Master 12_182)
+    ∷ ((0, (codes "ECHO" ∷ codes "x" ∷ []) ∷ get (codes "foo") ∷ (codes "MGET" ∷ codes "bar" ∷ codes "baz" ∷ []) ∷ []), on_slot ReplicaOptional 12_182)
+    ∷ ((16_390, (codes "EVAL" ∷ codes "s" ∷ codes "0" ∷ []) ∷ []), on_slot Master 6)
+    ∷ ((0, get (codes "foo") ∷ get (codes "foo") ∷ get (codes "bar") ∷ get (codes "baz") ∷ []), crossed 12_182 5_061)
+    ∷ ((0, set (codes "bar") ∷ get (codes "foo") ∷ []), crossed 5_061 12_182)
     ∷ []

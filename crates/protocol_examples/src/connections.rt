@@ -9,7 +9,7 @@ ghost use Rattle.connection_info.specs.declared.protocol.ProtocolVersion.TheVari
 ghost use Rattle.connection_info.specs.Address.{address_of};
 ghost use Rattle.connection_info.specs.Written.{url_of, ReadsBack};
 ghost use Rattle.connection_setup.specs.declared.judgement.SetupResult.TheVariants.{Ready, RepeatWithoutUser, Failed};
-ghost use Rattle.connection_setup.specs.Setup.{pipeline_of, setup};
+ghost use Rattle.connection_setup.specs.Setup.{opening, pipeline_of, setup};
 ghost use Rattle.connection_setup.specs.Judgement.{judged};
 ghost use Rattle.protocol_examples.specs.Connections.{an_error, at, counted, plain, place, secured, with_name};
 
@@ -19,6 +19,8 @@ pub fn these_are_addresses()
     ensures database { address_of (codes "redis://h/4") ≡ Some (at (codes "h") 6379 (pos 4) RESP2) }
     ensures every_part { address_of (codes "valkey://u%40v:p%3Aq@[::1]:7000/2?a=b&protocol=3#c")
         ≡ Some (secured (codes "::1") 7000 (codes "u@v") (codes "p:q")) }
+    ensures first_protocol { address_of (codes "redis://h?protocol=resp3&protocol=2")
+        ≡ Some (at (codes "h") 6379 (pos 0) RESP3) }
 {}
 
 /// Does nothing. Its contract: these texts are no addresses, and neither is any text of more than a mebibyte.
@@ -40,13 +42,18 @@ pub fn these_are_written()
     ensures read { ReadsBack (secured (codes "::1") 7000 (codes "u@v") (codes "p:q")) }
 {}
 
-/// Does nothing. Its contract: how many bytes and commands the setups have that say least, and that a setup without
-/// its user name is that of an address without one.
+/// Does nothing. Its contract: how many bytes and commands the setups have that say least, what they begin with where a user is said
+/// to have a password, and that a setup without its user name is that of an address without one.
 pub fn these_are_setups()
     ensures newer_bytes { length (pack_pipeline (pipeline_of (setup (plain RESP3) true))) ≡ 132 }
     ensures newer_commands { length (setup (plain RESP3) true) ≡ 3 }
     ensures older_bytes { length (pack_pipeline (pipeline_of (setup (plain RESP2) true))) ≡ 110 }
     ensures older_commands { length (setup (plain RESP2) true) ≡ 2 }
+    ensures older_user { pack_pipeline (pipeline_of (opening RESP2 (Some (codes "u")) (Some (codes "pw"))))
+        ≡ codes "*3\r\n$4\r\nAUTH\r\n$1\r\nu\r\n$2\r\npw\r\n" }
+    ensures newer_user { pack_pipeline (pipeline_of (opening RESP3 (Some (codes "u")) (Some (codes "pw"))))
+        ≡ codes "*5\r\n$5\r\nHELLO\r\n$1\r\n3\r\n$4\r\nAUTH\r\n$1\r\nu\r\n$2\r\npw\r\n" }
+    ensures no_password { (name : List ℕ) → opening RESP2 (Some name) None ≡ [] }
     ensures unnamed { (info : RedisConnectionInfo)
         → setup info false ≡ setup (record info { username = None }) true }
 {}

@@ -4,7 +4,7 @@ ghost use Rattle.std.specs.Prelude.{ℕ};
 ghost use Rattle.std.specs.List.{All};
 ghost use Rattle.resp_read.specs.Reads.{IsProperPrefix, IsMalformed};
 ghost use Rattle.protocol_examples.specs.Grammar.{IsValue, lines, scalars, sized_texts, lists, tagged, malformed_lines, malformed_lengths, short_lines, short_lengths, BeginsNone};
-ghost use Rattle.protocol_examples.specs.Limits.{wrappings, MayNest, MayHoldNil, MayNotNest, MayNotHoldEmpty, IsReadToItsEnd, IsTooLong, greatest_lengths, lengths_too_great};
+ghost use Rattle.protocol_examples.specs.Limits.{wrappings, MayNest, MayHoldNil, MayNotNest, MayNotHoldEmpty, MayNotHoldLess, IsReadToItsEnd, IsTooLong, greatest_lengths, lengths_too_great};
 
 /// Does nothing. Its contract: each of these texts is the value beside it, whatever follows it.
 pub fn these_texts_are_values()
@@ -33,12 +33,13 @@ pub fn no_other_byte_begins_a_value()
 {}
 
 /// Does nothing. Its contract: a hundred aggregates of a kind may stand in one another, and one more may not; the array
-/// that is Nil is no aggregate, and the empty one is.
+/// that is Nil is no aggregate, and the empty one is; and a size below -1 is none.
 pub fn a_hundred_aggregates_nest()
     ensures at_most { All (MayNest 100) wrappings }
     ensures nil_inside { All (MayHoldNil 100) wrappings }
     ensures one_more { All (MayNotNest 101) wrappings }
     ensures empty_inside { All (MayNotHoldEmpty 100) wrappings }
+    ensures less_inside { All (MayNotHoldLess 100) wrappings }
 {}
 
 /// Does nothing. Its contract: a line has at most 1,048,576 bytes, a text of announced length at most 536,870,912, and

@@ -8,7 +8,8 @@ ghost use Rattle.credentials.specs.Message.{auth_bytes};
 ghost use Rattle.credentials.specs.Refresh.{default_refresh};
 ghost use Rattle.credentials.specs.Threshold.{refresh_threshold};
 
-/// Does nothing. Its contract: how long after they came credentials are renewed, in seconds of these moments.
+/// Does nothing. Its contract: how long after they came credentials are renewed, in seconds of these moments, and how
+/// a renewal that failed is tried again where nothing is said.
 pub fn these_are_renewed()
     ensures hour { refresh_threshold 0 3600 4 5 ≡ Some 2880 }
     ensures no_later { refresh_threshold 0 3600 4 5 ≢ Some 2881 }
@@ -21,6 +22,10 @@ pub fn these_are_renewed()
         ≡ Some 18_446_744_073_709_551_615 }
     ensures saturated { refresh_threshold 0 18_446_744_073_709_551_615 2 1
         ≡ Some 18_446_744_073_709_551_615 }
+    ensures tried_again { default_refresh.retry_config.number_of_retries ≡ 3 }
+    ensures waits { default_refresh.retry_config.min_delay ≡ 100 }
+    ensures waits_longest { default_refresh.retry_config.max_delay ≡ 30_000 }
+    ensures doubled { default_refresh.retry_config.exponent_base ≡ (2, 1) }
 {}
 
 /// Does nothing. Its contract: the bytes that tell these credentials, which are those of a setup of the older protocol with

@@ -32,7 +32,7 @@ use Rattle.legal_trace.specs.Story.{Try, last_of, is_open, is_unstarted, bytes_o
 use Rattle.legal_trace.specs.Managers.{settings_in, is_lazy}
 use Rattle.legal_trace.specs.Again.{again_message}
 use Rattle.legal_trace.specs.Book.{Book, blank_book, book, renewal_in, entered, entered_each}
-use Rattle.legal_trace.specs.Steps.{is_held_back, rounds, takes, asks, tells, starts, next_step}
+use Rattle.legal_trace.specs.Steps.{is_held_back, is_renewal_held, rounds, takes, asks, tells, starts, next_step}
 use Rattle.legal_trace.specs.Owed.{owed}
 use Rattle.legal_trace.specs.Events.{is_bad_event}
 use Rattle.legal_trace.specs.Legal.{IsOpen, IsWaiting, IsBefore, is_heard, are_pushes_heard, link_of, MayNotify, MayPart, MayPushBy, MayTurn, MayConnect, MayGenerate, MayRest, MayTimeConnect, MayTime, MayTimeRenewal, MayTimeRepeat, MayNeed, MayRenew, MayRepeat, MayRoundOn, MayTake, MayWatch, MayTimer, answer_time, rest_due, generation_due, link_due, word_of, MayClose, MaySetUp, MayBeCreated, MayBeLazy, MayFail, MayAnswer, MayTell, MayStart, MayWrite, MayWait, MayStand, AllStand, causes, event_causes, Legal}
@@ -537,7 +537,7 @@ renew_due b l message count len =
 
 -- what this says
 renew_stands : (b : Book) (l message count len : ℕ) → IsBounded b → renew_due b l message count len ≡ true → MayRenew b l message count len
-renew_stands b l message count len bounded e = of_due (renewal_due (b.link l)) refl (both_left (is_some (renewal_due (b.link l))) (not (is_held_back b (b.link l))) mine)
+renew_stands b l message count len bounded e = of_due (renewal_due (b.link l)) refl (both_left (is_some (renewal_due (b.link l))) (not (is_renewal_held b l)) mine)
   where
     mine : can_renew b l ≡ true
     mine = search (both_left, both_right)
@@ -557,8 +557,8 @@ renew_stands b l message count len bounded e = of_due (renewal_due (b.link l)) r
           timed = renewals_are_timed b bounded (search (both_left, both_right));
           credentials = c;
           due = same;
-          free = not-true (is_held_back b (b.link l)) (both_right (is_some (renewal_due (b.link l))) (not (is_held_back b (b.link l))) mine);
-          in_order = λ m other before due. second_fails (is_some (renewal_due (b.link m))) (is_held_back b (b.link m)) (below (λ j. not (can_renew b j)) l m (search (both_left, both_right)) before) (ap is_some due);
+          free = not-true (is_renewal_held b l) (both_right (is_some (renewal_due (b.link l))) (not (is_renewal_held b l)) mine);
+          in_order = λ m other before due. second_fails (is_some (renewal_due (b.link m))) (is_renewal_held b m) (below (λ j. not (can_renew b j)) l m (search (both_left, both_right)) before) (ap is_some due);
           next = eq_from message (length (b.link l).starts) (search (both_left, both_right));
           needs_its_items = eq_from count (need_of (renewal_in (renewal_due (b.link l))).shape) (search (both_left, both_right)) ∙ ap (λ o. need_of (renewal_in o).shape) same;
           long_as_its_bytes = eq_from len (length (renewal_in (renewal_due (b.link l))).bytes) (search (both_left, both_right)) ∙ ap (λ o. length (renewal_in o).bytes) same;

@@ -23,3 +23,4 @@ pub mod Creds
 pub mod Renewals
 pub mod Listeners
 pub mod Takings
+pub mod Stays

@@ -41,7 +41,7 @@ use Rattle.trace_examples.proofs.Due.{IsPlace, legal, stands}
 use Rattle.trace_examples.proofs.Stood.{book_of, may_stand, still_open}
 
 -- h and 6379, where this protocol is spoken
-abbrev server_of : ProtocolVersion → ConnectionInfo
+abbrev pub server_of : ProtocolVersion → ConnectionInfo
 server_of protocol = record {
   host = codes "h";
   port = 6379;
@@ -60,14 +60,14 @@ is_tried : (lazy : Bool) (retries : ℕ) → address (trying lazy retries) ≡ S
 unfolding url_on_literals utf8_lossy utf8_valid_len
 is_tried lazy retries = refl
 
-at_tried : (lazy : Bool) (retries : ℕ) → IsPlace (trying lazy retries) (codes "h") 6379
+pub at_tried : (lazy : Bool) (retries : ℕ) → IsPlace (trying lazy retries) (codes "h") 6379
 at_tried lazy retries = record { sound = ap (λ at. manager_fault at (tries retries)) (is_tried lazy retries); info = server_of RESP2; configured = is_tried lazy retries; is = (refl, refl) }
 
 is_repeated : address resubscribing ≡ Some (server_of RESP3)
 unfolding url_on_literals utf8_lossy utf8_valid_len
 is_repeated = refl
 
-at_repeated : IsPlace resubscribing (codes "h") 6379
+pub at_repeated : IsPlace resubscribing (codes "h") 6379
 at_repeated = record { sound = ap (λ at. manager_fault at repeats) is_repeated; info = server_of RESP3; configured = is_repeated; is = (refl, refl) }
 
 abbrev repeats_in_time : ConnectionManagerConfig

@@ -25,10 +25,10 @@ use Rattle.legal_trace.specs.Events.{is_bad_event}
 use Rattle.legal_trace.specs.Ledger.{Start, renewal_message}
 use Rattle.legal_trace.proofs.Plain.{same_some}
 use Rattle.legal_trace.specs.Legal.{MayTurn}
-use Rattle.trace_examples.specs.Parts.{turn, command, okay_line}
+use Rattle.trace_examples.specs.Parts.{turn, command, unawaited, okay_line}
 use Rattle.trace_examples.specs.Setups.{wrong_password}
 use Rattle.trace_examples.specs.Creds.{sourced, no_credentials}
-use Rattle.trace_examples.specs.Renewals.{sourced_in_time, sourced_at_a_time, of_letter, line_of, first_taken, needed_again, renewal_came, renewal_told, second_came, renewal_taken, renewal_refused, asked_behind, one_answered, answered_late, answered_in_time, let_go, came_behind, place_is_taken, once_set_up, renewal_fronts}
+use Rattle.trace_examples.specs.Renewals.{sourced_in_time, sourced_at_a_time, sourced_one_by_one, of_letter, line_of, first_taken, needed_again, renewal_came, renewal_told, second_came, renewal_taken, renewal_refused, asked_behind, one_answered, answered_late, answered_in_time, came_between, second_gone, told_between, let_go, came_behind, place_is_taken, once_set_up, renewal_fronts}
 use Rattle.trace_examples.specs.Claims.{IsTraceIn, NoneBeginsIn}
 use Rattle.trace_examples.specs.Fronts.{EachStands}
 use Rattle.trace_examples.proofs.Creds.{at_sourced}
@@ -58,6 +58,14 @@ is_server_at_a_time = refl
 
 at_a_time : IsPlace sourced_at_a_time (codes "h") 6379
 at_a_time = record { sound = ap (λ a. fault_in a false None 1) is_server_at_a_time; info = server; configured = is_server_at_a_time; is = (refl, refl) }
+
+-- and where its queue holds more than one message
+is_server_one_by_one : address sourced_one_by_one ≡ Some server
+unfolding url_on_literals utf8_lossy utf8_valid_len
+is_server_one_by_one = refl
+
+one_by_one : IsPlace sourced_one_by_one (codes "h") 6379
+one_by_one = record { sound = ap (λ a. fault_in a false None 50) is_server_one_by_one; info = server; configured = is_server_one_by_one; is = (refl, refl) }
 
 -- the first credentials are said in the setup, and later ones told by AUTH; the end of their source changes nothing
 pub set_up_and_renewed : IsTraceIn sourced
@@ -119,14 +127,33 @@ pub fired_behind_the_reply : IsTraceIn sourced_in_time
 unfolding digits settings_in is_lazy is_bad_event items values left_over is_spoiled max_depth url_on_literals utf8_lossy utf8_valid_len
 fired_behind_the_reply word = legal sourced_in_time word _ _ refl refl (at_in_time, (refl, (refl, (refl, (refl, (refl, tt))))))
 
--- on a link that is held back they wait before all requests, also where its queue is full
-pub before_a_full_queue : IsTraceIn sourced_at_a_time
-    (once_set_up (event.Submit (command 71) ∷ event.Submit (command 72) ∷ event.Creds 1 (of_letter 113) ∷ event.Submit (command 73) ∷ event.Wrote 0 11 ∷ event.Wrote 0 28 ∷ []))
-    let_go
-    (action.Start 0 2 owner.Auth 1 28 ∷ action.Write 0 (line_of 113) ∷
-    turn 10 (event.Wrote 0 28) ∷ action.Start 0 3 (owner.Try 1 0) 1 11 ∷ action.Write 0 (packed_bytes (command 72)) ∷ action.Wait (owner.Try 2 0) wait.Room ∷ [])
+-- on a link that is held back they wait behind the requests that have their place, and before all others
+pub in_the_order_of_places : IsTraceIn sourced_one_by_one
+    (once_set_up
+    (event.Submit (command 71) ∷ event.Submit (command 72) ∷ event.Creds 1 (of_letter 113) ∷ event.Submit (command 73) ∷ event.Wrote 0 11 ∷ event.Wrote 0 11 ∷ event.Wrote 0 28 ∷ []))
+    second_gone
+    (action.Start 0 3 owner.Auth 1 28 ∷ action.Write 0 (line_of 113) ∷
+    turn 11 (event.Wrote 0 28) ∷ action.Start 0 4 (owner.Try 2 0) 1 11 ∷ action.Write 0 (packed_bytes (command 73)) ∷ [])
 unfolding digits settings_in is_lazy is_bad_event items values left_over is_spoiled max_depth url_on_literals utf8_lossy utf8_valid_len
-before_a_full_queue word = legal sourced_at_a_time word _ _ refl refl (at_a_time, (refl, (refl, (refl, (refl, tt)))))
+in_the_order_of_places word = legal sourced_one_by_one word _ _ refl refl (one_by_one, (refl, (refl, (refl, (refl, (refl, tt))))))
+
+-- one that was told at its place has it, too
+pub behind_one_that_was_told : IsTraceIn sourced_one_by_one
+    (once_set_up (event.Submit (command 71) ∷ event.Submit (unawaited 72) ∷ event.Creds 1 (of_letter 113) ∷ event.Wrote 0 11 ∷ event.Wrote 0 11 ∷ []))
+    told_between
+    (action.Start 0 2 (owner.Try 1 0) 1 11 ∷ action.Write 0 (packed_bytes (unawaited 72)) ∷
+    turn 9 (event.Wrote 0 11) ∷ action.Start 0 3 owner.Auth 1 28 ∷ action.Write 0 (line_of 113) ∷ [])
+unfolding digits settings_in is_lazy is_bad_event items values left_over is_spoiled max_depth url_on_literals utf8_lossy utf8_valid_len
+behind_one_that_was_told word = legal sourced_one_by_one word _ _ refl refl (one_by_one, (refl, (refl, (refl, (refl, (refl, tt))))))
+
+-- also where its queue is full
+pub beside_a_full_queue : IsTraceIn sourced_at_a_time
+    (once_set_up (event.Submit (command 71) ∷ event.Submit (command 72) ∷ event.Creds 1 (of_letter 113) ∷ event.Submit (command 73) ∷ event.Wrote 0 11 ∷ event.Wrote 0 11 ∷ []))
+    let_go
+    (action.Start 0 2 (owner.Try 1 0) 1 11 ∷ action.Write 0 (packed_bytes (command 72)) ∷
+    turn 10 (event.Wrote 0 11) ∷ action.Start 0 3 owner.Auth 1 28 ∷ action.Write 0 (line_of 113) ∷ action.Wait (owner.Try 2 0) wait.Room ∷ [])
+unfolding digits settings_in is_lazy is_bad_event items values left_over is_spoiled max_depth url_on_literals utf8_lossy utf8_valid_len
+beside_a_full_queue word = legal sourced_at_a_time word _ _ refl refl (at_a_time, (refl, (refl, (refl, (refl, tt)))))
 
 -- and count in it as one
 pub in_the_queue : IsTraceIn sourced_at_a_time
@@ -148,9 +175,10 @@ renewal_fronts_stand word =
     let refused = stands (renewal_refused sourced word) refl (at_sourced, (refl, (refl, tt))) in
     let one = stands (one_answered sourced word) refl (at_sourced, (refl, (refl, (refl, tt)))) in
     let late = stands (answered_late sourced_in_time word) refl (at_in_time, (refl, (refl, (refl, tt)))) in
-    let free = stands (let_go sourced_at_a_time word) refl (at_a_time, (refl, (refl, tt))) in
+    let between = stands (came_between sourced_one_by_one word) refl (one_by_one, (refl, (refl, tt))) in
+    let gone = stands (second_gone sourced_one_by_one word) refl (one_by_one, (refl, (refl, (refl, tt)))) in
     let counted = stands (came_behind sourced_at_a_time word) refl (at_a_time, (refl, (refl, tt))) in
-    (taken, (again, (came, (in_time, (second, (refused, (one, (late, (free, (counted, tt))))))))))
+    (taken, (again, (came, (in_time, (second, (refused, (one, (late, (between, (gone, (counted, tt)))))))))))
 
 -- AUTH where no new credentials came
 pub told_nothing : (k count len : ℕ) → NoneBeginsIn sourced needed_again (action.Start 0 k owner.Auth count len)
@@ -197,11 +225,16 @@ timed_for_nothing t ms word events after h = elim (may_stand sourced word events
   | inr (inr (inr m)) ↦ cc m.within
 ]
 
--- a request that starts before them
-pub started_before_them : (l k round count len : ℕ) → NoneBeginsIn sourced_at_a_time let_go (action.Start l k (owner.Try 1 round) count len)
+-- they before a request that took its place before
+pub told_out_of_place : (k count len : ℕ) → NoneBeginsIn sourced_one_by_one came_between (action.Start 0 k owner.Auth count len)
+unfolding digits settings_in is_lazy items values left_over max_depth url_on_literals utf8_lossy utf8_valid_len
+told_out_of_place k count len word events after h = cc (may_stand sourced_one_by_one word events (came_between sourced_one_by_one word) after (action.Start 0 k owner.Auth count len) h).free
+
+-- a request that starts before them and took its place behind them
+pub started_before_them : (l k round count len : ℕ) → NoneBeginsIn sourced_one_by_one second_gone (action.Start l k (owner.Try 2 round) count len)
 unfolding digits settings_in is_lazy items values left_over max_depth url_on_literals utf8_lossy utf8_valid_len
 started_before_them l k round count len word events after h =
-    let m = may_stand sourced_at_a_time word events (let_go sourced_at_a_time word) after (action.Start l k (owner.Try 1 round) count len) h in
+    let m = may_stand sourced_one_by_one word events (second_gone sourced_one_by_one word) after (action.Start l k (owner.Try 2 round) count len) h in
     cc (m.1.begun.renewed 0 (of_letter 113) refl)
 
 -- or waits in their place

@@ -8,6 +8,7 @@ use Rattle.driver_model.specs.Config.{address, fault_in}
 use Rattle.containers.proofs.Choices.{left_if}
 use Rattle.redis_error.specs.declared.config_name.ConfigName.TheVariants as name
 use Rattle.trace_examples.specs.Parts.{at_server, held_at, limited_to, plain, held_for}
+use Rattle.trace_examples.specs.Stays.{counted_one_by_one}
 use Rattle.trace_examples.proofs.Due.{IsPlace}
 
 -- h and 6379, and nothing is said to it before the first request
@@ -72,3 +73,11 @@ is_held_for_server ms = refl
 -- which its opening asks for
 pub at_held_for : (ms : ℕ) → IsPlace (held_for ms) (codes "h") 6379
 at_held_for ms = record { sound = ap (λ a. fault_in a false None 1) (is_held_for_server ms); info = server; configured = is_held_for_server ms; is = (refl, refl) }
+
+-- and where permits, places and the boundary are said
+is_counted_server : address counted_one_by_one ≡ Some server
+unfolding url_on_literals utf8_lossy utf8_valid_len
+is_counted_server = refl
+
+pub at_counted : IsPlace counted_one_by_one (codes "h") 6379
+at_counted = record { sound = ap (λ a. fault_in a false (Some 2) 1) is_counted_server; info = server; configured = is_counted_server; is = (refl, refl) }

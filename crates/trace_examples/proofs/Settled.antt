@@ -13,7 +13,7 @@ use Rattle.legal_trace.specs.Ledger.{Ledger, Start, Heard, IsOffered, again_due,
 use Rattle.legal_trace.specs.Story.{Try, last_of, is_open, is_told, is_unstarted, is_awaited, is_no_error, awaited_in}
 use Rattle.legal_trace.specs.Managers.{is_lazy}
 use Rattle.legal_trace.specs.Book.{Book}
-use Rattle.legal_trace.specs.Steps.{waits, is_due, next_step, is_held_back}
+use Rattle.legal_trace.specs.Steps.{waits, is_due, next_step, is_held_back, is_renewal_held}
 use Rattle.legal_trace.proofs.Setups.{due_is_up}
 use Rattle.legal_trace.proofs.Watching.{watch_is_up}
 use Rattle.legal_trace.proofs.Again.{again_is_up}
@@ -253,9 +253,9 @@ is_renewal_timed b l = nat_le (renewals_asked (b.link l)) (b.link l).creds.timed
 abbrev pub renewals_timed : Book → Bool
 renewals_timed b = holds_if (is_some (answer_time b.config)) (each_link b (λ l. is_renewal_timed b l))
 
--- new credentials are to be told on a link, which isn't held back
+-- new credentials are to be told on a link, and don't wait
 abbrev pub can_renew : Book → ℕ → Bool
-can_renew b l = is_some (renewal_due (b.link l)) && not (is_held_back b (b.link l))
+can_renew b l = is_some (renewal_due (b.link l)) && not (is_renewal_held b l)
 
 -- and so have new credentials, which have their timers
 abbrev pub is_begun : Book → Bool
@@ -320,8 +320,8 @@ repeats_have_started b bounded e l = each_linked b (λ m. not (can_repeat b m)) 
 
 -- and so have new credentials
 renewals_have_started : (b : Book) → IsBounded b → each_link b (λ l. not (can_renew b l)) ≡ true → RenewalsAreStarted b
-renewals_have_started b bounded e l c = each_linked b (λ m. not (can_renew b m)) (λ m. renewal_due (b.link m) ≡ Some c → is_held_back b (b.link m) ≡ true) l bounded e
-    (λ s due. second_fails (is_some (renewal_due (b.link l))) (is_held_back b (b.link l)) (not-true (can_renew b l) s) (ap is_some due))
+renewals_have_started b bounded e l c = each_linked b (λ m. not (can_renew b m)) (λ m. renewal_due (b.link m) ≡ Some c → is_renewal_held b m ≡ true) l bounded e
+    (λ s due. second_fails (is_some (renewal_due (b.link l))) (is_renewal_held b l) (not-true (can_renew b l) s) (ap is_some due))
     (λ idle due. absurd (not_none (renewal_due (b.link l)) c (idle_unrenewed (b.link l) idle) due))
 
 -- where MONITOR has started, setups have

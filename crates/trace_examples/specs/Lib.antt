@@ -16,3 +16,4 @@ pub mod Takings
 pub mod News
 pub mod Messages
 pub mod Refusals
+pub mod Stays

@@ -1,6 +1,7 @@
 -- Traces of links to whose servers new credentials are told.
 use Rattle.std.specs.Prelude.{ℕ, List, [], ◌∷◌, ◌++◌, Some, None, codes}
 use Rattle.credentials.specs.Credentials.{Credentials}
+use Rattle.resp_value.specs.declared.value.Value.TheVariants.{Nil}
 use Rattle.driver_model.specs.declared.action.Action.{Action}
 use Rattle.driver_model.specs.declared.action.Action.TheVariants as action
 use Rattle.driver_model.specs.declared.action.Owner.TheVariants as owner
@@ -9,8 +10,9 @@ use Rattle.driver_model.specs.declared.action.WaitKind.TheVariants as wait
 use Rattle.driver_model.specs.declared.config.Config.{Config}
 use Rattle.driver_model.specs.declared.event.EventKind.{EventKind}
 use Rattle.driver_model.specs.declared.event.EventKind.TheVariants as event
+use Rattle.driver_model.specs.declared.outcome.Outcome.TheVariants as outcome
 use Rattle.driver_model.specs.Request.{packed_bytes}
-use Rattle.trace_examples.specs.Parts.{behaving, turn, command, okay_line}
+use Rattle.trace_examples.specs.Parts.{behaving, turn, command, unawaited, okay_line}
 use Rattle.trace_examples.specs.Setups.{wrong_password}
 use Rattle.trace_examples.specs.Creds.{of_sources, sourced, user_and_password, credentials_line, needed}
 
@@ -21,6 +23,10 @@ sourced_in_time = behaving (record of_sources { response = Some (Some 100) })
 -- they come on a link that any unwritten byte holds back, and whose queue holds one message
 abbrev pub sourced_at_a_time : Config
 sourced_at_a_time = behaving (record of_sources { buffer = Some 1; boundary = Some 0 })
+
+-- they come on a link that any unwritten byte holds back
+abbrev pub sourced_one_by_one : Config
+sourced_one_by_one = behaving (record of_sources { boundary = Some 0 })
 
 -- the user u with a password of one letter, q or r, and the same told to a server, in 28 bytes
 abbrev pub of_letter : ℕ → Credentials
@@ -94,6 +100,27 @@ held_by_one config word =
     needed_again config word ++
     turn 5 (event.Submit (command 71)) ∷ action.Start 0 1 (owner.Try 0 0) 1 11 ∷ action.Write 0 (packed_bytes (command 71)) ∷ []
 
+-- a second one has its place, and then new credentials came; a third one has one behind them; the link takes bytes again
+abbrev pub came_between : Config → ℕ → List Action
+came_between config word =
+    held_by_one config word ++
+    turn 6 (event.Submit (command 72)) ∷ action.Wait (owner.Try 1 0) wait.Room ∷
+    turn 7 (event.Creds 1 (of_letter 113)) ∷
+    turn 8 (event.Submit (command 73)) ∷ action.Wait (owner.Try 2 0) wait.Room ∷ turn 9 (event.Wrote 0 11) ∷ []
+
+-- the second one starts, and the link takes it
+abbrev pub second_gone : Config → ℕ → List Action
+second_gone config word =
+    came_between config word ++
+    action.Start 0 2 (owner.Try 1 0) 1 11 ∷ action.Write 0 (packed_bytes (command 72)) ∷ turn 10 (event.Wrote 0 11) ∷ []
+
+-- or the reply of the second one isn't awaited, so that it is answered at its place
+abbrev pub told_between : Config → ℕ → List Action
+told_between config word =
+    held_by_one config word ++
+    turn 6 (event.Submit (unawaited 72)) ∷ action.Outcome 1 (outcome.One Nil) ∷
+    turn 7 (event.Creds 1 (of_letter 113)) ∷ turn 8 (event.Wrote 0 11) ∷ []
+
 -- a second one has the one place of the queue, and then new credentials came; a third one waits for a place
 abbrev pub behind_a_full_queue : Config → ℕ → List Action
 behind_a_full_queue config word =
@@ -123,4 +150,4 @@ abbrev pub renewal_fronts : ℕ → List (List Action)
 renewal_fronts word =
     first_taken sourced word ∷ needed_again sourced word ∷ renewal_came sourced word ∷ renewal_came sourced_in_time word ∷
     second_came sourced word ∷ renewal_refused sourced word ∷ one_answered sourced word ∷ answered_late sourced_in_time word ∷
-    let_go sourced_at_a_time word ∷ came_behind sourced_at_a_time word ∷ []
+    came_between sourced_one_by_one word ∷ second_gone sourced_one_by_one word ∷ came_behind sourced_at_a_time word ∷ []

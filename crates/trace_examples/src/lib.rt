@@ -8,6 +8,7 @@ mod news;
 mod refusals;
 mod renewing;
 mod returning;
+mod staying;
 
 ghost use Rattle.std.specs.Prelude.{◌≡◌, ◌≢◌, ◌<◌, ℕ, List, [], ◌∷◌, ◌++◌, Option, Some, None};
 ghost use Rattle.std.specs.Prelude.{drop, pos, true, false};
@@ -101,6 +102,7 @@ pub use refusals::{
 };
 pub use renewing::{nor_are_these_renewals, these_renew_credentials};
 pub use returning::{nor_do_these_come_back, these_come_back};
+pub use staying::{managers_wait_so_long, nor_do_these_stay, these_do_not_come_back, these_stay};
 
 /// Does nothing. Its contract: these traces are legal. A transaction is aborted by the error of its
 /// command; a command whose reply nobody awaits is answered at its place, and its item is not given

@@ -2,6 +2,7 @@
 
 ghost use Rattle.std.specs.Prelude.{◌≡◌, ◌∷◌, [], codes, map, true, false, Some, None};
 ghost use Rattle.resp_value.specs.Data.{array, error, items_of, nil, okay, simple};
+ghost use Rattle.resp_value.specs.declared.value.Value.TheVariants.{Nil, ServerError};
 ghost use Rattle.redis_error.specs.declared.fault_kind.FaultKind.TheVariants as kind;
 ghost use Rattle.redis_error.specs.declared.redis_error.RedisError.TheVariants as error_of;
 ghost use Rattle.driver_model.specs.declared.hearing.Hearing.TheVariants as hearing;
@@ -28,7 +29,8 @@ pub fn messages_take_these()
 
 /// Does nothing. Its contract: a server error as the reply to MULTI is that of the transaction, whatever
 /// follows; one as the reply to a command aborts it, at its place, also where EXEC is answered; without
-/// such an error it is what EXEC is answered with. A confirmation is whatever isn't an error.
+/// such an error it is what EXEC is answered with. A command and a pipeline have their items, also where
+/// one is an error. A confirmation is whatever isn't an error.
 pub fn items_come_to_these()
     ensures multi { of_transaction (error (by_code (codes "ERR")) ∷ queued
         ∷ error (by_code (codes "X")) ∷ aborted ∷ [])
@@ -40,6 +42,12 @@ pub fn items_come_to_these()
     ensures executed { of_transaction (okay ∷ queued ∷ queued ∷ array (items_of (okay ∷ nil ∷ [])) ∷ [])
         ≡ verdict.Many (array (items_of (okay ∷ nil ∷ [])) ∷ []) }
     ensures refused { of_transaction (okay ∷ queued ∷ queued ∷ aborted ∷ []) ≡ verdict.Many (aborted ∷ []) }
+    ensures alone { map (λ item. verdict_of Single (item ∷ [])) (nil ∷ error (by_code (codes "ERR")) ∷ [])
+        ≡ verdict.One Nil ∷ verdict.One (ServerError (by_code (codes "ERR"))) ∷ [] }
+    ensures kept { verdict_of (Pipeline 0 2 false) (error (by_code (codes "ERR")) ∷ okay ∷ [])
+        ≡ verdict.Many (error (by_code (codes "ERR")) ∷ okay ∷ []) }
+    ensures skipped { verdict_of (Pipeline 1 1 false) (error (by_code (codes "ERR")) ∷ okay ∷ [])
+        ≡ verdict.Many (okay ∷ []) }
     ensures confirmed { map (λ item. verdict_of Confirmation (item ∷ []))
         (okay ∷ nil ∷ error (by_code (codes "NOPERM")) ∷ [])
         ≡ verdict.Done ∷ verdict.Done ∷ verdict.Fault (error_of.Server (by_code (codes "NOPERM"))) ∷ [] }
