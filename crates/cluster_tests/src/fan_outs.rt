@@ -226,8 +226,8 @@ fn is_told(alloc: Global, case: &Case) -> Result<bool, AllocError> {
 
 #[test]
 fn parts_become_one(rt: HostRuntime) -> Result<(), AllocError> {
-    for (i, case) in CASES.iter().enumerate() {
-        assert!(rt; is_told(rt.alloc(), case)?, "case {i}");
+    for case in &CASES {
+        assert!(rt; is_told(rt.alloc(), case)?);
     }
     Ok(())
 }

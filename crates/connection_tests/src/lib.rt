@@ -1,16 +1,11 @@
-//! Tests of links, connections, pushes and managers, by public calls alone.
+//! Tests of connections that many callers share, by public calls alone.
 #![tactic(auto)]
 
+pub mod acts;
 #[cfg(test)]
-mod acts;
+mod calls;
 #[cfg(test)]
-mod connections;
-#[cfg(test)]
-mod links;
-pub mod managers;
-#[cfg(test)]
-mod pushes;
-#[cfg(test)]
-mod servers;
+mod clients;
+pub mod servers;
 #[cfg(test)]
 mod threads;

@@ -3,7 +3,7 @@ use containers::Bytes;
 use std::alloc::{AllocError, Global};
 
 /// What is said to a server that is told its protocol alone.
-pub(crate) fn said(protocol: ProtocolVersion) -> RedisConnectionInfo {
+pub fn said(protocol: ProtocolVersion) -> RedisConnectionInfo {
     RedisConnectionInfo {
         db: 0,
         username: None,
@@ -14,7 +14,7 @@ pub(crate) fn said(protocol: ProtocolVersion) -> RedisConnectionInfo {
 }
 
 /// The address of such a server.
-pub(crate) fn at(
+pub fn at(
     alloc: Global,
     host: &[u8],
     port: u16,
@@ -29,7 +29,7 @@ pub(crate) fn at(
 }
 
 /// What was made, sent or done. A refusal counts as want of memory.
-pub(crate) fn must<T, E: Drop>(done: Result<T, E>) -> Result<T, AllocError> {
+pub fn must<T, E: Drop>(done: Result<T, E>) -> Result<T, AllocError> {
     match done {
         Ok(value) => Ok(value),
         Err(_) => Err(AllocError),

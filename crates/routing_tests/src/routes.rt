@@ -25,11 +25,12 @@ enum Host {
 enum Told {
     Refused,
     NoRow,
-    Primary(&'static [u8]),
+    Primary,
 }
 
-/// A row of one node: the first and the last slot, the host and the port, and what is told where `answer.host` answered.
-type NodeRow = (i64, i64, Host, i64, Told);
+/// A row of one node: the first and the last slot, the host and the port; and what is told where `answer.host` answered, with the
+/// host of the primary.
+type NodeRow = (i64, i64, Host, i64, Told, &'static [u8]);
 
 const ROWS: [NodeRow; 9] = [
     (
@@ -37,38 +38,41 @@ const ROWS: [NodeRow; 9] = [
         100,
         Host::Bulk(b"0.0.0.0"),
         7000,
-        Told::Primary(b"answer.host"),
+        Told::Primary,
+        b"answer.host",
     ),
     (
         0,
         100,
         Host::Simple(b"::"),
         7000,
-        Told::Primary(b"answer.host"),
+        Told::Primary,
+        b"answer.host",
     ),
-    (0, 100, Host::Bulk(b""), 7000, Told::Primary(b"answer.host")),
-    (0, 100, Host::Nil, 7000, Told::Primary(b"answer.host")),
+    (0, 100, Host::Bulk(b""), 7000, Told::Primary, b"answer.host"),
+    (0, 100, Host::Nil, 7000, Told::Primary, b"answer.host"),
     (
         0,
         100,
         Host::Bulk(b"10.0.0.1"),
         7000,
-        Told::Primary(b"10.0.0.1"),
+        Told::Primary,
+        b"10.0.0.1",
     ),
-    (0, 100, Host::Simple(b"h"), 7000, Told::Primary(b"h")),
-    (5, 5, Host::Bulk(b"h"), 0, Told::Primary(b"h")),
-    (0, 16_383, Host::Bulk(b"h"), 65_535, Told::Primary(b"h")),
-    (0, 100, Host::Bulk(b"?"), 7000, Told::NoRow),
+    (0, 100, Host::Simple(b"h"), 7000, Told::Primary, b"h"),
+    (5, 5, Host::Bulk(b"h"), 0, Told::Primary, b"h"),
+    (0, 16_383, Host::Bulk(b"h"), 65_535, Told::Primary, b"h"),
+    (0, 100, Host::Bulk(b"?"), 7000, Told::NoRow, b""),
 ];
 
 const REFUSED: [NodeRow; 7] = [
-    (2, 1, Host::Bulk(b"h"), 1, Told::Refused),
-    (-1, 1, Host::Bulk(b"h"), 1, Told::Refused),
-    (0, 16_384, Host::Bulk(b"h"), 1, Told::Refused),
-    (0, 1, Host::Bulk(b"h"), -1, Told::Refused),
-    (0, 1, Host::Bulk(b"h"), 65_536, Told::Refused),
-    (0, 1, Host::Bulk(b"\xFF"), 1, Told::Refused),
-    (0, 1, Host::Number, 1, Told::Refused),
+    (2, 1, Host::Bulk(b"h"), 1, Told::Refused, b""),
+    (-1, 1, Host::Bulk(b"h"), 1, Told::Refused, b""),
+    (0, 16_384, Host::Bulk(b"h"), 1, Told::Refused, b""),
+    (0, 1, Host::Bulk(b"h"), -1, Told::Refused, b""),
+    (0, 1, Host::Bulk(b"h"), 65_536, Told::Refused, b""),
+    (0, 1, Host::Bulk(b"\xFF"), 1, Told::Refused, b""),
+    (0, 1, Host::Number, 1, Told::Refused, b""),
 ];
 
 fn host_value(alloc: Global, host: Host) -> Result<Value, AllocError> {
@@ -117,11 +121,11 @@ fn has_primary(rows: &SlotRows, host: &[u8], port: i64) -> bool {
     }
 }
 
-fn is_told(got: &Result<SlotRows, SlotsError>, port: i64, want: Told) -> bool {
+fn is_told(got: &Result<SlotRows, SlotsError>, port: i64, want: Told, host: &[u8]) -> bool {
     match (got, want) {
         (Err(SlotsError::Parse), Told::Refused) => true,
         (Ok(rows), Told::NoRow) => rows.is_empty(),
-        (Ok(rows), Told::Primary(host)) => has_primary(rows, host, port),
+        (Ok(rows), Told::Primary) => has_primary(rows, host, port),
         _ => false,
     }
 }
@@ -143,7 +147,7 @@ fn tells(alloc: Global, case: &NodeRow) -> Result<bool, AllocError> {
     let reply = row_reply(alloc, case.0, case.1, case.2, case.3)?;
     let got = parse_slots(alloc, &reply, b"answer.host");
     drop(reply);
-    let told = is_told(&got, case.3, case.4);
+    let told = is_told(&got, case.3, case.4, case.5);
     drop(got);
     Ok(told)
 }

@@ -4,17 +4,8 @@ ghost use Rattle.driver_model.specs.Request.{has_no_form};
 
 use containers::{Bytes, Names};
 use driver_model::{Action, AddressWords, Config, ConnectionWords, Event, SessionKind, Submission};
-use session_callers::{Caller, SharedSession};
 use shared_session::Session;
 use std::alloc::{AllocError, Global};
-
-pub fn strings(alloc: Global, words: &[&str]) -> Result<Vec<String>, AllocError> {
-    let mut strings = Vec::new(alloc);
-    for word in words {
-        strings.push(String::from_str(alloc, word)?)?;
-    }
-    Ok(strings)
-}
 
 /// GET of a key.
 pub fn get(alloc: Global, key: &str) -> Result<Submission, AllocError>
@@ -50,18 +41,6 @@ pub fn single(alloc: Global, url: &[u8], connection: ConnectionWords) -> Result<
         address,
         connection,
     })
-}
-
-/// A session, and its first caller.
-pub fn start(alloc: Global, out: &mut Vec<Action>) -> Result<(SharedSession, Caller), AllocError>
-    ensures table { IfOk result (λ made. made.1.table ≡ made.0.table.shared.table_id) }
-    ensures single { IfOk result (λ made. kind_of made.1.view.config ≡ SessionKind.Single) }
-{
-    let config = single(alloc, b"redis://h", unbounded())?;
-    match SharedSession::new(alloc, config, 0, out) {
-        Ok(made) => Ok(made),
-        Err(_) => Err(AllocError),
-    }
 }
 
 /// A session of this configuration.

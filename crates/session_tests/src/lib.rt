@@ -1,11 +1,10 @@
-//! Tests of sessions and their callers, of live runs, and of the lines that these have in scripts, by public calls alone.
+//! Tests of sessions, by public calls alone.
 #![tactic(auto)]
 
 #[cfg(test)]
-mod given;
+mod events;
+pub mod given;
 #[cfg(test)]
-mod live;
+mod pushes;
 #[cfg(test)]
-mod sessions;
-#[cfg(test)]
-mod texts;
+mod threads;

@@ -1,4 +1,0 @@
-//! Tests of connections that many callers share.
-
-mod calls;
-mod clients;

@@ -1,7 +1,0 @@
-//! Tests of links that only listen.
-
-mod messages;
-mod monitors;
-mod pings;
-mod streams;
-mod told;
