@@ -10,9 +10,8 @@ name=session_tool
 folder=$top/crates/$name
 out=$folder/out
 program=$out/$name
-# What a build from nothing leaves on the disk, and what one check takes of memory at most, in megabytes.
+# What a build from nothing leaves on the disk, in megabytes.
 disk=9000
-memory=3000
 
 say() {
   echo "session_tool.sh: $*" >&2
@@ -58,16 +57,6 @@ is_old() {
   [ -n "$(find "${folders[@]}" -newer "$program" -type f -print -quit 2>/dev/null)" ]
 }
 
-# How many crates are checked side by side: as many as there are processors and memory for.
-lanes() {
-  local free number
-  free=$(awk '/^MemAvailable:/ { print int($2 / 1024) }' /proc/meminfo)
-  number=$((free / memory))
-  [ "$number" -le "$(nproc)" ] || number=$(nproc)
-  [ "$number" -ge 1 ] || number=1
-  echo "$number"
-}
-
 # Refuses what can't end well.
 look_first() {
   local free
@@ -76,31 +65,30 @@ look_first() {
   [ "$free" -ge "$disk" ] || [ -d "$out" ] || stop "a build takes ${disk} MB of disk, and $free are free"
 }
 
-# Shows each crate as its check ends.
-show_progress() {
-  local line done=0
-  while IFS= read -r line; do
-    case $line in
-      "== summary") break ;;
-      "== "*)
-        done=$((done + 1))
-        say "$done of ${#crates[@]} proved: ${line#== } (${SECONDS} s)"
-        ;;
-    esac
-  done
-  cat >/dev/null
+# Proves one crate and builds it. What one process takes of memory grows with the sources that it reads at once, so the crates
+# below are always built already.
+build_one() {
+  local crate=$1
+  if [ "$crate" = "$name" ]; then
+    (cd "$folder" && rt run -- --version)
+  else
+    (cd "$top/crates/$crate" && rt lib)
+  fi
 }
 
-# Proves what the program stands on, crates that don't stand on each other side by side, and then builds it.
+# Proves what the program stands on, the lowest crate first and a crate's functions side by side, and then builds it.
 build() {
-  local log=$out/build.log
+  local log=$out/build.log crate number=0
   mkdir -p "$out"
-  say "proving ${#crates[@]} crates, $(lanes) at a time; what is proved already takes seconds"
-  if ! (cd "$folder" && rt all check --jobs "$(lanes)") </dev/null 2>&1 | tee "$log" | show_progress; then
-    cat "$log" >&2
-    stop "the program was not built, since not all of it is proved: $log"
-  fi
-  (cd "$folder" && rt run -- --version) </dev/null >"$log" 2>&1 || { cat "$log" >&2; stop "the program was not built"; }
+  say "proving ${#crates[@]} crates; what is proved already takes seconds"
+  for crate in "${crates[@]}"; do
+    if ! build_one "$crate" </dev/null >"$log" 2>&1; then
+      cat "$log" >&2
+      stop "the program was not built, since $crate is not proved: $log"
+    fi
+    number=$((number + 1))
+    say "$number of ${#crates[@]} proved: $crate ($SECONDS s)"
+  done
   [ -x "$program" ] || stop "the program was not built"
   printf '%s\n' "$lines" >"$out/$name.crates"
   touch "$program"
