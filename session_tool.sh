@@ -12,6 +12,8 @@ out=$folder/out
 program=$out/$name
 # What a build from nothing leaves on the disk, in megabytes.
 disk=9000
+# How many functions are proved side by side. More of them end sooner, and take more of processor time in all.
+jobs=$(($(nproc) < 2 ? 1 : 2))
 
 say() {
   echo "session_tool.sh: $*" >&2
@@ -70,13 +72,13 @@ look_first() {
 build_one() {
   local crate=$1
   if [ "$crate" = "$name" ]; then
-    (cd "$folder" && rt run -- --version)
+    (cd "$folder" && rt run --jobs "$jobs" -- --version)
   else
-    (cd "$top/crates/$crate" && rt lib)
+    (cd "$top/crates/$crate" && rt lib --jobs "$jobs")
   fi
 }
 
-# Proves what the program stands on, the lowest crate first and a crate's functions side by side, and then builds it.
+# Proves what the program stands on, the lowest crate first and two functions side by side, and then builds it.
 build() {
   local log=$out/build.log crate number=0
   mkdir -p "$out"
