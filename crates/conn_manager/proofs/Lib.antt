@@ -2,6 +2,7 @@ mod Entries
 mod SubscriptionCalls
 mod Said
 mod Sends
+mod Standing
 mod Resubscribing
 mod Links
 mod Walk

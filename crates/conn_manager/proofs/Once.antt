@@ -12,7 +12,8 @@ use Rattle.conn_manager.specs.declared.request.Stage.TheVariants as stage
 use Rattle.mux_client.specs.Connection.{if_placed}
 use Rattle.mux_client.specs.LikeLaws.{place_added}
 use Rattle.conn_manager.specs.Calls.{entered}
-use Rattle.conn_manager.specs.Manager.{said, is_open, is_held, is_open_at, is_held_at, if_there, weighed, kept, closed_by}
+use Rattle.conn_manager.specs.LikeLaws.{filled_other}
+use Rattle.conn_manager.specs.Manager.{said, is_open, is_held, is_open_at, is_held_at, if_there, weighed, filled, kept, closed_by}
 use Rattle.conn_manager.proofs.Walk.{Walks}
 use Rattle.conn_manager.proofs.Runs.{Steps, goes_through}
 use Rattle.conn_manager.specs.Once.{is_closed, is_closed_at, Keeps, AnsweredOnce}
@@ -77,8 +78,8 @@ answered_open m p o there = record {
       ap (λ (ss : List Stage). is_closed_at ss q) (weighed_stages (closed_by m p o) o)
       ∙ set_closed m.stages p q stage.Closed (not_same m.stages p q is_open closed_or_open h there) h;
   outcome = λ q h.
-      ap (λ (os : List (Option Outcome)). if_placed (slice_get (slice_set os p (Some o)) q)) (weighed_outcomes (closed_by m p o) o)
-      ∙ ap if_placed (get_set_other m.outcomes p q (Some o) (not_same m.stages p q is_open closed_or_open h there));
+      ap (λ (os : List (Option Outcome)). if_placed (slice_get (filled os p o) q)) (weighed_outcomes (closed_by m p o) o)
+      ∙ ap if_placed (filled_other m.outcomes p q o (not_same m.stages p q is_open closed_or_open h there));
 }
 
 -- a request that waited is handed to the link

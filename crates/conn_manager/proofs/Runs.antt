@@ -18,7 +18,7 @@ use Rattle.conn_manager.specs.Calls.{entered, answered_at_once, placed_at, reque
 use Rattle.conn_manager.specs.Manager.{is_current, is_open_at, is_held_at, answered, loss_answered}
 use Rattle.conn_manager.specs.Once.{after_each}
 use Rattle.conn_manager.specs.Runs.{Step, sends, calls, leaves, turns, after}
-use Rattle.conn_manager.specs.Turn.{applied, succeeded, resubscription_begun, settled, passed, flushed, stepped}
+use Rattle.conn_manager.specs.Turn.{started, applied, succeeded, resubscription_begun, settled, passed, flushed, stepped}
 use Rattle.conn_manager.proofs.Links.{Adds, begun_adds}
 use Rattle.conn_manager.proofs.Walk.{Walks, answers_one, applies, answers_loss, subscribes_again, passes_on, flushes}
 
@@ -53,14 +53,16 @@ module _ {R : ConnectionManager → ConnectionManager → Type 0} (steps : Steps
 
   turns_once : (m : ConnectionManager) (draw : ℕ) (what : Happening) → R m (stepped m draw what)
   turns_once m draw what =
-      let first = applied m draw what in
+      let begun = started m in
+      let first = applied begun draw what in
       let second = settled first in
       let third = passed second draw in
       let fourth = flushed third draw in
-      onward m first (stepped m draw what) (applies steps.walk m draw what)
+      onward m begun (stepped m draw what) (steps.same m begun refl refl (omega arith))
+      (onward begun first (stepped m draw what) (applies steps.walk begun draw what)
       (onward first second (stepped m draw what) (settles first)
       (onward second third (stepped m draw what) (passes_on steps.walk second draw)
-      (onward third fourth (stepped m draw what) (flushes steps.walk third draw) (steps.same fourth _ refl refl (omega arith)))))
+      (onward third fourth (stepped m draw what) (flushes steps.walk third draw) (steps.same fourth _ refl refl (omega arith))))))
 
   -- a request is answered as it comes
   answers_at_once : (m : ConnectionManager) (q : HeldRequest) (e : RedisError) → R m (answered_at_once m q e)

@@ -1,21 +1,19 @@
 -- What a send that fails leaves of the outcomes.
-use Rattle.std.proofs.Common.{◌≡◌, ◌≢◌, ℕ, ◌<◌, Bool, List, length, Option, Some, slice_get, slice_set, refl, sym, ap, ◌∙◌, arith}
-use Rattle.containers.proofs.Choices.{chosen}
+use Rattle.std.proofs.Common.{◌≡◌, ℕ, ◌<◌, List, length, Option, None, slice_get, sym, ap, ◌∙◌, arith}
 use Rattle.containers.proofs.Places.{get_set_other}
 use Rattle.driver_model.specs.declared.outcome.Outcome.{Outcome}
 use Rattle.mux_client.specs.Connection.{if_placed}
 use Rattle.mux_client.specs.LikeLaws.{place_added}
 use Rattle.conn_manager.specs.declared.manager.ConnectionManager.{ConnectionManager}
 use Rattle.conn_manager.specs.declared.request.Call.{Call}
-use Rattle.conn_manager.specs.Manager.{is_open_at}
-use Rattle.conn_manager.specs.Calls.{next_number, outcome_of, outcomes_with, entered, SparesOthers}
+use Rattle.conn_manager.specs.Calls.{next_number, outcome_of, outcomes_but, entered, SparesOthers}
 
--- an answer is that of its own request
-pub spared : (m n : ConnectionManager) (q : ℕ) (o : Outcome) → n.outcomes ≡ outcomes_with m q o → SparesOthers q m n
-spared m n q o is p other =
-    ap (λ (os : List (Option Outcome)). if_placed (slice_get os p)) is
-    ∙ chosen (λ (os : List (Option Outcome)). if_placed (slice_get os p) ≡ outcome_of m p) (is_open_at m.stages q) _ _
-    (λ _. ap if_placed (get_set_other m.outcomes q p (Some o) (λ same. other (sym same)))) (λ _. refl)
+-- where the outcomes of all requests but one are the same, each of them is
+pub spared : (m n : ConnectionManager) (q : ℕ) → outcomes_but n q ≡ outcomes_but m q → SparesOthers q m n
+spared m n q is p other =
+    sym (ap if_placed (get_set_other n.outcomes q p None (λ same. other (sym same))))
+    ∙ ap (λ (os : List (Option Outcome)). if_placed (slice_get os p)) is
+    ∙ ap if_placed (get_set_other m.outcomes q p None (λ same. other (sym same)))
 
 -- and one more request changes no outcome of those before it
 pub admitted : (old mid new : ConnectionManager) (call : Option Call) (q : ℕ) → mid ≡ entered old call → q ≡ length old.stages → SparesOthers q mid new

@@ -9,7 +9,7 @@ use Rattle.manager_generations.specs.declared.phase.Phase.{Phase}
 use Rattle.conn_manager.specs.declared.manager.ConnectionManager.{ConnectionManager}
 use Rattle.conn_manager.specs.Hearing.{moved_on}
 use Rattle.conn_manager.specs.Manager.{is_held_at}
-use Rattle.conn_manager.specs.Turn.{applied, settled, passed, held_wait, wait_shown, wait_shown_each, to_show, with_wait, held_shown_as, held_shown}
+use Rattle.conn_manager.specs.Turn.{started, applied, settled, passed, held_wait, wait_shown, wait_shown_each, to_show, with_wait, held_shown_as, held_shown}
 use Rattle.conn_manager.specs.Waits.{IsTold, WaitsAreTold}
 
 -- what stays as some are told
@@ -53,6 +53,6 @@ told m =
 
 pub waits_are_told : WaitsAreTold
 waits_are_told m draw what =
-    let before = passed (settled (applied m draw what)) draw in
+    let before = passed (settled (applied (started m) draw what)) draw in
     let is = told (moved_on before draw (conn_turn.flushed (work_with before.conn []))) in
     record { all = is.all; last = is.last }

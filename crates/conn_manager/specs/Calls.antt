@@ -48,6 +48,7 @@ blank info settings created =
       calls = [];
       held = [];
       fresh = [];
+      recent = [];
       wait = None;
       tracker = holding (held_after []);
       failure = None;
@@ -73,9 +74,9 @@ next_number m = length m.stages
 abbrev pub outcome_of : ConnectionManager → ℕ → Option Outcome
 outcome_of m p = if_placed (slice_get m.outcomes p)
 
--- the outcomes of a manager of which this request is answered, if it is open
-abbrev pub outcomes_with : ConnectionManager → ℕ → Outcome → List (Option Outcome)
-outcomes_with m p o = if is_open_at m.stages p then slice_set m.outcomes p (Some o) else m.outcomes
+-- the outcomes of all requests but this one
+abbrev pub outcomes_but : ConnectionManager → ℕ → List (Option Outcome)
+outcomes_but m p = slice_set m.outcomes p None
 
 -- of all requests but this one the outcomes are the same
 abbrev pub SparesOthers : ℕ → ConnectionManager → ConnectionManager → Type 0

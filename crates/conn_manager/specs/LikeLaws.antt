@@ -19,7 +19,7 @@ use Rattle.conn_manager.specs.declared.request.Call.{Call}
 use Rattle.conn_manager.specs.declared.request.HeldRequest.{HeldRequest}
 use Rattle.conn_manager.specs.declared.request.Stage.{Stage}
 use Rattle.conn_manager.specs.declared.request.Stage.TheVariants as stage
-use Rattle.conn_manager.specs.Manager.{is_current, is_open_at, answered}
+use Rattle.conn_manager.specs.Manager.{is_current, is_missing, is_open_at, filled, answered}
 use Rattle.conn_manager.specs.Turn.{succeeded}
 use Rattle.conn_manager.specs.Calls.{next_number, entered, answered_at_once, placed_at, request_of, sent, left_at, cancelled, outcome_of}
 
@@ -43,12 +43,17 @@ onward q m n o first second = record {
 succeeds : (q : ℕ) (m : ConnectionManager) → Spares q m (succeeded m)
 succeeds q m = chosen (Spares q m) (begins_next m.generations) _ _ (λ _. alike q m _ refl refl) (λ _. alike q m m refl refl)
 
+-- an outcome in its place is that of no other request
+pub filled_other : (os : List (Option Outcome)) (q p : ℕ) (o : Outcome) → q ≢ p → slice_get (filled os q o) p ≡ slice_get os p
+filled_other os q p o other = chosen (λ (xs : List (Option Outcome)). slice_get xs p ≡ slice_get os p) (is_missing (slice_get os q)) _ _
+    (λ _. get_set_other os q p (Some o) other) (λ _. refl)
+
 -- an answer is that of its own request
 answers : (m : ConnectionManager) (q : ℕ) (e : RedisError) → Spares q m (answered m q (outcome.Fault e))
 answers m q e = chosen (Spares q m) (is_open_at m.stages q) _ _
     (λ _. record {
       count = length-set m.stages q stage.Closed;
-      others = λ p other. ap if_placed (get_set_other m.outcomes q p (Some (outcome.Fault e)) (λ same. other (sym same)));
+      others = λ p other. ap if_placed (filled_other m.outcomes q p (outcome.Fault e) (λ same. other (sym same)));
     })
     (λ _. alike q m m refl refl)
 

@@ -92,9 +92,31 @@ weighed m (outcome.One value) = m
 weighed m (outcome.Many values) = m
 weighed m outcome.Done = m
 
--- the outcome of a request is kept in its place
+-- a place for an outcome, in which none stands
+abbrev pub is_missing : Option (Option Outcome) → Bool
+is_missing None = false
+is_missing (Some None) = true
+is_missing (Some (Some o)) = false
+
+-- the outcome of a request stands in its place, where none stood
+abbrev pub filled : List (Option Outcome) → ℕ → Outcome → List (Option Outcome)
+filled os p o = if is_missing (slice_get os p) then slice_set os p (Some o) else os
+
+-- and its request is one of those that got an outcome, the last one first
+abbrev pub noted_before : List (Option Outcome) → ℕ → List ℕ → List ℕ
+noted_before os p ps = if is_missing (slice_get os p) then p ∷ ps else ps
+
 abbrev pub kept : ConnectionManager → ℕ → Outcome → ConnectionManager
-kept m p o = record m { outcomes = slice_set m.outcomes p (Some o) }
+kept m p o = record m { outcomes = filled m.outcomes p o; recent = noted_before m.outcomes p m.recent }
+
+-- these outcomes, of which those of these requests are taken back
+abbrev pub without : List (Option Outcome) → List ℕ → List (Option Outcome)
+without os [] = os
+without os (p ∷ ps) = without (slice_set os p None) ps
+
+-- the outcomes that stood before this turn
+abbrev pub standing : ConnectionManager → List (Option Outcome)
+standing m = without m.outcomes m.recent
 
 -- a request is closed, and its outcome noted in the tracker
 abbrev pub closed_by : ConnectionManager → ℕ → Outcome → ConnectionManager

@@ -6,7 +6,7 @@ use Rattle.manager_generations.specs.declared.act.ManagerAct.{ManagerAct}
 use Rattle.conn_manager.specs.declared.manager.ConnectionManager.{ConnectionManager}
 use Rattle.conn_manager.specs.Calls.{sent, called, cancelled}
 use Rattle.mux_client.specs.Events.{Happening}
-use Rattle.conn_manager.specs.Turn.{turned, stepped}
+use Rattle.conn_manager.specs.Turn.{started, turned, stepped}
 
 -- a message of these bytes is sent, which takes items by this shape, and whose reply is awaited or not; or a subscription call; the
 -- caller of a request leaves; a turn is made of what happened, where this word is drawn
@@ -24,7 +24,7 @@ after m (turns draw what) = stepped m draw what
 
 -- the acts of each turn
 abbrev pub shown_by : ConnectionManager → Step → List (List ManagerAct)
-shown_by m (turns draw what) = (turned m draw what).generations.acts ∷ []
+shown_by m (turns draw what) = (turned (started m) draw what).generations.acts ∷ []
 shown_by m (sends packed shape awaited) = []
 shown_by m (calls what names) = []
 shown_by m (leaves p) = []

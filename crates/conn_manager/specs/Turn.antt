@@ -169,10 +169,14 @@ held_shown m = held_shown_as m (held_wait m.generations.phase m.conn.life)
 abbrev pub flushed : ConnectionManager → ℕ → ConnectionManager
 flushed m draw = held_shown (moved_on m draw (conn_turn.flushed (work_with m.conn [])))
 
+-- as a turn begins, nobody has got an outcome in it
+abbrev pub started : ConnectionManager → ConnectionManager
+started m = record m { recent = [] }
+
 -- a whole turn
 abbrev pub turned : ConnectionManager → ℕ → Happening → ConnectionManager
 turned m draw what = flushed (passed (settled (applied m draw what)) draw) draw
 
 -- behind it, nothing is to be shown
 abbrev pub stepped : ConnectionManager → ℕ → Happening → ConnectionManager
-stepped m draw what = let n = turned m draw what in with_generations n (record n.generations { acts = [] })
+stepped m draw what = let n = turned (started m) draw what in with_generations n (record n.generations { acts = [] })

@@ -9,7 +9,7 @@ use redis_error::RedisError;
 use std::alloc::{AllocError, Global};
 
 impl ConnectionManager {
-    ghost use Rattle.conn_manager.specs.Manager.{failed_each, held_failed, failure_answered, loss_answered};
+    ghost use Rattle.conn_manager.specs.Manager.{failed_each, held_failed, failure_answered, loss_answered, standing};
 
     /// Each of these requests is answered with this error.
     fn fail_each(
@@ -18,7 +18,8 @@ impl ConnectionManager {
         error: &RedisError,
         requests: Queue<HeldRequest>,
     ) -> Result<(), AllocError>
-        ensures { OnOk result (self.new ≡ failed_each self.old error.now requests) }
+        ensures done { OnOk result (self.new ≡ failed_each self.old error.now requests) }
+        ensures stands { standing self.new ≡ standing self.old }
     {
         let mut rest = requests;
         while let Some(request) = rest.pop_front() {
@@ -30,7 +31,8 @@ impl ConnectionManager {
 
     /// Those that wait for their generation are answered with this error.
     fn fail_held(&mut self, alloc: Global, error: &RedisError) -> Result<(), AllocError>
-        ensures { OnOk result (self.new ≡ held_failed self.old error.now) }
+        ensures done { OnOk result (self.new ≡ held_failed self.old error.now) }
+        ensures stands { standing self.new ≡ standing self.old }
     {
         let held = std::mem::replace(&mut self.held, Queue::new(alloc));
         self.fresh = Queue::new(alloc);
@@ -39,7 +41,8 @@ impl ConnectionManager {
 
     /// Where the generation has failed, those that wait for it are answered with its error.
     pub(crate) fn answer_failure(&mut self, alloc: Global) -> Result<(), AllocError>
-        ensures { OnOk result (self.new ≡ failure_answered self.old) }
+        ensures done { OnOk result (self.new ≡ failure_answered self.old) }
+        ensures stands { standing self.new ≡ standing self.old }
     {
         match &self.generations.phase {
             Phase::Failed { error } => {
@@ -59,7 +62,8 @@ impl ConnectionManager {
 
     /// Where its link ended before they were handed to it, they are answered with the closed connection.
     pub(crate) fn answer_loss(&mut self, alloc: Global) -> Result<(), AllocError>
-        ensures { OnOk result (self.new ≡ loss_answered self.old) }
+        ensures done { OnOk result (self.new ≡ loss_answered self.old) }
+        ensures stands { standing self.new ≡ standing self.old }
     {
         match &self.generations.phase {
             Phase::Lost => self.fail_held(alloc, &RedisError::Closed),

@@ -41,7 +41,7 @@ impl ConnectionManager {
     ghost use Rattle.sub_tracker.specs.Pipeline.{resubscription};
     ghost use Rattle.conn_manager.specs.Fitting.{IsFitting, IsFittingOn};
     ghost use Rattle.manager_generations.specs.Generations.{runs_out};
-    ghost use Rattle.conn_manager.specs.Manager.{loss_answered};
+    ghost use Rattle.conn_manager.specs.Manager.{loss_answered, standing};
     ghost use Rattle.conn_manager.specs.Turn.{link_shut, all_shut, heard, late_at, resubscription_late};
     ghost use Rattle.conn_manager.specs.Turn.{rest_ended, applied, succeeded, resubscription_timed};
     ghost use Rattle.conn_manager.specs.Turn.{resubscribes, resubscription_begun, settled};
@@ -51,6 +51,7 @@ impl ConnectionManager {
         ensures done { OnOk result (self.new ≡ link_shut self.old draw) }
         ensures spent { IsErrOf result ConnectionError.Spent
             → self.old.conn.failure ≡ Some ConnectionError.Spent }
+        ensures stands { standing self.new ≡ standing self.old }
     {
         if self.generations.links == 0 {
             return Ok(());
@@ -63,6 +64,7 @@ impl ConnectionManager {
         ensures done { OnOk result (self.new ≡ all_shut self.old draw) }
         ensures spent { IsErrOf result ConnectionError.Spent
             → self.old.conn.failure ≡ Some ConnectionError.Spent }
+        ensures stands { standing self.new ≡ standing self.old }
     {
         self.generations.shut_down();
         match self.shut_link(alloc, draw) {
@@ -85,6 +87,7 @@ impl ConnectionManager {
         ensures done { OnOk result (self.new ≡ heard self.old draw link (told news.entry)) }
         ensures spent { IsErrOf result ConnectionError.Spent
             → self.old.conn.failure ≡ Some ConnectionError.Spent }
+        ensures stands { standing self.new ≡ standing self.old }
     {
         if !self.is_current(link) {
             return Ok(());
@@ -97,7 +100,8 @@ impl ConnectionManager {
 
     /// The timer of a request has fired.
     fn be_late(&mut self, alloc: Global, draw: u64, request: u32) -> Result<(), AllocError>
-        ensures { OnOk result (self.new ≡ late_at self.old draw (slice_get self.old.stages request)) }
+        ensures done { OnOk result (self.new ≡ late_at self.old draw (slice_get self.old.stages request)) }
+        ensures stands { standing self.new ≡ standing self.old }
     {
         if request as usize >= self.stages.len() {
             return Ok(());
@@ -116,7 +120,8 @@ impl ConnectionManager {
 
     /// The timer of what subscribes again on the link of this number has fired.
     fn resubscribe_late(&mut self, alloc: Global, draw: u64, link: u32) -> Result<(), AllocError>
-        ensures { OnOk result (self.new ≡ resubscription_late self.old draw link) }
+        ensures done { OnOk result (self.new ≡ resubscription_late self.old draw link) }
+        ensures stands { standing self.new ≡ standing self.old }
     {
         if !(self.is_current(link) && self.generations.phase.is_resubscribing()) {
             return Ok(());
@@ -134,6 +139,7 @@ impl ConnectionManager {
         ensures done { OnOk result (self.new ≡ rest_ended self.old generation attempt) }
         ensures spent { IsErrOf result ConnectionError.Spent
             → runs_out (rest_ended self.old generation attempt).generations ≡ true }
+        ensures stands { standing self.new ≡ standing self.old }
     {
         if !self.generations.rests_behind(generation, attempt) {
             return Ok(());
@@ -158,6 +164,7 @@ impl ConnectionManager {
         ensures spent { IsErrOf result ConnectionError.Spent
             → (self.old.conn.failure ≡ Some ConnectionError.Spent)
             ⊎ (runs_out (applied self.old draw (happened news.entry)).generations ≡ true) }
+        ensures stands { standing self.new ≡ standing self.old }
     {
         match news {
             ConnectionNews::Silence => Ok(()),
@@ -184,6 +191,7 @@ impl ConnectionManager {
         ensures outcomes { self.new.outcomes ≡ self.old.outcomes }
         ensures spent { IsErrOf result ConnectionError.Spent
             → runs_out (succeeded self.old).generations ≡ true }
+        ensures stands { standing self.new ≡ standing self.old }
     {
         if !self.generations.begins_next() {
             return Ok(());
@@ -198,10 +206,11 @@ impl ConnectionManager {
 
     /// The timer of what subscribes again is asked for, where it is to be answered within a time.
     fn time_resubscription(&mut self) -> Result<(), AllocError>
-        ensures { OnOk result (
+        ensures done { OnOk result (
             self.new
             ≡ resubscription_timed self.old self.old.generations.settings.config.connection.response_timeout
             ) }
+        ensures stands { standing self.new ≡ standing self.old }
     {
         let link = self.link();
         match self.generations.settings.config.response_timeout() {
@@ -225,7 +234,8 @@ impl ConnectionManager {
     /// All names that are subscribed now are subscribed again, by one message.
     fn resubscribe(&mut self, alloc: Global) -> Result<(), AllocError>
         requires { length self.old.conn.requests < 2 ^ 32 }
-        ensures { OnOk result (self.new ≡ resubscribes self.old) }
+        ensures done { OnOk result (self.new ≡ resubscribes self.old) }
+        ensures stands { standing self.new ≡ standing self.old }
     {
         let pipeline = self.resubscription(alloc)?;
         let packed = pipeline.get_packed_pipeline(alloc)?;
@@ -236,7 +246,8 @@ impl ConnectionManager {
 
     /// So it is once the link is set up, where the generation subscribes again.
     fn begin_resubscription(&mut self, alloc: Global) -> Result<(), AllocError>
-        ensures { OnOk result (self.new ≡ resubscription_begun self.old) }
+        ensures done { OnOk result (self.new ≡ resubscription_begun self.old) }
+        ensures stands { standing self.new ≡ standing self.old }
     {
         if !(self.generations.phase.is_resubscribing() && self.conn.requests.is_empty()) {
             return Ok(());
@@ -250,6 +261,7 @@ impl ConnectionManager {
         ensures done { OnOk result (self.new ≡ settled self.old) }
         ensures spent { IsErrOf result ConnectionError.Spent
             → runs_out (succeeded (loss_answered self.old)).generations ≡ true }
+        ensures stands { standing self.new ≡ standing self.old }
     {
         self.answer_loss(alloc)?;
         match self.succeed(alloc) {

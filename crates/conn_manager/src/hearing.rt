@@ -61,6 +61,7 @@ impl ConnectionManager {
     ghost use Rattle.conn_manager.specs.Hearing.{closed, came_to, waits, starts, noted, noted_each};
     ghost use Rattle.conn_manager.specs.Hearing.{is_passed_on, is_said};
     ghost use Rattle.conn_manager.specs.Hearing.{affected, timed_out};
+    ghost use Rattle.conn_manager.specs.Manager.{standing};
 
     /// Whether some name is subscribed.
     fn has_names(&self, alloc: Global) -> Result<bool, AllocError>
@@ -73,7 +74,8 @@ impl ConnectionManager {
 
     /// The link is set up.
     fn set_up(&mut self, alloc: Global) -> Result<(), AllocError>
-        ensures { OnOk result (self.new ≡ set_up self.old) }
+        ensures done { OnOk result (self.new ≡ set_up self.old) }
+        ensures stands { standing self.new ≡ standing self.old }
     {
         let subscribed = self.has_names(alloc)?;
         self.generations.set_up(subscribed)
@@ -86,7 +88,8 @@ impl ConnectionManager {
         error: &RedisError,
         draw: u64,
     ) -> Result<(), AllocError>
-        ensures { OnOk result (self.new ≡ opening_failed self.old error.now draw) }
+        ensures done { OnOk result (self.new ≡ opening_failed self.old error.now draw) }
+        ensures stands { standing self.new ≡ standing self.old }
     {
         self.generations.fail(alloc, error, draw)?;
         self.answer_failure(alloc)
@@ -99,7 +102,8 @@ impl ConnectionManager {
         draw: u64,
         error: Option<RedisError>,
     ) -> Result<(), AllocError>
-        ensures { OnOk result (self.new ≡ opened self.old draw error) }
+        ensures done { OnOk result (self.new ≡ opened self.old draw error) }
+        ensures stands { standing self.new ≡ standing self.old }
     {
         match error {
             None => self.set_up(alloc),
@@ -113,7 +117,8 @@ impl ConnectionManager {
 
     /// The link is closed.
     fn close(&mut self) -> Result<(), AllocError>
-        ensures { OnOk result (self.new ≡ closed self.old) }
+        ensures done { OnOk result (self.new ≡ closed self.old) }
+        ensures stands { standing self.new ≡ standing self.old }
     {
         let link = self.link();
         self.say(ManagerAct::Close { link })?;
@@ -122,7 +127,8 @@ impl ConnectionManager {
 
     /// A request of the connection is answered.
     fn come_to(&mut self, alloc: Global, request: u32, outcome: Outcome) -> Result<(), AllocError>
-        ensures { OnOk result (self.new ≡ came_to self.old request outcome) }
+        ensures done { OnOk result (self.new ≡ came_to self.old request outcome) }
+        ensures stands { standing self.new ≡ standing self.old }
     {
         if request == RESUBSCRIPTION {
             drop(outcome);
@@ -133,7 +139,8 @@ impl ConnectionManager {
 
     /// A request of the connection waits.
     fn show_wait_of(&mut self, request: u32, wait: WaitKind) -> Result<(), AllocError>
-        ensures { OnOk result (self.new ≡ waits self.old request wait) }
+        ensures done { OnOk result (self.new ≡ waits self.old request wait) }
+        ensures stands { standing self.new ≡ standing self.old }
     {
         if request == RESUBSCRIPTION {
             return Ok(());
@@ -152,7 +159,8 @@ impl ConnectionManager {
         need: u64,
         len: u64,
     ) -> Result<(), AllocError>
-        ensures { OnOk result (self.new ≡ starts self.old message request need len) }
+        ensures done { OnOk result (self.new ≡ starts self.old message request need len) }
+        ensures stands { standing self.new ≡ standing self.old }
     {
         let link = self.link();
         if request == RESUBSCRIPTION {
@@ -175,7 +183,8 @@ impl ConnectionManager {
     /// An act of the connection that the manager says as its own is said.
     fn say_of_link(&mut self, draw: u64, act: LinkAct) -> Result<(), AllocError>
         requires { is_said act ≡ true }
-        ensures { OnOk result (self.new ≡ noted self.old draw act) }
+        ensures done { OnOk result (self.new ≡ noted self.old draw act) }
+        ensures stands { standing self.new ≡ standing self.old }
     {
         let link = self.link();
         match act {
@@ -212,7 +221,8 @@ impl ConnectionManager {
     #[tactic(auto, using(crate::proofs::Said::unsaid))]
     fn pass_on(&mut self, draw: u64, act: LinkAct) -> Result<(), AllocError>
         requires { is_passed_on act ≡ true }
-        ensures { OnOk result (self.new ≡ noted self.old draw act) }
+        ensures done { OnOk result (self.new ≡ noted self.old draw act) }
+        ensures stands { standing self.new ≡ standing self.old }
     {
         if is_said(&act) {
             return self.say_of_link(draw, act);
@@ -223,7 +233,8 @@ impl ConnectionManager {
 
     /// An act of the connection.
     fn note(&mut self, alloc: Global, draw: u64, act: LinkAct) -> Result<(), AllocError>
-        ensures { OnOk result (self.new ≡ noted self.old draw act) }
+        ensures done { OnOk result (self.new ≡ noted self.old draw act) }
+        ensures stands { standing self.new ≡ standing self.old }
     {
         match act {
             LinkAct::Created { error } => self.open(alloc, draw, error),
@@ -247,7 +258,8 @@ impl ConnectionManager {
         draw: u64,
         acts: Vec<LinkAct>,
     ) -> Result<(), AllocError>
-        ensures { OnOk result (self.new ≡ noted_each self.old draw acts.items) }
+        ensures done { OnOk result (self.new ≡ noted_each self.old draw acts.items) }
+        ensures stands { standing self.new ≡ standing self.old }
     {
         let mut rest = Queue::from_vec(acts);
         while let Some(act) = rest.pop_front() {
@@ -267,6 +279,7 @@ impl ConnectionManager {
         ensures done { OnOk result (self.new ≡ affected self.old draw (told news.entry)) }
         ensures spent { IsErrOf result ConnectionError.Spent
             → self.old.conn.failure ≡ Some ConnectionError.Spent }
+        ensures stands { standing self.new ≡ standing self.old }
     {
         let mut acts = Vec::new(alloc);
         match self.conn.apply(alloc, news, &mut acts) {
@@ -284,7 +297,8 @@ impl ConnectionManager {
         draw: u64,
         number: u32,
     ) -> Result<(), AllocError>
-        ensures { OnOk result (self.new ≡ timed_out self.old draw number) }
+        ensures done { OnOk result (self.new ≡ timed_out self.old draw number) }
+        ensures stands { standing self.new ≡ standing self.old }
     {
         let mut acts = Vec::new(alloc);
         self.conn.time_out(Pending { number }, &mut acts)?;

@@ -32,9 +32,9 @@ impl ConnectionLike for ConnectionManager {
 
     ghost behind = { turn.stepped };
 
-    ghost shown_by = { λ m draw what. (turn.turned m draw what).generations.acts };
+    ghost shown_by = { λ m draw what. (turn.turned (turn.started m) draw what).generations.acts };
 
-    ghost Spends = { spending.Spends };
+    ghost Spends = { λ m draw what. spending.Spends (turn.started m) draw what };
 
     ghost failure_of = { λ m. m.failure };
 

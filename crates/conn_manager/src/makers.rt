@@ -88,6 +88,7 @@ fn blank(
         calls: Seq::new(alloc),
         held: Queue::new(alloc),
         fresh: Queue::new(alloc),
+        recent: Queue::new(alloc),
         wait: None,
         tracker: SubscriptionTracker::new(alloc),
         failure: None,

@@ -29,6 +29,8 @@ pub struct ConnectionManager {
     pub held: Queue<HeldRequest>,
     /// Those of them whose wait hasn't been shown.
     pub fresh: Queue<u32>,
+    /// Those that got their outcome in this turn, the last one first.
+    pub recent: Queue<u32>,
     /// What was shown that they wait for.
     pub wait: Option<WaitKind>,
     /// What is subscribed.
@@ -48,6 +50,7 @@ impl Drop for ConnectionManager {
             calls,
             held,
             fresh,
+            recent,
             wait: _,
             tracker,
             failure: _,
@@ -60,6 +63,7 @@ impl Drop for ConnectionManager {
         drop(calls);
         drop(held);
         drop(fresh);
+        drop(recent);
         drop(tracker);
     }
 }
@@ -67,14 +71,15 @@ impl Drop for ConnectionManager {
 impl ConnectionManager {
     ghost use Rattle.conn_manager.specs.Manager.{said, link_of, is_current};
     ghost use Rattle.conn_manager.specs.Manager.{is_open_at, is_held_at, tracked_call, tracked};
-    ghost use Rattle.conn_manager.specs.Manager.{weighed, kept, answered};
-    ghost use Rattle.conn_manager.specs.Calls.{outcomes_with};
+    ghost use Rattle.conn_manager.specs.Manager.{weighed, is_missing, kept, answered, standing};
+    ghost use Rattle.conn_manager.specs.Calls.{outcomes_but};
     ghost use Rattle.conn_manager.specs.Turn.{reconnected};
 
     /// One more act.
     pub(crate) fn say(&mut self, act: ManagerAct) -> Result<(), AllocError>
         ensures done { OnOk result (self.new ≡ said self.old act) }
         ensures outcomes { self.new.outcomes ≡ self.old.outcomes }
+        ensures stands { standing self.new ≡ standing self.old }
     {
         self.generations.show(act)
     }
@@ -97,6 +102,7 @@ impl ConnectionManager {
     pub(crate) fn reconnect(&mut self, alloc: Global) -> Result<(), AllocError>
         ensures done { OnOk result (self.new ≡ reconnected self.old) }
         ensures outcomes { self.new.outcomes ≡ self.old.outcomes }
+        ensures stands { standing self.new ≡ standing self.old }
     {
         let told = self.info.clone(alloc)?;
         self.conn = connection(alloc, self.generations.settings.config.connection, told)?;
@@ -140,6 +146,7 @@ impl ConnectionManager {
             ≡ record self.old { tracker = tracked_call self.old.tracker (slice_get self.old.calls number) }
             ) }
         ensures outcomes { self.new.outcomes ≡ self.old.outcomes }
+        ensures stands { standing self.new ≡ standing self.old }
     {
         if number as usize >= self.calls.len() {
             return Ok(());
@@ -162,6 +169,7 @@ impl ConnectionManager {
             }
             ) }
         ensures outcomes { self.new.outcomes ≡ self.old.outcomes }
+        ensures stands { standing self.new ≡ standing self.old }
     {
         match outcome {
             Outcome::Done => self.track_call(alloc, number),
@@ -175,6 +183,7 @@ impl ConnectionManager {
     fn weigh(&mut self, outcome: &Outcome)
         ensures done { self.new ≡ weighed self.old outcome.now }
         ensures outcomes { self.new.outcomes ≡ self.old.outcomes }
+        ensures stands { standing self.new ≡ standing self.old }
     {
         match outcome {
             Outcome::Fault(error) => self.generations.answer(error),
@@ -192,7 +201,8 @@ impl ConnectionManager {
         outcome: Outcome,
     ) -> Result<(), AllocError>
         ensures done { OnOk result (self.new ≡ answered self.old number outcome) }
-        ensures outcomes { self.new.outcomes ≡ outcomes_with self.old number outcome }
+        ensures outcomes { outcomes_but self.new number ≡ outcomes_but self.old number }
+        ensures stands { standing self.new ≡ standing self.old }
     {
         if !self.is_open(number) {
             drop(outcome);
@@ -201,8 +211,12 @@ impl ConnectionManager {
         self.stages.set(number as usize, Stage::Closed);
         let tracked = self.track(alloc, number, &outcome);
         self.weigh(&outcome);
-        self.keep(number, outcome);
+        let placed = self.keep(number, outcome);
         match tracked {
+            Ok(()) => {}
+            Err(error) => return Err(error),
+        }
+        match placed {
             Ok(()) => self.say(ManagerAct::Answered {
                 request: Pending { number },
             }),
@@ -210,15 +224,40 @@ impl ConnectionManager {
         }
     }
 
-    /// An outcome in its place, where there is one.
-    fn keep(&mut self, number: u32, outcome: Outcome)
-        ensures { self.new ≡ kept self.old number outcome }
+    /// Whether there is a place for the outcome of a request, in which none stands.
+    fn is_missing(&self, number: u32) -> bool
+        ensures value { result ≡ is_missing (slice_get self.now.outcomes number) }
+        ensures there { result ≡ true → number < length self.now.outcomes }
     {
-        if (number as usize) < self.outcomes.len() {
-            self.outcomes.set(number as usize, Some(outcome));
-        } else {
-            drop(outcome);
+        if number as usize >= self.outcomes.len() {
+            return false;
         }
+        match self.outcomes.at(number as usize) {
+            None => true,
+            Some(_) => false,
+        }
+    }
+
+    /// An outcome in its place, where there is one and none stands there.
+    #[tactic(auto, using(crate::proofs::Standing::kept_stands, crate::proofs::Standing::kept_but))]
+    fn keep(&mut self, number: u32, outcome: Outcome) -> Result<(), AllocError>
+        ensures done { OnOk result (self.new ≡ kept self.old number outcome) }
+        ensures outcomes { outcomes_but self.new number ≡ outcomes_but self.old number }
+        ensures stands { standing self.new ≡ standing self.old }
+    {
+        if !self.is_missing(number) {
+            drop(outcome);
+            return Ok(());
+        }
+        match self.recent.push_front(number) {
+            Ok(()) => {}
+            Err(error) => {
+                drop(outcome);
+                return Err(error);
+            }
+        }
+        self.outcomes.set(number as usize, Some(outcome));
+        Ok(())
     }
 
     /// The number of the current generation; 0 while none has begun. Takes no memory.

@@ -23,7 +23,7 @@ fn numbers(alloc: Global, held: &Queue<HeldRequest>) -> Result<Queue<u32>, Alloc
 }
 
 impl ConnectionManager {
-    ghost use Rattle.conn_manager.specs.Manager.{nobody_held};
+    ghost use Rattle.conn_manager.specs.Manager.{nobody_held, standing};
     ghost use Rattle.conn_manager.specs.Spending.{SpendsAdvance, SpendsRound, SpendsRounds, SpendsPass};
     ghost use Rattle.conn_manager.specs.Turn.{handed, advanced, round, round_each, rounds};
     ghost use Rattle.conn_manager.specs.Turn.{connection_passed, passed};
@@ -34,6 +34,7 @@ impl ConnectionManager {
         requires few { length self.old.conn.requests < 2 ^ 32 }
         ensures done { OnOk result (self.new ≡ handed self.old request) }
         ensures outcomes { self.new.outcomes ≡ self.old.outcomes }
+        ensures stands { standing self.new ≡ standing self.old }
     {
         let HeldRequest {
             number,
@@ -61,6 +62,7 @@ impl ConnectionManager {
     fn advance(&mut self, alloc: Global, draw: u64, number: u32) -> Result<(), ConnectionError>
         ensures done { OnOk result (self.new ≡ advanced self.old draw number) }
         ensures spent { IsErrOf result ConnectionError.Spent → SpendsAdvance self.old number }
+        ensures stands { standing self.new ≡ standing self.old }
     {
         let mut acts = Vec::new(alloc);
         match self.conn.advance(alloc, Pending { number }, &mut acts) {
@@ -80,6 +82,7 @@ impl ConnectionManager {
     ) -> Result<(), ConnectionError>
         ensures done { OnOk result (self.new ≡ round self.old draw request) }
         ensures spent { IsErrOf result ConnectionError.Spent → SpendsRound self.old request }
+        ensures stands { standing self.new ≡ standing self.old }
     {
         if !self.is_held(request.number) {
             return Ok(());
@@ -101,6 +104,7 @@ impl ConnectionManager {
     ) -> Result<(), ConnectionError>
         ensures done { OnOk result (self.new ≡ round_each self.old draw requests) }
         ensures spent { IsErrOf result ConnectionError.Spent → SpendsRounds self.old draw requests }
+        ensures stands { standing self.new ≡ standing self.old }
     {
         let mut rest = requests;
         while let Some(request) = rest.pop_front() {
@@ -117,6 +121,7 @@ impl ConnectionManager {
         ensures done { OnOk result (self.new ≡ rounds self.old draw) }
         ensures spent { IsErrOf result ConnectionError.Spent
             → SpendsRounds (nobody_held self.old) draw self.old.held }
+        ensures stands { standing self.new ≡ standing self.old }
     {
         if !self.generations.phase.is_ready() {
             return Ok(());
@@ -130,6 +135,7 @@ impl ConnectionManager {
     fn pass_connection(&mut self, alloc: Global, draw: u64) -> Result<(), ConnectionError>
         ensures done { OnOk result (self.new ≡ connection_passed self.old draw) }
         ensures spent { IsErrOf result ConnectionError.Spent → SpendsPass self.old }
+        ensures stands { standing self.new ≡ standing self.old }
     {
         let mut acts = Vec::new(alloc);
         match self.conn.advance_all(alloc, &mut acts) {
@@ -146,6 +152,7 @@ impl ConnectionManager {
         ensures spent { IsErrOf result ConnectionError.Spent
             → SpendsPass self.old
             ⊎ SpendsRounds (nobody_held (connection_passed self.old draw)) draw (connection_passed self.old draw).held }
+        ensures stands { standing self.new ≡ standing self.old }
     {
         match self.pass_connection(alloc, draw) {
             Ok(()) => {}
@@ -156,6 +163,7 @@ impl ConnectionManager {
 }
 
 impl ConnectionManager {
+    ghost use Rattle.conn_manager.specs.Manager.{standing};
     ghost use Rattle.conn_manager.specs.Turn.{held_wait, wait_shown, wait_shown_each, is_shown, to_show};
     ghost use Rattle.conn_manager.specs.Turn.{with_wait, held_shown_as, held_shown, flushed};
 
@@ -186,7 +194,8 @@ impl ConnectionManager {
 
     /// The wait of a request is shown, where it waits for its generation.
     fn show_wait(&mut self, wait: WaitKind, number: u32) -> Result<(), AllocError>
-        ensures { OnOk result (self.new ≡ wait_shown self.old wait number) }
+        ensures done { OnOk result (self.new ≡ wait_shown self.old wait number) }
+        ensures stands { standing self.new ≡ standing self.old }
     {
         if !self.is_held(number) {
             return Ok(());
@@ -199,7 +208,8 @@ impl ConnectionManager {
 
     /// The waits of these requests are shown.
     fn show_each(&mut self, wait: WaitKind, requests: Queue<u32>) -> Result<(), AllocError>
-        ensures { OnOk result (self.new ≡ wait_shown_each self.old wait requests) }
+        ensures done { OnOk result (self.new ≡ wait_shown_each self.old wait requests) }
+        ensures stands { standing self.new ≡ standing self.old }
     {
         let mut rest = requests;
         while let Some(number) = rest.pop_front() {
@@ -212,6 +222,7 @@ impl ConnectionManager {
     fn take_unshown(&mut self, alloc: Global, wait: WaitKind) -> Result<Queue<u32>, AllocError>
         ensures value { IfOk result (λ numbers. numbers ≡ to_show self.old wait) }
         ensures rest { OnOk result (self.new ≡ with_wait self.old (Some wait)) }
+        ensures stands { standing self.new ≡ standing self.old }
     {
         let shown = self.is_shown(wait);
         self.wait = Some(wait);
@@ -224,7 +235,8 @@ impl ConnectionManager {
 
     /// The waits of those that wait for their generation are shown, where they began or changed.
     fn show_held(&mut self, alloc: Global) -> Result<(), AllocError>
-        ensures { OnOk result (self.new ≡ held_shown self.old) }
+        ensures done { OnOk result (self.new ≡ held_shown self.old) }
+        ensures stands { standing self.new ≡ standing self.old }
     {
         match self.held_wait() {
             None => {
@@ -244,6 +256,7 @@ impl ConnectionManager {
         ensures done { OnOk result (self.new ≡ flushed self.old draw) }
         ensures spent { IsErrOf result ConnectionError.Spent
             → self.old.conn.failure ≡ Some ConnectionError.Spent }
+        ensures stands { standing self.new ≡ standing self.old }
     {
         let mut acts = Vec::new(alloc);
         match self.conn.flush(alloc, &mut acts) {

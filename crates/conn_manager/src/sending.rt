@@ -1,7 +1,6 @@
 ghost use Rattle.std.specs.Prelude.{◌≡◌, ◌≢◌, ◌<◌, ◌+◌, ◌^◌, ℕ, List, [], length, not, true, None, Some};
 ghost use Rattle.std.specs.Prelude.{OnOk, OnErr, IfOk, IfErr, IsErrOf};
 ghost use Rattle.connection_info.specs.Protocol.{is_resp3};
-ghost use Rattle.driver_model.specs.declared.outcome.Outcome.TheVariants as outcome;
 ghost use Rattle.mux_conn.specs.declared.errors.ConnectionError.{ConnectionError as Failure};
 ghost use Rattle.mux_client.specs.Errors.{send_error};
 ghost use Rattle.mux_client.specs.Failing.{AnswersItsFailure};
@@ -23,7 +22,7 @@ use std::alloc::{AllocError, Global};
 impl ConnectionManager {
     ghost use Rattle.manager_generations.specs.Generations.{runs_out};
     ghost use Rattle.conn_manager.specs.Calls.{begins, entered, waiting, answered_at_once, placed_at};
-    ghost use Rattle.conn_manager.specs.Calls.{next_number, sent, outcome_of, outcomes_with};
+    ghost use Rattle.conn_manager.specs.Calls.{next_number, sent, outcome_of, outcomes_but};
     ghost use Rattle.conn_manager.specs.Calls.{Leaves, RefusesCall, RefusesSend, SparesOthers};
     ghost use Rattle.conn_manager.specs.declared.manager.ConnectionManager.{ConnectionManager};
 
@@ -88,8 +87,7 @@ impl ConnectionManager {
         error: RedisError,
     ) -> Result<(), ConnectionError>
         ensures done { OnOk result (self.new ≡ answered_at_once self.old request error) }
-        ensures outcomes { self.new.outcomes
-            ≡ outcomes_with self.old request.number (outcome.Fault error) }
+        ensures outcomes { outcomes_but self.new request.number ≡ outcomes_but self.old request.number }
         ensures spent { IsErrOf result ConnectionError.Spent
             → runs_out (answered_at_once self.old request error).generations ≡ true }
     {

@@ -28,7 +28,8 @@ use resp_write::{Cmd, Pipeline};
 use std::alloc::Global;
 
 /// What is asked as a connection is: a `MultiplexedConnection`, or a manager of connections. A refused send leaves it as it was.
-/// After any other error it has failed: each later send and step answers the same, and the outcomes of the requests before stay.
+/// After any other error, of a send or of a step, it has failed: each later send and step answers the same, and the outcomes of
+/// the requests before stay.
 pub trait ConnectionLike {
     /// What its steps show.
     type Act;
@@ -108,8 +109,8 @@ pub trait ConnectionLike {
         ensures { result ≡ database self.now };
 
     /// One turn: what happened has its effect, requests are moved as far as they can go, and `out` gains what is to be done,
-    /// that of the sends before included. After an error `out` is as it was, it has failed, and each later call that can fail
-    /// answers the same.
+    /// that of the sends before included. After an error `out` and the outcomes are as they were, it has failed, and each later
+    /// call that can fail answers the same.
     fn step(
         &mut self,
         alloc: Global,
@@ -130,7 +131,8 @@ pub trait ConnectionLike {
             → (failure_of self.old ≡ Some ConnectionError.Spent)
             ⊎ Spends self.old event.entry.word (happened event.entry.news) }
         ensures fails { (e : ConnectionError) → IsErrOf result e → failure_of self.new ≡ Some e }
-        ensures failed { (e : ConnectionError) → failure_of self.old ≡ Some e → IsErrOf result e };
+        ensures failed { (e : ConnectionError) → failure_of self.old ≡ Some e → IsErrOf result e }
+        ensures kept { OnErr result ((p : ℕ) → outcome_of self.new p ≡ outcome_of self.old p) };
 
     /// Whether this may be told it: all but that a link of its own took more bytes than it was offered. Takes no memory.
     fn can_hear(&self, news: ConnectionNews<'_>) -> bool

@@ -5,6 +5,7 @@ use Rattle.mux_conn.specs.declared.errors.ConnectionError.TheVariants as failure
 use Rattle.mux_client.specs.declared.event.ConnectionNews.{ConnectionNews}
 use Rattle.mux_client.specs.Calls.{stepped, acts_of, turn_of}
 use Rattle.mux_client.specs.Events.{happened}
+use Rattle.mux_client.specs.LikeLaws.{outcomes_kept}
 use Rattle.mux_client.specs.Like.{behind, shown_by, Spends}
 use Rattle.mux_client.proofs.Told.{told_on, timely, between}
 use Rattle.mux_client.proofs.like.MultiplexedConnectionConnectionLike.step.Goals as goal
@@ -35,3 +36,9 @@ pub returns-clause-spent : goal.returns-clause-spent
 returns-clause-spent c =
     λ h. inr (told_on (λ d hears. (d.core.failure ≡ Some failure.Spent) ⊎ (uses_up (turn_of d hears) ≡ true)) c.args.self.now c.args.self.now (happened c.args.event.news) (told c.seen_on-news.result)
     (timely c.args.self.now c.args.event.news c.in_default.not-Late) c.seen_on-news.ensures (c.step.ensures.spent h))
+
+pub returns-in-Late-clause-kept : goal.returns-in-Late-clause-kept
+returns-in-Late-clause-kept c = outcomes_kept c.step_late.result c.args.self.now c.step_late.new.self c.step_late.ensures.kept
+
+pub returns-clause-kept : goal.returns-clause-kept
+returns-clause-kept c = outcomes_kept c.step.result c.args.self.now c.step.new.self c.step.ensures.kept
