@@ -1,4 +1,4 @@
-ghost use Rattle.std.specs.Prelude.{◌≡◌, [], ◌∷◌, true, false, OnOk, OnErr};
+ghost use Rattle.std.specs.Prelude.{◌≡◌, ◌<◌, ◌+◌, ℕ, [], ◌∷◌, true, false, length, take, OnOk, OnErr};
 ghost use Rattle.push_links.specs.Held.{put, finished};
 
 use containers::Queue;
@@ -30,6 +30,27 @@ impl<T> Model for Held<T> {
     ghost view = { λ h. record { items = h.items; ended = h.ended } };
 }
 
+/// The last item is let go. Takes no memory.
+#[tactic(auto, using(crate::proofs::Gains::last_cut, crate::proofs::Gains::one_fewer))]
+fn drop_last<T: Drop>(items: &mut Queue<T>)
+    requires { 0 < length items.old }
+    ensures fewer { length items.new + 1 ≡ length items.old }
+    ensures others { (n : ℕ) → n < length items.old → take n items.new ≡ take n items.old }
+{
+    let last = items.len() - 1;
+    items.remove(last);
+}
+
+/// The first so many items stay, and the others are let go. Takes no memory.
+#[tactic(auto, using(crate::proofs::Gains::all_cut))]
+fn keep_first<T: Drop>(items: &mut Queue<T>, count: usize)
+    ensures { items.new ≡ take count items.old }
+{
+    while items.len() > count {
+        drop_last(items);
+    }
+}
+
 impl<T: Drop> Held<T> {
     /// Nothing, of a link that goes on. Takes no memory.
     pub fn new(alloc: Global) -> Held<T>
@@ -47,6 +68,28 @@ impl<T: Drop> Held<T> {
         ensures err { OnErr result (self.new ≡ self.old) }
     {
         self.items.push_back(item)
+    }
+
+    /// How many items are held.
+    pub(crate) fn len(&self) -> usize
+        ensures { result ≡ length self.now.items }
+    {
+        self.items.len()
+    }
+
+    /// Whether the link has ended behind them.
+    pub(crate) fn is_ended(&self) -> bool
+        ensures { result ≡ self.now.ended }
+    {
+        self.ended
+    }
+
+    /// The first so many items stay, and whether the link has ended behind them is this. Takes no memory.
+    pub(crate) fn go_back(&mut self, count: usize, ended: bool)
+        ensures { self.new ≡ record { items = take count self.old.items; ended = ended } }
+    {
+        keep_first(&mut self.items, count);
+        self.ended = ended;
     }
 
     /// The link has ended. Takes no memory.

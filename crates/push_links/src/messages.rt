@@ -53,6 +53,11 @@ impl PubSubMessages {
             → self.new.pubsub.sink.connection.core.failure ≡ Some e }
         ensures failed { (e : ConnectionError) → self.old.pubsub.sink.connection.core.failure ≡ Some e
             → IsErrOf result e }
+        ensures kept { OnErr result (self.new.pubsub.stream.held ≡ self.old.pubsub.stream.held) }
+        ensures outcomes { OnErr result (
+            (self.new.pubsub.sink.connection.outcomes ≡ self.old.pubsub.sink.connection.outcomes)
+            ⊎ (self.new.pubsub.sink.connection.outcomes ≡ (stepped self.old.pubsub.sink.connection (told event.entry.news)).outcomes)
+            ) }
     {
         self.pubsub.step(alloc, event, out)
     }

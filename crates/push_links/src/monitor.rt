@@ -50,8 +50,8 @@ impl Monitor {
     }
 
     /// One turn of its link: `out` gains what is to be done, and what is held gains what the server told, in order, and its end
-    /// where the link ends. After an error `out` is as it was, the link has failed, and each later call that can fail answers the
-    /// same.
+    /// where the link ends. After an error `out` and what is held are as they were, the link has failed, and each later call that
+    /// can fail answers the same.
     pub fn step(
         &mut self,
         alloc: Global,
@@ -78,6 +78,7 @@ impl Monitor {
             → self.new.connection.core.failure ≡ Some e }
         ensures failed { (e : ConnectionError) → self.old.connection.core.failure ≡ Some e
             → IsErrOf result e }
+        ensures kept { OnErr result (self.new.held ≡ self.old.held) }
     {
         let mut acts = Vec::new(alloc);
         match self.connection.step(alloc, event, &mut acts) {

@@ -152,6 +152,7 @@ impl<T> MonitorMessages<T> {
             → self.new.monitor.connection.core.failure ≡ Some e }
         ensures failed { (e : ConnectionError) → self.old.monitor.connection.core.failure ≡ Some e
             → IsErrOf result e }
+        ensures kept { OnErr result (self.new.monitor.held ≡ self.old.monitor.held) }
     {
         self.monitor.step(alloc, event, out)
     }

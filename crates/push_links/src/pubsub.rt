@@ -134,7 +134,8 @@ impl PubSub {
     }
 
     /// One turn of its link: `out` gains what is to be done, and the stream the messages that came, in order, and its end where
-    /// the link ends. After an error `out` is as it was, the link has failed, and each later call that can fail answers the same.
+    /// the link ends. After an error `out` and the stream are as they were, the outcomes are those before the turn or those behind
+    /// it, the link has failed, and each later call that can fail answers the same.
     pub fn step(
         &mut self,
         alloc: Global,
@@ -163,6 +164,11 @@ impl PubSub {
             → self.new.sink.connection.core.failure ≡ Some e }
         ensures failed { (e : ConnectionError) → self.old.sink.connection.core.failure ≡ Some e
             → IsErrOf result e }
+        ensures kept { OnErr result (self.new.stream.held ≡ self.old.stream.held) }
+        ensures outcomes { OnErr result (
+            (self.new.sink.connection.outcomes ≡ self.old.sink.connection.outcomes)
+            ⊎ (self.new.sink.connection.outcomes ≡ (stepped self.old.sink.connection (told event.entry.news)).outcomes)
+            ) }
     {
         let mut acts = Vec::new(alloc);
         match self.sink.step(alloc, event, &mut acts) {

@@ -183,10 +183,11 @@ impl PubSubSink {
         self.connection.step(alloc, event, out)
     }
 
-    /// Memory was refused: the link fails from now on.
+    /// Memory was refused: the link fails from now on. Its outcomes stay.
     pub(crate) fn refuse_memory(&mut self) -> ConnectionError
         ensures value { result ≡ ConnectionError.NoMemory }
         ensures failure { self.new.connection.core.failure ≡ Some ConnectionError.NoMemory }
+        ensures outcomes { self.new.connection.outcomes ≡ self.old.connection.outcomes }
     {
         self.connection.refuse_memory()
     }

@@ -20,7 +20,7 @@ fn show(out: &mut Vec<ConnectionAct>, act: ConnectionAct) -> Result<(), AllocErr
 }
 
 /// The messages among these acts go to the stream, which ends where they close the link, and the others to `out`. An error leaves
-/// `out` as it was.
+/// both as they were.
 pub fn sort_messages(
     acts: Vec<ConnectionAct>,
     stream: &mut PubSubStream,
@@ -31,19 +31,23 @@ pub fn sort_messages(
         ) }
     ensures out { OnOk result (out.new.items ≡ out.old.items ++ others_of_messages acts.items) }
     ensures err { OnErr result (out.new.items ≡ out.old.items) }
+    ensures kept { OnErr result (stream.new.held ≡ stream.old.held) }
 {
     let before = out.len();
+    let count = stream.held.len();
+    let ended = stream.held.is_ended();
     match sort_each(acts, stream, out) {
         Ok(()) => Ok(()),
         Err(error) => {
             out.truncate(before);
+            stream.held.go_back(count, ended);
             Err(error)
         }
     }
 }
 
-/// The same, but for an error, after which `out` may have gained some acts.
-#[tactic(auto, using(crate::proofs::Gains::no_message_more))]
+/// The same, but for an error, after which both may have gained something.
+#[tactic(auto, using(crate::proofs::Gains::no_message_more, crate::proofs::Gains::front_on))]
 fn sort_each(
     acts: Vec<ConnectionAct>,
     stream: &mut PubSubStream,
@@ -54,6 +58,7 @@ fn sort_each(
         ) }
     ensures out { OnOk result (out.new.items ≡ out.old.items ++ others_of_messages acts.items) }
     ensures err { OnErr result (take (length out.old.items) out.new.items ≡ out.old.items) }
+    ensures kept { OnErr result (take (length stream.old.held.items) stream.new.held.items ≡ stream.old.held.items) }
 {
     let mut rest = Queue::from_vec(acts);
     while let Some(act) = rest.pop_front() {
@@ -74,6 +79,8 @@ fn sort_message(
         with_messages stream.new.held more ≡ with_messages stream.old.held (act ∷ more)) }
     ensures out { OnOk result (out.new.items ≡ out.old.items ++ other_than_message act) }
     ensures err { OnErr result (out.new.items ≡ out.old.items) }
+    ensures gained { OnOk result (take (length stream.old.held.items) stream.new.held.items ≡ stream.old.held.items) }
+    ensures kept { OnErr result (stream.new.held.items ≡ stream.old.held.items) }
 {
     match act {
         ConnectionAct::Message { msg } => stream.put(msg),
@@ -86,7 +93,7 @@ fn sort_message(
 }
 
 /// What a server in monitor mode tells by these acts is held, and that the link has ended where they close it; the others go to
-/// `out`. An error leaves `out` as it was.
+/// `out`. An error leaves both as they were.
 pub fn sort_told(
     acts: Vec<ConnectionAct>,
     held: &mut Held<Value>,
@@ -95,19 +102,23 @@ pub fn sort_told(
     ensures held { OnOk result (held.new ≡ with_told held.old acts.items) }
     ensures out { OnOk result (out.new.items ≡ out.old.items ++ others_of_told acts.items) }
     ensures err { OnErr result (out.new.items ≡ out.old.items) }
+    ensures kept { OnErr result (held.new ≡ held.old) }
 {
     let before = out.len();
+    let count = held.len();
+    let ended = held.is_ended();
     match sort_told_each(acts, held, out) {
         Ok(()) => Ok(()),
         Err(error) => {
             out.truncate(before);
+            held.go_back(count, ended);
             Err(error)
         }
     }
 }
 
-/// The same, but for an error, after which `out` may have gained some acts.
-#[tactic(auto, using(crate::proofs::Gains::nothing_told_more))]
+/// The same, but for an error, after which both may have gained something.
+#[tactic(auto, using(crate::proofs::Gains::nothing_told_more, crate::proofs::Gains::front_on))]
 fn sort_told_each(
     acts: Vec<ConnectionAct>,
     held: &mut Held<Value>,
@@ -116,6 +127,7 @@ fn sort_told_each(
     ensures held { OnOk result (held.new ≡ with_told held.old acts.items) }
     ensures out { OnOk result (out.new.items ≡ out.old.items ++ others_of_told acts.items) }
     ensures err { OnErr result (take (length out.old.items) out.new.items ≡ out.old.items) }
+    ensures kept { OnErr result (take (length held.old.items) held.new.items ≡ held.old.items) }
 {
     let mut rest = Queue::from_vec(acts);
     while let Some(act) = rest.pop_front() {
@@ -135,6 +147,8 @@ fn sort_one_told(
         with_told held.new more ≡ with_told held.old (act ∷ more)) }
     ensures out { OnOk result (out.new.items ≡ out.old.items ++ other_than_told act) }
     ensures err { OnErr result (out.new.items ≡ out.old.items) }
+    ensures gained { OnOk result (take (length held.old.items) held.new.items ≡ held.old.items) }
+    ensures kept { OnErr result (held.new.items ≡ held.old.items) }
 {
     match act {
         ConnectionAct::Monitor { value } => held.put(value),

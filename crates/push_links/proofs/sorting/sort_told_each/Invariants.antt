@@ -7,6 +7,7 @@ invariant-loop-act l = record {
   gained : with_told l.held l.rest ≡ with_told l.fn.held l.fn.acts.items;
   others : l.out.items ++ others_of_told l.rest ≡ l.fn.out.items ++ others_of_told l.fn.acts.items;
   front : take (length l.fn.out.items) l.out.items ≡ l.fn.out.items;
+  held : take (length l.fn.held.items) l.held.items ≡ l.fn.held.items;
 }
 
 abbrev pub decreases-loop-act : goal.decreases-loop-act
