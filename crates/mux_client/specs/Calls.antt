@@ -15,6 +15,7 @@ use Rattle.mux_conn.specs.Requests.{asked}
 use Rattle.mux_conn.specs.Internal.{asked_inside}
 use Rattle.mux_conn.specs.Effects.{left, timed_out}
 use Rattle.mux_conn.specs.Turn as turn
+use Rattle.mux_client.specs.declared.showing.Answer.{Answer}
 use Rattle.mux_client.specs.declared.act.ConnectionAct.{ConnectionAct}
 use Rattle.mux_client.specs.declared.act.ConnectionAct.TheVariants as act
 use Rattle.mux_client.specs.declared.act.ConnectionTimer.TheVariants as timer
@@ -23,7 +24,7 @@ use Rattle.mux_client.specs.declared.errors.SendError.TheVariants as error
 use Rattle.mux_client.specs.declared.connection.MultiplexedConnection.{MultiplexedConnection}
 use Rattle.mux_client.specs.Connection.{outcome_of}
 use Rattle.mux_client.specs.Failing.{LeavesBehind}
-use Rattle.mux_client.specs.Shown.{pending, shown_each, kept_each}
+use Rattle.mux_client.specs.Shown.{pending, shown_each, kept_each, placed_each}
 
 -- the number of the next request
 abbrev pub next_number : MultiplexedConnection → ℕ
@@ -96,6 +97,10 @@ turn_of c news = turn.stepped (work_with c.core []) news
 
 abbrev pub stepped : MultiplexedConnection → News → MultiplexedConnection
 stepped c news = record (done c (turn_of c news)) { early = [] }
+
+-- the outcomes of a turn are kept
+abbrev pub with_answers : MultiplexedConnection → List Answer → MultiplexedConnection
+with_answers c answers = record c { outcomes = placed_each c.outcomes answers }
 
 -- what a step shows
 abbrev pub acts_of : MultiplexedConnection → News → List ConnectionAct

@@ -24,3 +24,4 @@ pub use like::{Connect, ConnectionLike};
 pub use makers::ConnectionGetters;
 pub use managers::ManagerGetters;
 pub use mux_conn::{ConnectionError, Pending};
+pub use showing::Answer;

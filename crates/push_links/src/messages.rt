@@ -55,8 +55,7 @@ impl PubSubMessages {
             → IsErrOf result e }
         ensures kept { OnErr result (self.new.pubsub.stream.held ≡ self.old.pubsub.stream.held) }
         ensures outcomes { OnErr result (
-            (self.new.pubsub.sink.connection.outcomes ≡ self.old.pubsub.sink.connection.outcomes)
-            ⊎ (self.new.pubsub.sink.connection.outcomes ≡ (stepped self.old.pubsub.sink.connection (told event.entry.news)).outcomes)
+            self.new.pubsub.sink.connection.outcomes ≡ self.old.pubsub.sink.connection.outcomes
             ) }
     {
         self.pubsub.step(alloc, event, out)

@@ -134,8 +134,8 @@ impl PubSub {
     }
 
     /// One turn of its link: `out` gains what is to be done, and the stream the messages that came, in order, and its end where
-    /// the link ends. After an error `out` and the stream are as they were, the outcomes are those before the turn or those behind
-    /// it, the link has failed, and each later call that can fail answers the same.
+    /// the link ends. After an error `out`, the stream and the outcomes are as they were, the link has failed, and each later
+    /// call that can fail answers the same.
     pub fn step(
         &mut self,
         alloc: Global,
@@ -166,18 +166,23 @@ impl PubSub {
             → IsErrOf result e }
         ensures kept { OnErr result (self.new.stream.held ≡ self.old.stream.held) }
         ensures outcomes { OnErr result (
-            (self.new.sink.connection.outcomes ≡ self.old.sink.connection.outcomes)
-            ⊎ (self.new.sink.connection.outcomes ≡ (stepped self.old.sink.connection (told event.entry.news)).outcomes)
+            self.new.sink.connection.outcomes ≡ self.old.sink.connection.outcomes
             ) }
     {
         let mut acts = Vec::new(alloc);
-        match self.sink.step(alloc, event, &mut acts) {
-            Ok(()) => {}
+        let answers = match self.sink.step_apart(alloc, event, &mut acts) {
+            Ok(answers) => answers,
             Err(error) => return Err(error),
-        }
+        };
         match sort_messages(acts, &mut self.stream, out) {
-            Ok(()) => Ok(()),
-            Err(_) => Err(self.sink.refuse_memory()),
+            Ok(()) => {
+                self.sink.keep(answers);
+                Ok(())
+            }
+            Err(_) => {
+                drop(answers);
+                Err(self.sink.refuse_memory())
+            }
         }
     }
 

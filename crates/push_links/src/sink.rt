@@ -7,16 +7,18 @@ ghost use Rattle.mux_conn.specs.Connection.{uses_up};
 ghost use Rattle.mux_conn.specs.Effects.{IsWithin};
 ghost use Rattle.mux_conn.specs.declared.errors.ConnectionError.TheVariants as failure;
 ghost use Rattle.mux_client.specs.Connection.{attached, outcome_of};
-ghost use Rattle.mux_client.specs.Calls.{acts_of, called, cancelled, next_number, stepped, turn_of};
+ghost use Rattle.mux_client.specs.Calls.{acts_of, called, cancelled, next_number, stepped, turn_of, with_answers};
 ghost use Rattle.mux_client.specs.Calls.{Leaves, RefusesCall, RefusesSend};
 ghost use Rattle.mux_client.specs.Failing.{AnswersItsFailure};
 ghost use Rattle.resp_write.specs.Pack.{pack};
 ghost use Rattle.push_links.specs.Links.{pinged, ping_bytes};
 
 use connection_info::RedisConnectionInfo;
-use containers::Names;
+use containers::{Names, Seq};
 use driver_model::{Hearing, LinkEvent, Outcome};
-use mux_client::{ConnectionAct, ConnectionError, MultiplexedConnection, Pending, SendError};
+use mux_client::{
+    Answer, ConnectionAct, ConnectionError, MultiplexedConnection, Pending, SendError,
+};
 use resp_write::{Cmd, cmd};
 use std::alloc::{AllocError, Global};
 
@@ -181,6 +183,41 @@ impl PubSubSink {
         ensures kept { OnErr result (self.new.connection.outcomes ≡ self.old.connection.outcomes) }
     {
         self.connection.step(alloc, event, out)
+    }
+
+    /// The same, but nobody has the outcomes of the turn before they are handed to `keep`.
+    pub(crate) fn step_apart(
+        &mut self,
+        alloc: Global,
+        event: LinkEvent<'_>,
+        out: &mut Vec<ConnectionAct>,
+    ) -> Result<Seq<Answer>, ConnectionError>
+        requires { IsWithin self.old.connection.core.life (told event.news) }
+        ensures conn { IfOk result (λ answers.
+            with_answers self.new.connection answers
+            ≡ stepped self.old.connection (told event.entry.news)
+            ) }
+        ensures acts { OnOk result (
+            out.new.items ≡ out.old.items ++ acts_of self.old.connection (told event.entry.news)
+            ) }
+        ensures err { OnErr result (out.new.items ≡ out.old.items) }
+        ensures spent { IsErrOf result ConnectionError.Spent
+            → (self.old.connection.core.failure ≡ Some ConnectionError.Spent)
+            ⊎ (uses_up (turn_of self.old.connection (told event.entry.news)) ≡ true) }
+        ensures fails { (e : ConnectionError) → IsErrOf result e
+            → self.new.connection.core.failure ≡ Some e }
+        ensures failed { (e : ConnectionError) → self.old.connection.core.failure ≡ Some e
+            → IsErrOf result e }
+        ensures kept { self.new.connection.outcomes ≡ self.old.connection.outcomes }
+    {
+        self.connection.step_apart(alloc, event, out)
+    }
+
+    /// The outcomes of a turn are kept. Takes no memory.
+    pub(crate) fn keep(&mut self, answers: Seq<Answer>)
+        ensures { self.new.connection ≡ with_answers self.old.connection answers }
+    {
+        self.connection.keep(answers);
     }
 
     /// Memory was refused: the link fails from now on. Its outcomes stay.
