@@ -24,13 +24,14 @@ pub record Delta (ticket : ℕ) (now : Now) (ticket' : ℕ) (now' : Now) (v w : 
   pub no_claim : claimed 0 w ≡ claimed 0 v
 
 pub counted_set : (ticket : ℕ) (now : Now) (views : List View) → Counted ticket now views → (id : ℕ) (v w : View) → get_elem? views id ≡ some v
-    → (ticket' : ℕ) (now' : Now) → Delta ticket now ticket' now' v w → Counted ticket' now' (set views id w)
-counted_set ticket now views c id v w at ticket' now' d = record {
+    → (ticket' : ℕ) (now' : Now) → now'.most ≡ now.most → Delta ticket now ticket' now' v w → Counted ticket' now' (set views id w)
+counted_set ticket now views c id v w at ticket' now' same_most d = record {
   drawn = let a = total_set (λ (v : View). draws v.stage) views id v w at in let b = c.drawn in let e = d.drawn in omega arith;
   tickets = λ n. let a = total_set (λ (v : View). has n v.stage) views id v w at in let b = c.tickets n in let e = d.tickets n in omega arith;
   callers = let a = total_set callers views id v w at in let b = c.callers in let e = d.callers_stay in let f = count in omega arith;
   numbers = λ n. let a = total_set (numbered n) views id v w at in let b = c.numbers n in let e = d.numbers_stay n in let f = ap (below n) count in omega arith;
-  few = subst (λ (n : ℕ). n < 2 ^ 32) (sym count) c.few;
+  few = let a = count in let b = c.few in omega (arith, a, b, same_most);
+  limit = subst (λ (n : ℕ). n < 2 ^ 32) (sym same_most) c.limit;
   makers = λ m from to. let a = total_set (makes m) views id v w at in ⊎_elim
       (λ (h : (m < now.made) × (makes m v ≤ makes m w)). let b = c.makers m from h.0 in let e = h.1 in omega arith)
       (λ (h : makes m v + 1 ≤ makes m w). omega arith)
@@ -49,7 +50,7 @@ each_set K vs id w mine others j u e = ⊎_elim (λ (t : (j ≡ id) × (w ≡ u)
 -- more is known than before
 pub record Later (now now' : Now) : Type 0 where
   pub log : IsPrefix now.log now'.log
-  pub config : (now'.config ≡ now.config) × (now'.word ≡ now.word)
+  pub config : (now'.config ≡ now.config) × (now'.word ≡ now.word) × (now'.most ≡ now.most)
   pub mark : now.mark ≢ Sound → now'.mark ≡ now.mark
   pub made : now.made ≤ now'.made
   pub dial : now.dial ≤ now'.dial
@@ -74,7 +75,7 @@ fits_later now now' u l f turn = record {
   seen = prefix_of u.seen now.log now'.log f.seen l.log;
   turn = turn;
   mine = f.mine;
-  config = λ one. (let c = f.config one in (c.0 ∙ sym l.config.0, c.1 ∙ sym l.config.1));
+  config = λ one. (let c = f.config one in (c.0 ∙ sym l.config.0, c.1 ∙ sym l.config.1, c.2 ∙ sym l.config.2));
   failure = λ n. (let is = f.failure n in l.mark (λ e. n (sym is ∙ e)) ∙ is);
   made = let a = f.made in let b = l.made in omega arith;
   dial = let a = f.dial in let b = l.dial in omega arith;

@@ -28,7 +28,7 @@ abbrev Homes : Type 0
 Homes = List (mathlib.Core.Option.Option (Option Home))
 
 pub later_same : (now : Now) → Later now now
-later_same now = record { log = prefix_all now.log; config = (refl, refl); mark = λ _. refl; made = omega arith; dial = omega arith }
+later_same now = record { log = prefix_all now.log; config = (refl, refl, refl); mark = λ _. refl; made = omega arith; dial = omega arith }
 
 -- a step of one seat: each part of the rule, as far as it changes
 pub moves_to : (s : St) (r : Ruled s) (id : ℕ) (v w : View) → get_elem? s.views id ≡ some v → (ticket' : ℕ) (now' : Now) (words' : List ℕ) (homes' : Homes)
@@ -40,7 +40,7 @@ moves_to s r id v w at ticket' now' words' homes' delta words_are spent place mi
   ticket = ticket';
   now = now';
   words = words_are;
-  counted = counted_set r.ticket r.now s.views r.counted id v w at ticket' now' delta;
+  counted = counted_set r.ticket r.now s.views r.counted id v w at ticket' now' later.config.2 delta;
   spent = spent;
   place = place (total_set (λ (v : View). out v.stage) s.views id v w at);
   each = each_set (Fits now') s.views id w mine (λ j u apart e. fits_later r.now now' u later (r.each j u e) (turns j u apart e));
@@ -51,7 +51,7 @@ module _ (s : St) (r : Ruled s) where
   pub short : r.ticket < r.now.serving + 2 ^ 64
   short =
       let a = total_le (λ (v : View). draws v.stage) callers s.views (λ j u e. let b = (r.each j u e).caller in omega arith) in
-      let b = r.counted.drawn in let c = r.counted.callers in let d = r.counted.few in omega arith
+      let b = r.counted.drawn in let c = r.counted.callers in let d = r.counted.few in let e = r.counted.limit in omega arith
 
   -- the one that is served has one seat
   one : total (λ (v : View). has r.now.serving v.stage) s.views ≤ 1
@@ -261,7 +261,7 @@ takes_out slots id me st t is s r deep at fits =
           (record { seen = mine.seen; turn = (is_t ∙ k.0, k.1, k.2, k.3, k.4); mine = mine.mine; config = mine.config; failure = mine.failure; made = mine.made; dial = mine.dial; caller = subst (λ x. draws x ≤ length v.number) is mine.caller; single = mine.single; ended = mine.ended; nothing = mine.nothing; fronts = mine.fronts })
           (later_same r.now)
           (λ j u _ e. (r.each j u e).turn),
-      (refl, subst (λ (x : Config × ℕ × List Event × Failure). MaySpend x.0 x.1 x.2 x.3) (λ i. (sym c.0 i, sym c.1 i, sym k.1 i, sym k.2 i)) r.spent, (let a = k.3 in let b = r.counted.few in omega arith)),
+      (refl, subst (λ (x : Config × ℕ × List Event × Failure). MaySpend x.0 x.1 x.2 x.3) (λ i. (sym c.0 i, sym c.1 i, sym k.1 i, sym k.2 i)) r.spent, (let a = k.3 in let b = r.counted.few in let d = c.2 in omega arith)),
     )
 
 -- raise serving
@@ -298,7 +298,7 @@ raises slots id me st t is s r deep at fits =
     )
   where
     later_as : (n : Now) → Later r.now (record r.now { serving = n.serving })
-    later_as n = record { log = prefix_all r.now.log; config = (refl, refl); mark = λ _. refl; made = omega arith; dial = omega arith }
+    later_as n = record { log = prefix_all r.now.log; config = (refl, refl, refl); mark = λ _. refl; made = omega arith; dial = omega arith }
 
 -- compare-exchange of dial
 pub dials : (slots id : ℕ) (me : Sat) (said : Option Home) (g : ℕ) → length me.0.number ≡ 1 → g + 1 < 2 ^ 64 → (st : At) → st.first ≡ g → st.second ≡ g + 1 → Allows Ruled slots id me 2 (λ n. either (eqb n g) (g + 1) n) (dialled st me)
@@ -338,7 +338,7 @@ dials slots id me said g caller fits_in st first second s r deep at fits = dite 
         let now : r.now.dial ≡ g = sym found ∙ e in
         let n : Now = record r.now { dial = g + 1 } in
         let w : View = record v { dial = st.second; claims = v.claims ++ st.second ∷ [] } in
-        let later : Later r.now n = record { log = prefix_all r.now.log; config = (refl, refl); mark = λ _. refl; made = omega arith; dial = omega arith } in
+        let later : Later r.now n = record { log = prefix_all r.now.log; config = (refl, refl, refl); mark = λ _. refl; made = omega arith; dial = omega arith } in
         let new : either (eqb (slice_index s.words 2) g) (g + 1) (slice_index s.words 2) ≡ g + 1 = ap (λ b. either b (g + 1) (slice_index s.words 2)) (eq-eqb (slice_index s.words 2) g e) in (
           w,
           keeps,
@@ -410,7 +410,7 @@ gives_by slots id me st t h x is knows has_t draws_one out_one more_most ticket_
     let more_is : more v.stage ≡ more x = ap more is in
     let later : Later r.now n = record {
       log = subst (λ l. IsPrefix l events) k.1 longer;
-      config = (refl, refl);
+      config = (refl, refl, refl);
       mark = λ m. (may.kept (λ e. m (sym k.2 ∙ e))).0 ∙ k.2;
       made = omega arith;
       dial = omega arith;
@@ -464,7 +464,7 @@ gives_by slots id me st t h x is knows has_t draws_one out_one more_most ticket_
     events = h.session.events
 
     n : Now
-    n = record { serving = r.now.serving; config = r.now.config; word = r.now.word; log = events; mark = h.session.failure; made = h.made; dial = r.now.dial }
+    n = record { serving = r.now.serving; config = r.now.config; word = r.now.word; most = r.now.most; log = events; mark = h.session.failure; made = h.made; dial = r.now.dial }
 
     -- the caller that was made now was made by this seat
     one_more : (ns : List ℕ) (b m : ℕ) → 1 ≤ length ns → Each (λ (k : ℕ). k < b) ns → b ≤ m → total (λ (k : ℕ). between k m b) ns + 1 ≤ total (λ (k : ℕ). between k m (m + 1)) ns

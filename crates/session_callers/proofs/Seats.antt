@@ -28,7 +28,7 @@ more_out (Holding t) = omega arith
 more_out (Split t) = omega arith
 
 -- split seat
-pub splits : (id : ℕ) (v : View) (t : ℕ) → v.stage ≡ Holding t → v.made + 1 < 2 ^ 32 → Splits Ruled id v (left_of v) (right_of v)
+pub splits : (id : ℕ) (v : View) (t : ℕ) → v.stage ≡ Holding t → v.made + 1 ≤ v.most → Splits Ruled id v (left_of v) (right_of v)
 splits id v t is room s r at =
     let w = left_of v in
     let x = right_of v in
@@ -61,7 +61,8 @@ splits id v t is room s r at =
             let c : below n (r.now.made + total (λ (v : View). more v.stage) s.views) ≡ below n r.now.made = ap (λ k. below n (r.now.made + k)) none_more ∙ omega arith in
             let d : below n (r.now.made + total (λ (v : View). more v.stage) (set s.views id w ++ x ∷ [])) ≡ below n (r.now.made + 1) = ap (λ k. below n (r.now.made + k)) now_more in
             let e : same n v.made ≡ same n r.now.made = ap (same n) made_is in omega (arith, below_up n r.now.made);
-        few = subst (λ k. r.now.made + k < 2 ^ 32) (sym now_more) (omega arith);
+        few = subst (λ k. r.now.made + k ≤ r.now.most) (sym now_more) (let a = (mine.config one_caller).2 in omega arith);
+        limit = r.counted.limit;
         makers = λ m from to. let a = sum (makes m) in let b = r.counted.makers m from to in omega arith;
         positions = λ p. let a = sum (owns p) in let b = r.counted.positions p in omega arith;
         claims = λ g. let a = sum (claimed (suc g)) in let b = r.counted.claims g in omega arith;
@@ -124,7 +125,8 @@ joins id v other w k v_idle w_idle caller one s r at apart there =
         callers = let a = sum callers in let b = r.counted.callers in omega arith;
         numbers = λ n. let a = sum (numbered n) in let b = r.counted.numbers n in let c = inner (λ (e : Ended). same n e.number) in
             let d : times n w.number ≡ same n k + 0 = ap (times n) one in let e = ap (λ (j : ℕ). below n (r.now.made + j)) more_is in omega arith;
-        few = subst (λ (j : ℕ). r.now.made + j < 2 ^ 32) (sym more_is) r.counted.few;
+        few = subst (λ (j : ℕ). r.now.made + j ≤ r.now.most) (sym more_is) r.counted.few;
+        limit = r.counted.limit;
         makers = λ m from to. let a = sum (makes m) in let b = r.counted.makers m from to in let c = inner (λ (e : Ended). between e.number m e.made) in
             let d : total (λ (n : ℕ). between n m w.made) w.number ≡ between k m w.made + 0 = ap (total (λ (n : ℕ). between n m w.made)) one in omega arith;
         positions = λ p. let a = sum (owns p) in let b = r.counted.positions p in let c = inner (λ (e : Ended). times p e.mine) in omega arith;
@@ -162,8 +164,8 @@ pub not_spent : Sound ≡ Spent → ⊥
 not_spent e = cc
 
 -- the rule at the start
-pub starts : (config : Config) (word : ℕ) (h : Home) → h.session ≡ history config word [] Sound → h.made ≡ 1 → h.submissions ≡ 0 → Ruled (opening (0 ∷ 0 ∷ 0 ∷ []) (Some h ∷ []) (newcomer config word 0 [] 0))
-starts config word h empty made none_yet = record {
+pub starts : (config : Config) (word most : ℕ) (h : Home) → 1 ≤ most → most < 2 ^ 32 → h.session ≡ history config word [] Sound → h.made ≡ 1 → h.submissions ≡ 0 → Ruled (opening (0 ∷ 0 ∷ 0 ∷ []) (Some h ∷ []) (newcomer config word most 0 [] 0))
+starts config word most h any limit empty made none_yet = record {
   ticket = 0;
   now = now;
   words = refl;
@@ -172,7 +174,8 @@ starts config word h empty made none_yet = record {
     tickets = λ n. omega arith;
     callers = refl;
     numbers = λ n. omega arith;
-    few = omega arith;
+    few = omega (arith, any);
+    limit = limit;
     makers = λ m from to. absurd (omega arith);
     positions = λ p. omega arith;
     claims = λ g. omega arith;
@@ -184,8 +187,8 @@ starts config word h empty made none_yet = record {
 }
   where
     now : Now
-    now = record { serving = 0; config = config; word = word; log = []; mark = Sound; made = 1; dial = 0 }
+    now = record { serving = 0; config = config; word = word; most = most; log = []; mark = Sound; made = 1; dial = 0 }
 
-    each_one : (j : ℕ) (v : View) → get_elem? (newcomer config word 0 [] 0 ∷ []) j ≡ some v → Fits now v
-    each_one zero v e = subst (Fits now) (some-injective _ _ e) (record { seen = ([], refl); turn = tt; mine = omega arith; config = λ _. (refl, refl); failure = λ n. absurd (n refl); made = zero-le; dial = zero-le; caller = zero-le; single = omega arith; ended = tt; nothing = λ e. absurd (omega arith); fronts = tt })
+    each_one : (j : ℕ) (v : View) → get_elem? (newcomer config word most 0 [] 0 ∷ []) j ≡ some v → Fits now v
+    each_one zero v e = subst (Fits now) (some-injective _ _ e) (record { seen = ([], refl); turn = tt; mine = omega arith; config = λ _. (refl, refl, refl); failure = λ n. absurd (n refl); made = zero-le; dial = zero-le; caller = zero-le; single = omega arith; ended = tt; nothing = λ e. absurd (omega arith); fronts = tt })
     each_one (suc j) v e = absurd (some-ne-none v (sym e))

@@ -1,5 +1,5 @@
 -- What a whole turn does to a view.
-use Rattle.std.proofs.Common.{◌≡◌, ◌≢◌, ℕ, ◌+◌, ◌^◌, ◌<◌, List, [], ◌∷◌, ◌++◌, length, refl, sym, ap, ◌∙◌, subst, arith, eq-eqb, ne_eqb, Bool, true, false, length-append, inl}
+use Rattle.std.proofs.Common.{◌≡◌, ◌≢◌, ℕ, ◌+◌, ◌≤◌, List, [], ◌∷◌, ◌++◌, length, refl, sym, ap, ◌∙◌, subst, arith, eq-eqb, ne_eqb, Bool, true, false, length-append, inl}
 use Rattle.std.specs.Prelude.{Result, Ok, Err, IfOk, IfErr, OnOk, if◌then◌else◌}
 use mathlib.Core.List.{IsPrefix}
 use Rattle.driver_model.specs.declared.action.Action.{Action}
@@ -32,7 +32,7 @@ if_err (Ok x) f p = tt
 if_err (Err e) f p = f e p
 
 -- a view whose turn has come and which takes the session out, from the view before its ticket was drawn
-took_plain : (v : View) (h : Home) (t : ℕ) (seen : List Event) (failure : Failure) (made : ℕ) → IsPrefix v.seen seen → h.session ≡ history v.config v.word seen failure → h.made ≡ made → h.submissions ≡ submissions_in seen → MaySpend v.config v.word seen failure → made < 2 ^ 32 → Took v (record (served (waiting v t) seen failure made) { stage = Holding t }) h
+took_plain : (v : View) (h : Home) (t : ℕ) (seen : List Event) (failure : Failure) (made : ℕ) → IsPrefix v.seen seen → h.session ≡ history v.config v.word seen failure → h.made ≡ made → h.submissions ≡ submissions_in seen → MaySpend v.config v.word seen failure → made ≤ v.most → Took v (record (served (waiting v t) seen failure made) { stage = Holding t }) h
 took_plain v h t seen failure made begins session made_is count spent few = record {
   stage = (t, refl);
   seen = begins;
@@ -45,6 +45,7 @@ took_plain v h t seen failure made begins session made_is count spent few = reco
   claims = refl;
   config = refl;
   word = refl;
+  most = refl;
   session = session;
   made = made_is;
   submissions = count;
@@ -53,7 +54,7 @@ took_plain v h t seen failure made begins session made_is count spent few = reco
 }
 
 -- the same, as the three steps say it
-pub took_of : (v a b w : View) (h : Home) (t : ℕ) (seen : List Event) (failure : Failure) (made : ℕ) → a ≡ waiting v t → IsPrefix a.seen seen → b ≡ served a seen failure made → w ≡ record b { stage = Holding (ticket_of b.stage) } → h.session ≡ history b.config b.word b.seen b.failure → h.made ≡ b.made → h.submissions ≡ submissions_in b.seen → MaySpend b.config b.word b.seen b.failure → b.made < 2 ^ 32 → Took v w h
+pub took_of : (v a b w : View) (h : Home) (t : ℕ) (seen : List Event) (failure : Failure) (made : ℕ) → a ≡ waiting v t → IsPrefix a.seen seen → b ≡ served a seen failure made → w ≡ record b { stage = Holding (ticket_of b.stage) } → h.session ≡ history b.config b.word b.seen b.failure → h.made ≡ b.made → h.submissions ≡ submissions_in b.seen → MaySpend b.config b.word b.seen b.failure → b.made ≤ b.most → Took v w h
 took_of v a b w h t seen failure made drew begins turn holds session made_is count spent few =
     let is : b ≡ served (waiting v t) seen failure made = turn ∙ ap (λ (x : View). served x seen failure made) drew in
     subst (λ (x : View). Took v x h) (sym (holds ∙ ap (λ (x : View). record x { stage = Holding (ticket_of x.stage) }) is)) (took_plain v h t seen failure made
@@ -62,7 +63,7 @@ took_of v a b w h t seen failure made drew begins turn holds session made_is cou
     (made_is ∙ ap (λ (x : View). x.made) is)
     (count ∙ ap (λ (x : View). submissions_in x.seen) is)
     (subst (λ (x : View). MaySpend x.config x.word x.seen x.failure) is spent)
-    (subst (λ (x : View). x.made < 2 ^ 32) is few))
+    (subst (λ (x : View). x.made ≤ x.most) is few))
 
 -- the session that was taken out is counted
 pub counted : (v w : View) (h : Home) → Took v w h → IsCounted h
@@ -115,6 +116,7 @@ turned v w h k t longer = record {
   claims = t.claims;
   config = t.config;
   word = t.word;
+  most = t.most;
 }
 
 pub turned_as : (known v w x : View) (h k : Home) → v ≡ known → Took v w h → Stepped h k → x ≡ record (given w k) { stage = Idle } → Turned known x

@@ -57,6 +57,7 @@ pub record Turned (v w : View) : Type 0 where
   pub claims : w.claims ≡ v.claims
   pub config : w.config ≡ v.config
   pub word : w.word ≡ v.word
+  pub most : w.most ≡ v.most
 
 -- a view in its turn, which has the session out
 pub record Took (v w : View) (h : Home) : Type 0 where
@@ -71,11 +72,12 @@ pub record Took (v w : View) (h : Home) : Type 0 where
   pub claims : w.claims ≡ v.claims
   pub config : w.config ≡ v.config
   pub word : w.word ≡ v.word
+  pub most : w.most ≡ v.most
   pub session : h.session ≡ history w.config w.word w.seen w.failure
   pub made : h.made ≡ w.made
   pub submissions : h.submissions ≡ submissions_in w.seen
   pub spent : MaySpend w.config w.word w.seen w.failure
-  pub few : w.made < 2 ^ 32
+  pub few : w.made ≤ w.most
 
 -- the session as a caller has seen it
 abbrev pub history_of : View → History
@@ -86,7 +88,7 @@ submission_event what word = record { word = word; kind = Submit what }
 
 -- a newcomer that was made by the caller in its last turn
 abbrev pub joined_by : View → View
-joined_by v = newcomer v.config v.word (v.made - 1) v.seen v.dial
+joined_by v = newcomer v.config v.word v.most (v.made - 1) v.seen v.dial
 
 abbrev pub with_claim : View → ℕ → View
 with_claim v n = record v { dial = n; claims = v.claims ++ n ∷ [] }

@@ -1,5 +1,5 @@
 -- Whether all callers were handed in.
-use Rattle.std.specs.Prelude.{◌≡◌, ◌⊎◌, ℕ, nat_le, nat_lt, Bool, true, false, ◌||◌, List, [], ◌∷◌, length}
+use Rattle.std.specs.Prelude.{◌≡◌, ◌⊎◌, ℕ, ◌≤◌, nat_le, nat_lt, Bool, true, false, ◌||◌, List, [], ◌∷◌, length}
 use Rattle.driver_model.specs.declared.config.Config.{Config}
 use Rattle.atomic_table.specs.Seated.{TableId}
 use Rattle.session_callers.specs.Calls.{Gathered, Known, Place}
@@ -24,6 +24,10 @@ do_know_more count (c ∷ cs) = knows_more count c || do_know_more count cs
 -- fewer callers than were made: none, or so few that one of them knows of more
 abbrev pub AreFewer : List Known → Type 0
 AreFewer cs = (length cs ≡ 0) ⊎ (do_know_more (length cs) cs ≡ true)
+
+-- as many callers as their table may ever have, and one at least
+abbrev pub AreEnough : List Known → Type 0
+AreEnough cs = (1 ≤ length cs) × Each (λ (c : Known). c.view.most ≤ length cs) cs
 
 -- all are handed back, since some are missing
 abbrev pub IsMissing : CloseError → SharedSession → List Known → Type 0

@@ -100,6 +100,7 @@ pub record Now : Type 0 where
   pub serving : ℕ
   pub config : Config
   pub word : ℕ
+  pub most : ℕ
   pub log : List Event
   pub mark : Failure
   pub made : ℕ
@@ -131,7 +132,7 @@ pub record Fits (now : Now) (v : View) : Type 0 where
   pub seen : IsPrefix v.seen now.log
   pub turn : InTurn now v v.stage
   pub mine : Ascends 0 v.mine (length v.seen)
-  pub config : 1 ≤ length v.number → (v.config ≡ now.config) × (v.word ≡ now.word)
+  pub config : 1 ≤ length v.number → (v.config ≡ now.config) × (v.word ≡ now.word) × (v.most ≡ now.most)
   pub failure : v.failure ≢ Sound → now.mark ≡ v.failure
   pub made : v.made ≤ now.made
   pub dial : v.dial ≤ now.dial
@@ -194,7 +195,8 @@ pub record Counted (ticket : ℕ) (now : Now) (views : List View) : Type 0 where
   pub tickets : (n : ℕ) → total (λ (v : View). has n v.stage) views + below n now.serving ≡ below n ticket
   pub callers : total callers views ≡ now.made + total (λ (v : View). more v.stage) views
   pub numbers : (n : ℕ) → total (numbered n) views ≡ below n (now.made + total (λ (v : View). more v.stage) views)
-  pub few : now.made + total (λ (v : View). more v.stage) views < 2 ^ 32
+  pub few : now.made + total (λ (v : View). more v.stage) views ≤ now.most
+  pub limit : now.most < 2 ^ 32
   pub makers : (m : ℕ) → 1 ≤ m → m < now.made → 1 ≤ total (makes m) views
   pub positions : (p : ℕ) → total (owns p) views ≡ below p (length now.log)
   pub claims : (g : ℕ) → total (claimed (suc g)) views ≡ below g now.dial
@@ -209,16 +211,16 @@ pub record Ruled (s : State (Option Home) View) : Type 0 where
   pub place : IsPlaced now s.homes (total (λ (v : View). out v.stage) s.views)
   pub each : (j : ℕ) (v : View) → get_elem? s.views j ≡ some v → Fits now v
 
--- a caller that has seen as much
-abbrev pub newcomer : Config → ℕ → ℕ → List Event → ℕ → View
-newcomer config word number seen dial = record { stage = Idle; drawn = 0; number = number ∷ []; made = 0; config = config; word = word; seen = seen; failure = Sound; mine = []; dial = dial; claims = []; ended = []; fronts = [] }
+-- a caller that has seen as much, of a table that has no more than `most`
+abbrev pub newcomer : Config → ℕ → ℕ → ℕ → List Event → ℕ → View
+newcomer config word most number seen dial = record { stage = Idle; drawn = 0; number = number ∷ []; made = 0; most = most; config = config; word = word; seen = seen; failure = Sound; mine = []; dial = dial; claims = []; ended = []; fronts = [] }
 
 abbrev pub no_config : Config
 no_config = config_of kind.Single []
 
 -- what a seat that was joined is left with
 abbrev pub nobody : View
-nobody = record { stage = Idle; drawn = 0; number = []; made = 0; config = no_config; word = 0; seen = []; failure = Sound; mine = []; dial = 0; claims = []; ended = []; fronts = [] }
+nobody = record { stage = Idle; drawn = 0; number = []; made = 0; most = 0; config = no_config; word = 0; seen = []; failure = Sound; mine = []; dial = 0; claims = []; ended = []; fronts = [] }
 
 abbrev pub longer : List Event → List Event → List Event
 longer xs ys = if length xs - length ys == 0 then ys else xs
@@ -262,7 +264,7 @@ home_of v = record { session = history v.config v.word v.seen v.failure; made = 
 abbrev pub took : At → Sat → ℕ → Sat → Type 0
 took st m found m' =
     (m' ≡ (record m.0 { stage = Holding (ticket_of m.0.stage) }, (0, Some (home_of m.0)) ∷ m.1))
-    × MaySpend m.0.config m.0.word m.0.seen m.0.failure × (m.0.made < 2 ^ 32)
+    × MaySpend m.0.config m.0.word m.0.seen m.0.failure × (m.0.made ≤ m.0.most)
 
 -- the session that goes in has one event more, or as many
 abbrev pub Grows : List Event → List Event → Type 0
@@ -300,4 +302,4 @@ abbrev pub left_of : View → View
 left_of v = record v { stage = Split (ticket_of v.stage) }
 
 abbrev pub right_of : View → View
-right_of v = newcomer v.config v.word v.made v.seen v.dial
+right_of v = newcomer v.config v.word v.most v.made v.seen v.dial

@@ -18,6 +18,8 @@ pub struct Home {
 pub struct Origin {
     pub config: Config,
     pub word: u64,
+    /// How many callers may be made.
+    pub most: u64,
 }
 
 /// Where a caller is in a call. No value of it is made, so a ticket is any number.
@@ -50,6 +52,8 @@ pub struct View {
     pub number: LinkedList<u64>,
     /// The number of callers that it last saw beside the session.
     pub made: u64,
+    /// How many callers its table may have.
+    pub most: u64,
     pub config: Config,
     pub word: u64,
     /// The events that it has seen.
@@ -75,7 +79,7 @@ impl TableRule<Option<Home>, View, Origin> for Turns {
 
     ghost holds = { λ _. Ruled };
 
-    ghost first = { λ origin. newcomer origin.config origin.word 0 [] 0 };
+    ghost first = { λ origin. newcomer origin.config origin.word origin.most 0 [] 0 };
 }
 
 pub type Board = Shared<Option<Home>, View, Origin, Turns>;

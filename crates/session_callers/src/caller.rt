@@ -12,10 +12,11 @@ pub struct Caller {
     pub(crate) generation: u64,
     pub(crate) number: u64,
     pub(crate) made: u64,
+    pub(crate) most: u64,
 }
 
 impl Model for Caller {
-    ghost use Rattle.std.specs.Prelude.{◌≡◌, length, [], ◌∷◌};
+    ghost use Rattle.std.specs.Prelude.{◌≡◌, ◌<◌, ◌≤◌, length, [], ◌∷◌};
     ghost use Rattle.session_callers.specs.Calls.{IsIdle, Known};
 
     ghost Value = { Known };
@@ -24,7 +25,7 @@ impl Model for Caller {
 
     ghost invariant = { λ c. IsIdle c.seat × (c.front ≡ length c.seat.me.0.seen)
         × (c.generation ≡ c.seat.me.0.dial) × (c.seat.me.0.number ≡ c.number ∷ [])
-        × (c.seat.me.0.made ≡ c.made) };
+        × (c.seat.me.0.made ≡ c.made) × (c.seat.me.0.most ≡ c.most) × (c.number < c.most) × (c.made ≤ c.most) };
 }
 
 impl Caller {

@@ -1,9 +1,10 @@
-ghost use Rattle.std.specs.Prelude.{◌≡◌, ℕ, ◌≤◌, [], IfOk, IfErr, OnOk, length, false};
+ghost use Rattle.std.specs.Prelude.{◌≡◌, ℕ, ◌≤◌, [], IfOk, IfErr, OnOk, OnErr, length, false};
 ghost use mathlib.Core.List.{IsPrefix};
 ghost use Rattle.session_callers.specs.Rule.{Each, MaySpend, total, times, below};
 ghost use Rattle.session_callers.specs.Calls.{IsOf};
 ghost use Rattle.session_callers.specs.Claims.{AreClaimed};
-ghost use Rattle.session_callers.specs.Closes.{knows_more, do_know_more, AreUndialled, IsGathered, IsMissing, IsShared};
+ghost use Rattle.session_callers.specs.Closes.{knows_more, do_know_more, AreEnough, AreUndialled};
+ghost use Rattle.session_callers.specs.Closes.{IsGathered, IsMissing, IsShared};
 
 use crate::board::{Board, Home, Place};
 use crate::caller::Caller;
@@ -25,14 +26,16 @@ pub enum CloseError {
 
 /// Whether a caller shows that more than so many were made.
 fn knows_more(caller: &Caller, count: u64) -> bool
-    ensures { result ≡ knows_more count caller.now }
+    ensures knows { result ≡ knows_more count caller.now }
+    ensures most { caller.now.view.most ≤ count → result ≡ false }
 {
     caller.number >= count || caller.made > count
 }
 
 /// Whether one of these callers shows that more than so many were made.
 fn do_know_more(mut callers: &[Caller], count: u64) -> bool
-    ensures { result ≡ do_know_more count callers.entry.now }
+    ensures knows { result ≡ do_know_more count callers.entry.now }
+    ensures most { Each (λ caller. caller.view.most ≤ count) callers.entry.now → result ≡ false }
 {
     while let [caller, rest @ ..] = callers {
         if knows_more(caller, count) {
@@ -60,6 +63,7 @@ fn gather(board: &Board, mut callers: Vec<Caller>, made: u64) -> Place
         generation: _,
         number: _,
         made: _,
+        most: _,
     } = last;
     let mut seat = seat;
     while let Some(next) = callers.pop() {
@@ -106,7 +110,7 @@ impl SharedSession {
     /// each of the callers had seen, and each place of it is one caller's own. It has the configuration and the word that they
     /// know, and its numbers have run out only where the step of some event would be spent. Just one of the callers has claimed
     /// each number of the dial up to that which the keeper knows, and none of them any other. `Missing` comes exactly where
-    /// fewer callers were handed in than were made. Waits for nobody.
+    /// fewer callers were handed in than were made, so never where they are as many as may be made. Waits for nobody.
     pub fn keep(self, callers: Vec<Caller>) -> Result<(Session, Keeper), CloseError>
         requires { Each (λ caller. caller.table ≡ self.table.shared.table_id) callers.items }
         ensures begins { IfOk result (λ kept.
@@ -129,6 +133,7 @@ impl SharedSession {
         ensures claims { IfOk result (λ kept. AreClaimed kept.1.dial callers.items) }
         ensures undialled { IfOk result (λ kept. AreUndialled callers.items → kept.1.dial ≡ 0) }
         ensures missing { IfErr result (λ error. IsMissing error self callers.items) }
+        ensures enough { OnErr result (AreEnough callers.items → ⊥) }
     {
         let count = callers.len() as u64;
         if count == 0 || do_know_more(callers.as_slice(), count) {
@@ -161,6 +166,7 @@ impl SharedSession {
             ) }
         ensures claims { OnOk result ((dial : ℕ) × AreClaimed dial callers.items) }
         ensures missing { IfErr result (λ error. IsMissing error self callers.items) }
+        ensures enough { OnErr result (AreEnough callers.items → ⊥) }
     {
         match self.keep(callers) {
             Ok((session, keeper)) => {

@@ -1,4 +1,4 @@
-ghost use Rattle.std.specs.Prelude.{◌≡◌, ℕ, ◌+◌, ◌-◌, ◌^◌, ◌<◌, ◌≤◌, [], ◌∷◌, ◌++◌, IfOk, IfErr, OnOk, OnErr, length};
+ghost use Rattle.std.specs.Prelude.{◌≡◌, ℕ, ◌+◌, ◌-◌, ◌^◌, ◌<◌, ◌≤◌, [], ◌∷◌, ◌++◌, IfOk, IfErr, OnOk, OnErr, length, max};
 ghost use Rattle.std.specs.Prelude.{Some, IsErrOf, IsSome};
 ghost use Rattle.driver_model.specs.Config.{first_fault};
 ghost use Rattle.shared_session.specs.Replay.{opening_actions};
@@ -27,7 +27,7 @@ use std::sync::Wait;
 /// Why no caller was made.
 #[derive(Debug, Clone, Copy, PartialEq, Eq, Drop)]
 pub enum JoinError {
-    /// As many were made as can be.
+    /// As many were made as may be.
     Spent,
 }
 
@@ -44,10 +44,11 @@ fn seated(
     origin: &Origin,
     session: Session,
 ) -> Result<(SharedSession, Caller), AllocError>
-    requires { session ≡ history origin.now.config origin.now.word [] Sound }
+    requires empty { session ≡ history origin.now.config origin.now.word [] Sound }
+    requires few { (1 ≤ origin.now.most) × (origin.now.most < 2 ^ 32) }
     ensures { IfOk result (λ made.
         (made.1.table ≡ made.0.table.shared.table_id)
-        × (made.1.view ≡ newcomer origin.now.config origin.now.word 0 [] 0)
+        × (made.1.view ≡ newcomer origin.now.config origin.now.word origin.now.most 0 [] 0)
         ) }
 {
     let home = Home {
@@ -66,6 +67,7 @@ fn seated(
                 generation: 0,
                 number: 0,
                 made: 0,
+                most: origin.most,
             },
         )),
         Err(_) => Err(AllocError),
@@ -80,10 +82,11 @@ fn opened(
     config: Config,
     out: &mut Vec<Action>,
 ) -> Result<(SharedSession, Caller), MakeError>
-    requires { config ≡ origin.now.config }
+    requires config { config ≡ origin.now.config }
+    requires few { (1 ≤ origin.now.most) × (origin.now.most < 2 ^ 32) }
     ensures caller { IfOk result (λ made.
         (made.1.table ≡ made.0.table.shared.table_id)
-        × (made.1.view ≡ newcomer origin.now.config origin.now.word 0 [] 0)
+        × (made.1.view ≡ newcomer origin.now.config origin.now.word origin.now.most 0 [] 0)
         ) }
     ensures actions { OnOk result (
         out.new.items ≡ out.old.items ++ opening_actions origin.now.config origin.now.word
@@ -107,9 +110,48 @@ fn opened(
     }
 }
 
+/// A session that has made its opening, whose actions `out` gains, and its first caller, of so many at most.
+fn limited(
+    alloc: Global,
+    config: Config,
+    word: u64,
+    most: u64,
+    out: &mut Vec<Action>,
+) -> Result<(SharedSession, Caller), MakeError>
+    requires few { (1 ≤ most) × (most < 2 ^ 32) }
+    ensures caller { IfOk result (λ made.
+        (made.1.table ≡ made.0.table.shared.table_id)
+        × (made.1.view ≡ newcomer config word most 0 [] 0)
+        ) }
+    ensures actions { OnOk result (
+        out.new.items ≡ out.old.items ++ opening_actions config word
+        ) }
+    ensures sound { OnOk result (IsSound config) }
+    ensures refused { (name : ConfigName) → IsErrOf result (MakeError.Config name)
+        → first_fault config ≡ Some name }
+    ensures err { OnErr result (out.new.items ≡ out.old.items) }
+{
+    let copy = match config.clone(alloc) {
+        Ok(copy) => copy,
+        Err(_) => {
+            drop(config);
+            return Err(MakeError::NoMemory);
+        }
+    };
+    let origin = Origin {
+        config: copy,
+        word,
+        most,
+    };
+    let made = opened(alloc, &origin, config, out);
+    drop(origin);
+    made
+}
+
 impl SharedSession {
     /// A session that has made its opening, whose actions `out` gains, and its first caller. A configuration of which
-    /// something is refused makes none: `Config` tells what is refused first. After an error `out` is as it was.
+    /// something is refused makes none: `Config` tells what is refused first. After an error `out` is as it was. No more than
+    /// 2^32 - 1 callers can be made.
     pub fn new(
         alloc: Global,
         config: Config,
@@ -118,7 +160,7 @@ impl SharedSession {
     ) -> Result<(SharedSession, Caller), MakeError>
         ensures caller { IfOk result (λ made.
             (made.1.table ≡ made.0.table.shared.table_id)
-            × (made.1.view ≡ newcomer config word 0 [] 0)
+            × (made.1.view ≡ newcomer config word 4_294_967_295 0 [] 0)
             ) }
         ensures actions { OnOk result (
             out.new.items ≡ out.old.items ++ opening_actions config word
@@ -128,17 +170,31 @@ impl SharedSession {
             → first_fault config ≡ Some name }
         ensures err { OnErr result (out.new.items ≡ out.old.items) }
     {
-        let copy = match config.clone(alloc) {
-            Ok(copy) => copy,
-            Err(_) => {
-                drop(config);
-                return Err(MakeError::NoMemory);
-            }
-        };
-        let origin = Origin { config: copy, word };
-        let made = opened(alloc, &origin, config, out);
-        drop(origin);
-        made
+        limited(alloc, config, word, 0xffff_ffff, out)
+    }
+
+    /// The same, where no more callers than `most` can be made, and one at least.
+    pub fn with_limit(
+        alloc: Global,
+        config: Config,
+        word: u64,
+        most: u32,
+        out: &mut Vec<Action>,
+    ) -> Result<(SharedSession, Caller), MakeError>
+        ensures caller { IfOk result (λ made.
+            (made.1.table ≡ made.0.table.shared.table_id)
+            × (made.1.view ≡ newcomer config word (max most 1) 0 [] 0)
+            ) }
+        ensures actions { OnOk result (
+            out.new.items ≡ out.old.items ++ opening_actions config word
+            ) }
+        ensures sound { OnOk result (IsSound config) }
+        ensures refused { (name : ConfigName) → IsErrOf result (MakeError.Config name)
+            → first_fault config ≡ Some name }
+        ensures err { OnErr result (out.new.items ≡ out.old.items) }
+    {
+        let callers = most.max(1);
+        limited(alloc, config, word, callers as u64, out)
     }
 
     /// One turn of the caller, in which the session takes the event, and how many submissions stood before it.
@@ -255,7 +311,7 @@ impl SharedSession {
         }
     }
 
-    /// A new caller, which has seen as much.
+    /// A new caller, which has seen as much. `Spent` comes only where as many were made as may be.
     pub fn join<R: Wait>(&self, rt: &R, caller: &mut Caller) -> Result<Caller, JoinError>
         requires { caller.old.table ≡ self.now.table.shared.table_id }
         ensures table { caller.new.table ≡ caller.old.table }
@@ -264,13 +320,13 @@ impl SharedSession {
         ensures joined { IfOk result (λ other.
             (other.table ≡ caller.old.table) × (other.view ≡ joined_by caller.new.view)
             ) }
-        ensures spent { OnErr result (caller.new.view.made ≡ 2 ^ 32 - 1) }
+        ensures spent { OnErr result (caller.new.view.made ≡ caller.new.view.most) }
     {
         let board = &self.table.shared;
         let mut home = begin(rt, board, &mut caller.seat);
         caller.front = home.session.events_taken();
         caller.made = home.made;
-        if home.made >= 0xffff_ffff {
+        if home.made >= caller.most {
             end(board, &mut caller.seat, home);
             return Err(JoinError::Spent);
         }
@@ -285,6 +341,7 @@ impl SharedSession {
             generation: caller.generation,
             number,
             made: 0,
+            most: caller.most,
         })
     }
 

@@ -58,7 +58,7 @@ pub fn take(board: &Board, seat: &mut Place) -> Home
         × (result.submissions ≡ submissions_in seat.old.me.0.seen) }
     ensures spent { MaySpend seat.old.me.0.config seat.old.me.0.word
         seat.old.me.0.seen seat.old.me.0.failure
-        × (seat.old.me.0.made < 2 ^ 32) }
+        × (seat.old.me.0.made ≤ seat.old.me.0.most) }
 {
     board.load::<Take>(seat, 0);
     board.exchange(seat, 0, None).unwrap()
@@ -108,7 +108,7 @@ pub fn raise(board: &Board, seat: &mut Place)
 pub fn split(board: &Board, seat: &mut Place) -> Place
     requires at { IsAt board.now.table_id seat.old }
     requires holding { (t : ℕ) × (seat.old.me.0.stage ≡ Holding t) }
-    requires room { seat.old.me.0.made + 1 < 2 ^ 32 }
+    requires room { seat.old.me.0.made + 1 ≤ seat.old.me.0.most }
     ensures same { IsSame seat.old seat.new }
     ensures left { seat.new.me ≡ (left_of seat.old.me.0, seat.old.me.1) }
     ensures right { (result.table_id ≡ seat.old.table_id)
@@ -143,6 +143,7 @@ pub fn merge(board: &Board, seat: &mut Place, other: Caller)
         generation: _,
         number: _,
         made: _,
+        most: _,
     } = other;
     board.join_seat::<Ends>(seat, theirs);
 }
