@@ -50,6 +50,7 @@ same_all v = record {
   seen = prefix_all v.view.seen;
   idle = λ h. h;
   config = (refl, refl);
+  most = refl;
   dial = (refl, refl);
   ended = (refl, refl);
 }
@@ -61,6 +62,7 @@ same_then u v w h k = record {
   seen = prefix_of u.view.seen v.view.seen w.view.seen h.seen k.seen;
   idle = λ e. k.idle (h.idle e);
   config = (k.config.0 ∙ h.config.0, k.config.1 ∙ h.config.1);
+  most = k.most ∙ h.most;
   dial = (k.dial.0 ∙ h.dial.0, k.dial.1 ∙ h.dial.1);
   ended = (k.ended.0 ∙ h.ended.0, k.ended.1 ∙ h.ended.1);
 }
@@ -72,6 +74,7 @@ same_turned v w table t = record {
   seen = t.seen;
   idle = λ e. t.idle;
   config = (t.config, t.word);
+  most = t.most;
   dial = (t.dial, t.claims);
   ended = (t.ended, t.fronts);
 }

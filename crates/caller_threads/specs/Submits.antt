@@ -69,6 +69,7 @@ pub record IsSameCaller (v w : Known) : Type 0 where
   pub seen : IsPrefix v.view.seen w.view.seen
   pub idle : v.view.stage ≡ Idle → w.view.stage ≡ Idle
   pub config : (w.view.config ≡ v.view.config) × (w.view.word ≡ v.view.word)
+  pub most : w.view.most ≡ v.view.most
   pub dial : (w.view.dial ≡ v.view.dial) × (w.view.claims ≡ v.view.claims)
   pub ended : (w.view.ended ≡ v.view.ended) × (w.view.fronts ≡ v.view.fronts)
 
