@@ -1,5 +1,5 @@
 -- What callers have submitted, said of the lines.
-use Rattle.std.proofs.Common.{◌≡◌, ℕ, ◌+◌, ◌<◌, List, [], ◌∷◌, ◌++◌, length, refl, sym, ap, ◌∙◌, subst, arith, zero-add}
+use Rattle.std.proofs.Common.{◌≡◌, ℕ, ◌+◌, ◌<◌, ◌≤◌, List, [], ◌∷◌, ◌++◌, length, refl, sym, ap, ◌∙◌, subst, arith, zero-add}
 use mathlib.Core.List.{IsPrefix}
 use Rattle.driver_model.specs.Config.{kind_of}
 use Rattle.driver_model.specs.declared.action.Action.{Action}
@@ -14,9 +14,9 @@ use Rattle.caller_threads.specs.Lines.{share, share_from}
 use Rattle.caller_threads.specs.Submits.{Line, IsAllowed, AreAllowed, IsTurnOf, AreTurnsOf, places_of, numbers_of, HasSubmitted, HasTried, HaveRun, HaveStopped, HaveSubmitted, IsTold}
 use Rattle.session_callers.specs.Rule.{Ascends}
 use Rattle.session_callers.proofs.Totals.{prefix_length}
-use Rattle.caller_threads.proofs.Places.{each_with}
+use Rattle.caller_threads.proofs.Places.{each_length, each_with}
 use Rattle.caller_threads.proofs.Submitting.{ascends_within, ascends_anyhow}
-use Rattle.session_callers.specs.Closes.{AreUndialled, IsShared, IsUndialled}
+use Rattle.session_callers.specs.Closes.{AreEnough, AreUndialled, IsShared, IsUndialled}
 use Rattle.shared_session.specs.History.{History}
 use Rattle.shared_session.specs.declared.errors.StepError.{StepError}
 use Rattle.shared_session.specs.Replay.{opening_actions}
@@ -36,6 +36,14 @@ second_ones P Q f n [] [] h = tt
 second_ones P Q f n [] (y ∷ ys) h = absurd h
 second_ones P Q f n (x ∷ xs) [] h = absurd h
 second_ones P Q f n (x ∷ xs) (y ∷ ys) h = (f n x y h.0, second_ones P Q f (n + 1) xs ys h.1)
+
+-- callers of a table for no more than they are
+most_below : (m n : ℕ) → m ≤ n → (cs : List Known) → Each (λ (c : Known). c.view.most ≡ m) cs → Each (λ (c : Known). c.view.most ≤ n) cs
+most_below m n le [] h = tt
+most_below m n le (c ∷ cs) h = (subst (λ (x : ℕ). x ≤ n) (sym h.0) le, most_below m n le cs h.1)
+
+enough_of : (m n : ℕ) (cs : List Known) → m ≤ n → 1 ≤ n → length cs ≡ n → Each (λ (c : Known). c.view.most ≡ m) cs → AreEnough cs
+enough_of m n cs all some count of = subst (λ (k : ℕ). (1 ≤ k) × Each (λ (c : Known). c.view.most ≤ k) cs) (sym count) (some, most_below m n all cs of)
 
 module _ (config : Config) (word : ℕ) (vs ws : List Known) (lines : List Line) (turns : List Turn) (bare : Each (IsBare config word) vs) (run : HaveRun vs ws lines turns) where
   -- a caller that had submitted nothing, and its share
@@ -58,6 +66,16 @@ module _ (config : Config) (word : ℕ) (vs ws : List Known) (lines : List Line)
   -- and have neither read nor claimed a number of the dial
   pub undialled_still : AreUndialled ws
   undialled_still = second_ones HasShare IsUndialled (λ c v w h. (h.1.same.dial.0 ∙ h.0.3.0, h.1.same.dial.1 ∙ h.0.3.1)) 0 vs ws have_shares
+
+  -- and are of a table for as many
+  pub most_still : (m : ℕ) → Each (λ (c : Known). c.view.most ≡ m) vs → Each (λ (c : Known). c.view.most ≡ m) ws
+  most_still m of =
+      let share = λ (c : ℕ) (v w : Known). HasSubmitted v w (share (length vs) c lines) (share (length vs) c turns) in
+      second_ones (λ c v w. (v.view.most ≡ m) × share c v w) (λ (c : Known). c.view.most ≡ m) (λ c v w h. h.1.same.most ∙ h.0) 0 vs ws (each_with (λ (c : Known). c.view.most ≡ m) share 0 vs ws of run.each)
+
+  -- so they are all that may be
+  pub enough_still : (m : ℕ) → m ≤ length vs → 1 ≤ length vs → Each (λ (c : Known). c.view.most ≡ m) vs → AreEnough ws
+  enough_still m all some of = enough_of m (length vs) ws all some (each_length (λ c v w. HasSubmitted v w (share (length vs) c lines) (share (length vs) c turns)) 0 vs ws run.each) (most_still m of)
 
   -- each line has its turn in whatever begins with what the callers have seen
   pub lines_stand : (log : List Event) → 0 < length vs → Each (λ (c : Known). IsPrefix c.view.seen log) ws → AreTurnsOf config word log lines turns
@@ -85,6 +103,13 @@ module _ (config : Config) (word : ℕ) (vs ws : List Known) (lines : List Line)
       let own : (c : ℕ) (v w : Known) → HasShare c v w → times p w.view.mine ≡ total f (share_from k c 0 turns) = λ c v w h.
       ap (times p) (h.1.mine ∙ ap (λ (xs : List ℕ). xs ++ places_of (share k c turns)) h.0.2) ∙ times_places p (share k c turns) in
       times_places p turns ∙ sym (total_shares f k 0 some turns) ∙ sym (total_by_place HasShare (λ (c : Known). times p c.view.mine) (λ (c : ℕ). total f (share_from k c 0 turns)) 0 vs ws own have_shares) ∙ counted
+
+-- callers that were stopped are all that may be, where they were
+pub enough_tried : (vs ws : List Known) (lines : List Line) (error : StepError) → HaveStopped error vs ws lines → (m : ℕ) → m ≤ length vs → 1 ≤ length vs → Each (λ (c : Known). c.view.most ≡ m) vs → AreEnough ws
+enough_tried vs ws lines error stopped m all some of =
+    let tried = λ (c : ℕ) (v w : Known). HasTried v w (share (length vs) c lines) in
+    enough_of m (length vs) ws all some (each_length tried 0 vs ws stopped.each)
+    (second_ones (λ c v w. (v.view.most ≡ m) × tried c v w) (λ (c : Known). c.view.most ≡ m) (λ c v w h. h.1.same.most ∙ h.0) 0 vs ws (each_with (λ (c : Known). c.view.most ≡ m) tried 0 vs ws of stopped.each))
 
 -- callers that were stopped are callers of its table still
 pub tables_tried : (config : Config) (word : ℕ) (vs ws : List Known) (lines : List Line) (error : StepError) → Each (IsBare config word) vs → HaveStopped error vs ws lines → (z : TableId) → Each (λ (c : Known). c.table ≡ z) vs → Each (λ (c : Known). c.table ≡ z) ws

@@ -4,7 +4,7 @@ ghost use Rattle.caller_threads.specs.Submits.{IsAllowed, Line};
 ghost use Rattle.driver_model.specs.Config.{kind_of, wants_credentials};
 ghost use Rattle.driver_model.specs.declared.event.Event.{Event};
 ghost use Rattle.redis_error.specs.declared.config_name.ConfigName.{ConfigName};
-ghost use Rattle.session_callers.specs.Closes.{IsUndialled};
+ghost use Rattle.session_callers.specs.Closes.{AreEnough, IsUndialled};
 ghost use Rattle.session_callers.specs.Rule.{Each};
 ghost use Rattle.live_run.specs.Claims.{HasClaimed};
 ghost use Rattle.shared_session.specs.Replay.{IsSound, trace_of};
@@ -69,6 +69,7 @@ fn refused(error: StepError) -> FlightError
 fn stopped(shared: SharedSession, callers: Vec<Caller>, error: StepError) -> FlightError
     requires good { error ≡ StepError.BadEvent → ⊥ }
     requires of { Each (λ caller. caller.table ≡ shared.table.shared.table_id) callers.items }
+    requires enough { AreEnough callers.items }
     ensures sound { (name : ConfigName) → result ≡ FlightError.Config name → ⊥ }
     ensures spent { (n : ℕ) → result ≡ FlightError.Spent n
         → (error ≡ StepError.Spent n) × ((log : List Event) × AreOf log callers.items) }
@@ -80,7 +81,7 @@ fn stopped(shared: SharedSession, callers: Vec<Caller>, error: StepError) -> Fli
                 drop(kept);
                 FlightError::Spent(events)
             }
-            Err(_) => FlightError::NoMemory,
+            Err(_) => unreachable!(),
         },
         StepError::NoMemory => FlightError::NoMemory,
     }
@@ -102,6 +103,9 @@ fn join_all<R: Wait>(
         ) }
     ensures bare { IfOk result (λ callers.
         Each (IsBare first.view.config first.view.word) callers.items
+        ) }
+    ensures most { IfOk result (λ callers.
+        Each (λ caller. caller.view.most ≡ first.view.most) callers.items
         ) }
     ensures count { IfOk result (λ callers. length callers.items ≡ max 1 count) }
 {
@@ -145,7 +149,7 @@ fn submitted<R: Threads + Wait + Sync>(
 {
     let Plan { callers, config } = plan;
     let wanted = config.wants_credentials();
-    let (shared, first) = match SharedSession::new(alloc, config, word, actions) {
+    let (shared, first) = match SharedSession::with_limit(alloc, config, word, callers, actions) {
         Ok(made) => made,
         Err(MakeError::Config { name }) => {
             drop(lines);
@@ -187,11 +191,7 @@ fn submitted<R: Threads + Wait + Sync>(
     }
     match shared.keep(callers) {
         Ok((session, keeper)) => Ok((session, numbers, keeper)),
-        Err(missing) => {
-            drop(missing);
-            drop(numbers);
-            Err(FlightError::NoMemory)
-        }
+        Err(_) => unreachable!(),
     }
 }
 
