@@ -4,7 +4,7 @@ ghost use Rattle.session_callers.specs.Rule.{Each};
 use crate::given::start;
 use driver_model::{Action, Config, ConnectionWords, Outcome};
 use resp_value::Value;
-use session_callers::{Caller, Claim, Keeper, SharedSession};
+use session_callers::{Caller, Claim, JoinError, Keeper, SharedSession};
 use session_tests::given::{Told, event, get, single};
 use shared_session::{MakeError, Session};
 use std::alloc::{AllocError, Global};
@@ -248,6 +248,44 @@ fn a_missing_caller_hands_all_back(rt: HostRuntime) -> Result<(), AllocError> {
     let (shared, a, b) = pair(&rt, rt.alloc())?;
     drop(b);
     assert!(rt; taken_by(rt.alloc(), shared, a)? == None);
+    Ok(())
+}
+
+/// A session that may have two callers, and the first of them.
+fn start_of_two(alloc: Global) -> Result<(SharedSession, Caller), AllocError>
+    ensures { IfOk result (λ made. made.1.table ≡ made.0.table.shared.table_id) }
+{
+    let config = single(alloc, b"redis://h", ConnectionWords::new())?;
+    let mut out = Vec::new(alloc);
+    match SharedSession::with_limit(alloc, config, 0, 2, &mut out) {
+        Ok(made) => Ok(made),
+        Err(_) => Err(AllocError),
+    }
+}
+
+/// Whether nobody can join any more.
+fn is_full<R: Wait>(rt: &R, shared: &SharedSession, caller: &mut Caller) -> bool
+    requires { caller.old.table ≡ shared.now.table.shared.table_id }
+    ensures { caller.new.table ≡ caller.old.table }
+{
+    match shared.join(rt, caller) {
+        Ok(other) => {
+            drop(other);
+            false
+        }
+        Err(JoinError::Spent) => true,
+    }
+}
+
+#[test]
+fn no_more_callers_join_than_may_be(rt: HostRuntime) -> Result<(), AllocError> {
+    let (shared, mut a) = start_of_two(rt.alloc())?;
+    let Ok(b) = shared.join(&rt, &mut a) else {
+        return Err(AllocError);
+    };
+    let is_refused = is_full(&rt, &shared, &mut a);
+    let count = closed(rt.alloc(), shared, a, b)?;
+    assert!(rt; is_refused && count == Some(0));
     Ok(())
 }
 
