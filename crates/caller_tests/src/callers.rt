@@ -376,12 +376,18 @@ fn left_of(
     }
 }
 
+/// The same, of two callers of which one has claimed the first dial.
+fn left_of_claimed<R: Wait>(rt: &R, alloc: Global) -> Result<Option<u32>, AllocError> {
+    let (shared, mut a, mut b) = pair(rt, alloc)?;
+    let is_claimed = claims(rt, alloc, &shared, &mut a, &mut b);
+    let count = left_of(alloc, shared, a, b);
+    if is_claimed? { count } else { Ok(None) }
+}
+
 #[test]
 fn what_is_left_of_callers_claims_what_nobody_has(rt: HostRuntime) -> Result<(), AllocError> {
-    let (shared, mut a, mut b) = pair(&rt, rt.alloc())?;
-    let is_claimed = claims(&rt, rt.alloc(), &shared, &mut a, &mut b);
-    let count = left_of(rt.alloc(), shared, a, b)?;
-    assert!(rt; is_claimed? && count == Some(1));
+    let count = left_of_claimed(&rt, rt.alloc())?;
+    assert_eq!(rt; count, Some(1));
     Ok(())
 }
 
