@@ -1,8 +1,7 @@
 -- A connection does the same where one request's outcome is looked away from, once its message has left the queue.
-use Rattle.std.proofs.Common.{◌≡◌, ◌≢◌, inl, ℕ, ◌==◌, ◌&&◌, ◌||◌, Bool, true, false, List, [], ◌∷◌, ◌++◌, if◌then◌else◌, refl, sym, ap, ◌∙◌, append_assoc, Option, Some, arith, inr}
+use Rattle.std.proofs.Common.{◌≡◌, ◌≢◌, inl, ℕ, ◌==◌, ◌&&◌, ◌||◌, Bool, true, false, List, [], ◌∷◌, ◌++◌, if◌then◌else◌, refl, sym, ap, ◌∙◌, Option, Some, arith}
 use Rattle.std.specs.Prelude.{◌+◌, min, unwrap_or}
-use Rattle.std.proofs.lemmas.List.{append-nil}
-use Rattle.containers.proofs.Choices.{by_test, chosen, either, either_by, taken_if, left_if, eq_from, ne_from, eq_test, ne_test}
+use Rattle.containers.proofs.Choices.{by_test, either, either_by, eq_from, ne_from}
 use Rattle.redis_error.specs.declared.fault_kind.FaultKind.TheVariants as kinds
 use Rattle.redis_error.specs.declared.fault_kind.FaultKind.{FaultKind}
 use Rattle.redis_error.specs.declared.redis_error.RedisError.TheVariants as error
@@ -19,8 +18,7 @@ use Rattle.driver_model.specs.Hearing.{felt, hears_messages, hears_pushes}
 use Rattle.driver_model.specs.declared.hearing.Hearing.{Hearing}
 use Rattle.driver_model.specs.declared.hearing.Notice.{Notice}
 use Rattle.driver_model.specs.declared.hearing.Notice.TheVariants as notice
-use Rattle.driver_model.specs.News.{News, silence, connected, took, failed, shut, refused, overdue, authorized, denied, deserted, renewed, unrenewed, late, unrepeated, dropped}
-use Rattle.driver_model.specs.News.{came}
+use Rattle.driver_model.specs.News.{News, silence, connected, took, failed, shut, refused, overdue, authorized, denied, deserted, renewed, unrenewed, late, unrepeated, dropped, came}
 use Rattle.driver_model.specs.Shape.{outcome_of}
 use Rattle.link_core.specs.declared.message.Entry.{Entry}
 use Rattle.link_core.specs.declared.message.NoticeAt.{NoticeAt}
@@ -37,25 +35,20 @@ use Rattle.mux_conn.specs.declared.connection.MultiplexedConnection.{Multiplexed
 use Rattle.mux_conn.specs.declared.life.Life.{Life}
 use Rattle.mux_conn.specs.declared.life.Life.TheVariants.{Resting, Dialing, Wanting, SettingUp, Ready, Ended}
 use Rattle.mux_conn.specs.declared.request.Progress.TheVariants as progress
-use Rattle.mux_conn.specs.declared.request.Request.{Request}
 use Rattle.mux_conn.specs.declared.request.Waiting.{Waiting}
 use Rattle.mux_conn.specs.Connection.{Work, acted, at_life, with_link, is_ready, is_outstanding, is_repeating}
-use Rattle.mux_conn.specs.Requests.{is_open, is_open_at, name_at, permits_at, with_permits, given_back, closed, answered}
+use Rattle.mux_conn.specs.Requests.{is_open_at, name_at, permits_at, with_permits, closed, answered}
 use Rattle.mux_conn.specs.Effects.{afresh, creation_told, given_up, settled_one, settled_each, failed_each, nobody_waits, waiting_failed, notice_act, noticed, noticed_each, told_each, greeting_error, dropped_at, dropped_by, cut_short, all_answered, ended, parted, opening_failed, authorized_at, connected_at, unauthorized_at, refused_at, overdue_at, taken_at, failed_at, broken_at, read_to, read_at, shut_at, applied, all_fresh, served, settled_other}
 use Rattle.mux_conn.specs.Renewals.{renewing, with_renewal, expecting, expected, takes_more, late_for, is_unanswered, is_done, replied, renewal_id}
 use Rattle.cancel_laws.specs.ButFor.{hushed_each, hushed_link, hushed_life}
-use Rattle.cancel_laws.proofs.Requests.{names, name_stays, progress_twice, progress_apart, permits_other, permits_own, own_closed, closed_set, test_other}
-use Rattle.cancel_laws.proofs.Names.{IsOwn, own_name, other_name}
+use Rattle.conn_laws.proofs.Changes.Requests.{names, name_stays, own_closed}
+use Rattle.conn_laws.proofs.Changes.Names.{IsOwn, own_name, other_name}
 use Rattle.cancel_laws.proofs.Links.{alike_hushed, hushed_came}
-use Rattle.cancel_laws.proofs.Kept.{creation_kept, other_act, IsPlain, notice_plain, At, There, answered_kept, settled_one_kept, settled_kept, telling_kept, failed_each_kept, over_kept, parted_kept, IsApart}
-use Rattle.cancel_laws.proofs.Values.{by_value, told_of, value_told, value_read, values_read, came_by_values, same_by_value}
-use Rattle.cancel_laws.proofs.Gone.{NoneQueued, IsGone, gone_kept}
+use Rattle.conn_laws.proofs.Changes.Kept.{creation_kept, IsPlain, notice_plain, At, There, answered_kept, settled_one_kept, settled_kept, telling_kept, failed_each_kept, over_kept, parted_kept}
+use Rattle.conn_laws.proofs.Changes.Values.{by_value, told_of, value_told, value_read, values_read, came_by_values, same_by_value}
+use Rattle.conn_laws.proofs.Changes.Gone.{NoneQueued, IsGone, gone_kept}
 use Rattle.mux_conn.specs.Repeats.{repeating, repeat_id}
-
--- the acts of a turn, but for the outcomes of submission n
-abbrev pub other_acts : ℕ → List LinkAct → List LinkAct
-other_acts n [] = []
-other_acts n (a ∷ more) = other_act n a ++ other_acts n more
+use Rattle.conn_laws.proofs.Changes.Bare.{acts_other, acts_own, acts_plain, closed_apart, closed_stays, closed_twice, noticed_same, open_same, other_acts, others_settled}
 
 -- all of a connection, but for how far request p has come and whether its verdict is wanted, where its permits are free
 abbrev pub bare_conn : ℕ → MultiplexedConnection → MultiplexedConnection
@@ -67,67 +60,12 @@ bare n p w = record { conn = bare_conn p w.conn; acts = other_acts n w.acts }
 
 -- acts
 --
--- acts one after another
-acts-append : (n : ℕ) (xs ys : List LinkAct) → other_acts n (xs ++ ys) ≡ other_acts n xs ++ other_acts n ys
-acts-append n [] ys = refl
-acts-append n (a ∷ xs) ys = ap (λ (zs : List LinkAct). other_act n a ++ zs) (acts-append n xs ys) ∙ sym (append_assoc (other_act n a) (other_acts n xs) (other_acts n ys))
-
--- one more act
-acts_more : (n : ℕ) (xs : List LinkAct) (a : LinkAct) → other_acts n (xs ++ a ∷ []) ≡ other_acts n xs ++ other_act n a
-acts_more n xs a = acts-append n xs (a ∷ []) ∙ ap (λ (zs : List LinkAct). other_acts n xs ++ zs) (append-nil (other_act n a))
-
--- and one that answers nobody
-pub acts_plain : (n : ℕ) (xs : List LinkAct) (a : LinkAct) → IsPlain a → other_acts n (xs ++ a ∷ []) ≡ other_acts n xs ++ a ∷ []
-acts_plain n xs a p = acts_more n xs a ∙ ap (λ (zs : List LinkAct). other_acts n xs ++ zs) (p n)
-
--- submission n's own outcome doesn't count
-acts_own : (n m : ℕ) (xs : List LinkAct) (o : Outcome) → m ≡ n → other_acts n (xs ++ act.Outcome m o ∷ []) ≡ other_acts n xs
-acts_own n m xs o e =
-    acts_more n xs (act.Outcome m o) ∙ ap (λ (zs : List LinkAct). other_acts n xs ++ zs) (taken_if (m == n) [] (act.Outcome m o ∷ []) (eq_test m n e)) ∙ append-nil (other_acts n xs)
-
--- any other does
-pub acts_other : (n m : ℕ) (xs : List LinkAct) (o : Outcome) → m ≢ n → other_acts n (xs ++ act.Outcome m o ∷ []) ≡ other_acts n xs ++ act.Outcome m o ∷ []
-acts_other n m xs o e = acts_more n xs (act.Outcome m o) ∙ ap (λ (zs : List LinkAct). other_acts n xs ++ zs) (left_if (m == n) [] (act.Outcome m o ∷ []) (ne_test m n e))
-
 -- one more act that answers nobody
 pub bare_acted : (n p : ℕ) (w : Work) (a : LinkAct) → IsPlain a → bare n p (acted w a) ≡ acted (bare n p w) a
 bare_acted n p w a plain = ap (λ (xs : List LinkAct). record (bare n p w) { acts = xs }) (acts_plain n w.acts a plain)
 
 -- answers
 --
--- all others are as open as they were
-pub open_same : (r : List Request) (p q : ℕ) → q ≢ p → is_open_at r q ≡ is_open_at (with_permits r p progress.Closed 0) q
-open_same r p q o = sym (test_other is_open r p q progress.Closed 0 (λ e. o (sym e)))
-
--- one that is closed stays as it is
-pub closed_stays : (w : Work) (q : ℕ) (o : Outcome) → is_open_at w.conn.requests q ≡ false → answered w q o ≡ w
-closed_stays w q o f = left_if (is_open_at w.conn.requests q) _ w f
-
--- the permits of a request that is closed are free already
-free_once : (lim : Option ℕ) (r : List Request) (p free : ℕ)
-    → given_back lim (given_back lim free (permits_at r p)) (permits_at (with_permits r p progress.Closed 0) p) ≡ given_back lim free (permits_at r p)
-free_once lim r p free = omega (arith, permits_own r p progress.Closed)
-
--- where two are closed, as many are free in any order
-free_apart : (lim : Option ℕ) (r : List Request) (p q free : ℕ) → q ≢ p
-    → given_back lim (given_back lim free (permits_at r q)) (permits_at (with_permits r q progress.Closed 0) p)
-    ≡ given_back lim (given_back lim free (permits_at r p)) (permits_at (with_permits r p progress.Closed 0) q)
-free_apart lim r p q free o = omega (arith, permits_other r q p progress.Closed 0 o, permits_other r p q progress.Closed 0 (λ e. o (sym e)))
-
--- closed twice is closed
-pub closed_twice : (p : ℕ) (c : MultiplexedConnection) → closed (closed c p) p ≡ closed c p
-closed_twice p c =
-    let r = progress_twice c.requests p progress.Closed progress.Closed 0 0 in
-    let f = free_once c.limit c.requests p c.free in
-    λ i. record c { requests = r i; free = f i }
-
--- two are closed in any order
-pub closed_apart : (p q : ℕ) (c : MultiplexedConnection) → q ≢ p → closed (closed c q) p ≡ closed (closed c p) q
-closed_apart p q c o =
-    let r = progress_apart c.requests q p progress.Closed progress.Closed 0 0 o in
-    let f = free_apart c.limit c.requests p q c.free o in
-    λ i. record c { requests = r i; free = f i }
-
 -- an answer of request p counts for nothing
 pub answered_own : (n p : ℕ) (w : Work) (o : Outcome) → IsOwn n p (names w.conn.requests) → bare n p (answered w p o) ≡ bare n p w
 answered_own n p w o own = own_case (is_open_at w.conn.requests p) (λ t. same t)
@@ -201,39 +139,6 @@ bare_settled : (n p : ℕ) (w : Work) (ss : List Settled) → At (There (IsGone 
 bare_settled n p w [] h = refl
 bare_settled n p w (s ∷ ss) h =
     bare_settled n p (settled_one w s) ss (settled_one_kept (gone_kept n p) w s h) ∙ ap (λ (x : Work). settled_each x ss) (bare_settled_one n p w s h)
-
--- where a request is closed, what is settled for it counts for nothing
-closed_still : (w : Work) (p q : ℕ) (o : Outcome) → is_open_at w.conn.requests p ≡ false → is_open_at (answered w q o).conn.requests p ≡ false
-closed_still w p q o f =
-    chosen (λ (x : Work). is_open_at x.conn.requests p ≡ false) (is_open_at w.conn.requests q) _ w
-    (λ t. closed_set w.conn.requests q p progress.Closed 0 t f)
-    (λ g. f)
-
--- so it is for what a link settled
-settled_still : (w : Work) (p : ℕ) (s : Settled) → is_open_at w.conn.requests p ≡ false → is_open_at (settled_one w s).conn.requests p ≡ false
-settled_still w p s f =
-    let o = outcome_of s.verdict in
-    chosen (λ (x : Work). is_open_at x.conn.requests p ≡ false) (s.id == renewal_id) (renewing w (replied w.conn.renewal (is_done s.verdict))) (settled_other w s) (λ t. f)
-    (λ g. chosen (λ (x : Work). is_open_at x.conn.requests p ≡ false) (s.id == repeat_id) (served w) (answered w s.id o)
-    (λ t. chosen (λ (x : Work). is_open_at x.conn.requests p ≡ false) (is_repeating w.conn) (all_fresh (repeating w again.Nothing)) w (λ u. f) (λ u. f))
-    (λ u. closed_still w p s.id o f))
-
--- and what it settled for that request alone changes nothing
-own_settled : (w : Work) (p : ℕ) (s : Settled) → IsApart p → s.id ≡ p → is_open_at w.conn.requests p ≡ false → settled_one w s ≡ w
-own_settled w p s apart e f =
-    let o = outcome_of s.verdict in
-    left_if (s.id == renewal_id) _ (settled_other w s) (ne_test s.id renewal_id (λ is. apart s.id (inl is) e))
-    ∙ left_if (s.id == repeat_id) (served w) (answered w s.id o) (ne_test s.id repeat_id (λ is. apart s.id (inr is) e)) ∙ closed_stays w s.id o (ap (is_open_at w.conn.requests) e ∙ f)
-
--- and so for all
-others_settled : (w : Work) (p : ℕ) (ss : List Settled) → IsApart p → is_open_at w.conn.requests p ≡ false → settled_each w (others p ss) ≡ settled_each w ss
-others_settled w p [] apart f = refl
-others_settled w p (s ∷ ss) apart f =
-    by_test (s.id == p) _
-    (λ t.
-    ap (settled_each w) (taken_if (s.id == p) (others p ss) (s ∷ others p ss) t) ∙ others_settled w p ss apart f
-    ∙ ap (λ (x : Work). settled_each x ss) (sym (own_settled w p s apart (eq_from s.id p t) f)))
-    (λ g. ap (settled_each w) (left_if (s.id == p) (others p ss) (s ∷ others p ss) g) ∙ others_settled (settled_one w s) p ss apart (settled_still w p s f))
 
 -- what one link settled, and what another did that settled the same for all other messages
 bare_settled_same : (n p : ℕ) (w : Work) (ss later : List Settled) → At (There (IsGone n p)) w → others p ss ≡ others p later → bare n p (settled_each w ss) ≡ settled_each (bare n p w) later
@@ -406,11 +311,6 @@ bare_taken n p w count (Ended e) = refl
 -- bytes that begin no value
 bare_broken : (n p : ℕ) (b : Bool) (w : Work) → At (There (IsGone n p)) w → bare n p (broken_at b w) ≡ broken_at b (bare n p w)
 bare_broken n p b w h = either (bare n p) b _ w _ (bare n p w) (λ t. bare_failed n p w fault.Parse w.conn.life h) (λ f. refl)
-
--- notices change nothing but what is shown
-noticed_same : (n p : ℕ) (w : Work) (ps : List NoticeAt) → At (There (IsGone n p)) w → At (There (IsGone n p)) (noticed_each w ps)
-noticed_same n p w [] h = h
-noticed_same n p w (x ∷ ps) h = noticed_same n p (noticed w x.notice) ps h
 
 -- values that come where the rows are the same but for the verdict of message p
 bare_values : (n p : ℕ) (w : Work) (what : Hearing) (row other : List Entry) (vs : List Data) → At (There (IsGone n p)) w → SameRow p row other → bare n p (values_read w what row vs) ≡ values_read (bare n p w) what other vs

@@ -29,21 +29,23 @@ use Rattle.shared_session.proofs.Stays.{turn_plain}
 use Rattle.cancel_laws.specs.ButFor.{all_unnumbered, but_for, hushed_life}
 use Rattle.cancel_laws.specs.Cancels.{cancel_of, HasStarted, GoesOn}
 use Rattle.cancel_laws.specs.Laws.{HasNoLimit}
-use Rattle.cancel_laws.proofs.Requests.{names_count, own_closed}
-use Rattle.cancel_laws.proofs.Names.{own_of}
-use Rattle.cancel_laws.proofs.Links.{none_from}
-use Rattle.cancel_laws.proofs.Kept.{At, There, Unlimited, IsApart}
+use Rattle.conn_laws.proofs.Changes.Requests.{names_count, own_closed}
+use Rattle.conn_laws.proofs.Changes.Names.{own_of}
+use Rattle.conn_laws.proofs.Changes.Links.{none_from}
+use Rattle.conn_laws.proofs.Changes.Kept.{At, There, Unlimited, IsApart}
 use Rattle.cancel_laws.proofs.KeptTurns.{AtCore, left_by_kept, turn_kept}
-use Rattle.cancel_laws.proofs.Gone.{NoneQueued, NoneInRow, NoneIs, IsAway, away_kept, IsHushed, hushed_kept, hushed_asks, quiet_life}
+use Rattle.conn_laws.proofs.Changes.Gone.{NoneQueued, NoneInRow, NoneIs, IsAway, away_kept, IsHushed, hushed_kept, hushed_asks}
 use Rattle.cancel_laws.proofs.Moved.{own_left}
-use Rattle.cancel_laws.proofs.Once.{IsOnce, silenced_once, row_once}
-use Rattle.cancel_laws.proofs.Rest.{nothing_moves, left_idle}
+use Rattle.conn_laws.proofs.Changes.Once.{IsOnce, silenced_once, row_once}
+use Rattle.conn_laws.proofs.Changes.Rest.{nothing_moves, left_idle}
 use Rattle.cancel_laws.proofs.Whole.{last_silent, turn_silent}
-use Rattle.cancel_laws.proofs.Silent.{IsSilent}
+use Rattle.conn_laws.proofs.Changes.Silent.{IsSilent}
 use Rattle.cancel_laws.proofs.Turns.{bare_core, above, more_after, AreAlike, turn_gone, turn_unlimited}
 use Rattle.cancel_laws.proofs.Ready.{IsReady, ready_on, opening_ready, unlimited_after, IsNamed, named_on, opening_named, ready_named}
 use Rattle.cancel_laws.proofs.Shown.{but_for-append, unnumbered-append, unshown_acts, shown_alike, alike_on, silent_shown}
 use Rattle.cancel_laws.proofs.Outcomes.{told-append, all_told_unnumbered, erased, other_outcome, erased_told, none_told}
+use Rattle.link_core.specs.declared.message.Entry.{Entry}
+use Rattle.cancel_laws.proofs.Links.{quiet_stays}
 
 -- the turn of the cancel
 --
@@ -296,6 +298,15 @@ no_outcome config word draw n before after h =
 
 -- items, and events
 --
+-- where nobody awaits it, its verdict is not wanted
+pub quiet_life : (p : ℕ) (life : Life) → NoneInRow p life → hushed_life p life ≡ life
+quiet_life p Resting h = refl
+quiet_life p Dialing h = refl
+quiet_life p (Wanting l) h = refl
+quiet_life p (SettingUp l greeting) h = refl
+quiet_life p (Ready l) h = ap (λ (row : List Entry). Ready (record l { row = row })) (quiet_stays p l.row h)
+quiet_life p (Ended e) h = refl
+
 -- the links are the same, but for the verdict that is not wanted
 pub same_items : (config : Config) (word draw n : ℕ) (before after : List Event) → manager_of config ≡ None → HasNoLimit config → (h : HasStarted n (state_after config word before))
     → hushed_life h.pending.number (state_after config word (before ++ after)).single.connection.life ≡ (state_after config word (before ++ cancel_of draw n ∷ after)).single.connection.life

@@ -1,62 +1,39 @@
 -- What a whole turn keeps of a session that doesn't come back.
-use Rattle.std.proofs.Common.{ℕ, false, List, [], length, Option, Some, None, slice_get, ◌≡◌, ◌==◌, ◌∷◌, ◌++◌, if◌then◌else◌, sym, subst}
+use Rattle.std.proofs.Common.{ℕ, false, List, [], length, Option, Some, None, slice_get, ◌≡◌, ◌==◌, sym, subst}
 use Rattle.containers.proofs.Choices.{chosen}
 use Rattle.redis_error.specs.declared.redis_error.RedisError.TheVariants as error
-use Rattle.redis_error.specs.declared.fault_kind.FaultKind.TheVariants as kinds
 use Rattle.driver_model.specs.declared.action.Owner.TheVariants as owner
 use Rattle.driver_model.specs.declared.action.Purpose.{Purpose}
 use Rattle.driver_model.specs.declared.action.Purpose.TheVariants as purpose
 use Rattle.driver_model.specs.declared.event.EventKind.{EventKind}
 use Rattle.driver_model.specs.declared.event.EventKind.TheVariants as event
 use Rattle.driver_model.specs.declared.event.Submission.{Submission}
-use Rattle.driver_model.specs.declared.outcome.Outcome.{Outcome}
 use Rattle.driver_model.specs.declared.outcome.Outcome.TheVariants as outcome
 use Rattle.driver_model.specs.News.{news_of}
 use Rattle.driver_model.specs.Request.{packed_bytes, lacks_resp3}
 use Rattle.mux_conn.specs.declared.act.LinkAct.{LinkAct}
-use Rattle.mux_conn.specs.declared.act.LinkAct.TheVariants as act
-use Rattle.mux_conn.specs.declared.connection.MultiplexedConnection.{MultiplexedConnection}
 use Rattle.mux_conn.specs.declared.life.Life.{Life}
 use Rattle.mux_conn.specs.declared.request.Pending.{Pending}
-use Rattle.mux_conn.specs.declared.request.Progress.TheVariants as progress
 use Rattle.mux_conn.specs.declared.request.Request.{Request}
-use Rattle.mux_conn.specs.Connection.{Work, at_life}
-use Rattle.mux_conn.specs.Requests.{is_open_at}
-use Rattle.mux_conn.specs.Effects.{cancelled_in, left, timed_out}
 use Rattle.mux_conn.specs.Passes.{passed}
 use Rattle.shared_session.specs.declared.core_state.Core.{Core}
 use Rattle.shared_session.specs.Turn.{Turning, work_of, heard, counted, submitted, left_by, late_by, fired_by, requested, effect, next_turn}
 use Rattle.driver_model.specs.Kind.{has_timeouts}
 use Rattle.std.specs.Prelude.{is_some}
 use Rattle.shared_session.proofs.Plain.{plain_turn}
-use Rattle.cancel_laws.proofs.Kept.{IsKept, At, applied_kept, answered_kept, passed_kept}
-use Rattle.cancel_laws.proofs.KeptEnds.{flushed_kept}
-
--- a fact that the next submission, of that number, keeps too
-pub record CanAsk (P : Option ℕ → List Request → Life → List ℕ → List LinkAct → Type 0) (m : ℕ) : Type 0 where
-  pub ask : (lim : Option ℕ) (r : List Request) (life : Life) (ms : List ℕ) (xs : List LinkAct) → P lim r life ms xs → P lim (r ++ record { name = m; progress = progress.Waiting; permits = 0 } ∷ []) life ms xs
-  pub refuse : (lim : Option ℕ) (r : List Request) (life : Life) (ms : List ℕ) (xs : List LinkAct) (o : Outcome) → P lim r life ms xs → P lim r life ms (xs ++ act.Outcome m o ∷ [])
+use Rattle.conn_laws.proofs.Changes.Kept.{IsKept, At, applied_kept, passed_kept}
+use Rattle.conn_laws.proofs.Changes.KeptEnds.{flushed_kept}
+use Rattle.conn_laws.proofs.Changes.KeptTurns.{CanAsk, left_kept, timed_out_kept}
 
 -- the connection hears its link's news
 pub heard_kept : {P : Option ℕ → List Request → Life → List ℕ → List LinkAct → Type 0} → IsKept P → (t : Turning) (kind : EventKind) → At P (work_of t) → At P (work_of (heard t kind))
 heard_kept k t kind h = applied_kept k (work_of t) (news_of t.core.timers t.core.sources t.core.single.link kind) h
-
--- a request is left
-left_kept : {P : Option ℕ → List Request → Life → List ℕ → List LinkAct → Type 0} → IsKept P → (c : MultiplexedConnection) (xs : List LinkAct) (q : ℕ) → P c.limit c.requests c.life c.moved xs → P (left c q).limit (left c q).requests (left c q).life (left c q).moved xs
-left_kept {P = P} k c xs q h = chosen (λ (x : MultiplexedConnection). P x.limit x.requests x.life x.moved xs) (is_open_at c.requests q) _ c (λ t. k.cancel c.limit c.requests c.life c.moved xs q t h) (λ f. h)
 
 -- a submission is left
 pub left_by_kept : {P : Option ℕ → List Request → Life → List ℕ → List LinkAct → Type 0} → IsKept P → (t : Turning) (who : Option (Option Pending)) → At P (work_of t) → At P (work_of (left_by t who))
 left_by_kept k t None h = h
 left_by_kept k t (Some None) h = h
 left_by_kept k t (Some (Some p)) h = left_kept k t.core.single.connection t.acts p.number h
-
--- the time of a request is over
-timed_out_kept : {P : Option ℕ → List Request → Life → List ℕ → List LinkAct → Type 0} → IsKept P → (w : Work) (q : ℕ) → At P w → At P (timed_out w q)
-timed_out_kept {P = P} k w q h =
-    let d = at_life w (cancelled_in w.conn.life q) in
-    answered_kept k (if is_open_at w.conn.requests q then d else w) q (outcome.Fault (error.Io kinds.TimedOut))
-    (chosen (At P) (is_open_at w.conn.requests q) d w (λ t. k.hush w.conn.limit w.conn.requests w.conn.life w.conn.moved w.acts q h) (λ f. h))
 
 -- and that of a submission
 late_kept : {P : Option ℕ → List Request → Life → List ℕ → List LinkAct → Type 0} → IsKept P → (t : Turning) (who : Option (Option Pending)) → At P (work_of t) → At P (work_of (late_by t who))

@@ -32,13 +32,15 @@ use Rattle.mux_conn.specs.Starts.{shown_each, starts_with}
 use Rattle.mux_conn.specs.Passes.{started_at, started, message_of, placed_at, told_at_place, seated, still_admitted, moved_up, moved_up_each, moved_up_all, put_behind, seated_or_behind, permits_taken, holding, took_shown, took as holds, timer_asked, let_in, admitted_at, admitted, still_waiting, admitted_each, admitted_all, passed, round_begun, rounds_of, rounds_begun, moved_all, said}
 use Rattle.mux_conn.specs.Turn.{written_at, written, is_from, moved_wait, early_wait, fresh_wait, wait_shown, moved_each_shown, moved_shown, fresh_each_shown, fresh_shown, waits_shown, flushed}
 use Rattle.cancel_laws.specs.ButFor.{hushed_link, hushed_life}
-use Rattle.cancel_laws.proofs.Requests.{names, name_stays, progress_apart, progress_push, progress_count, permits_other, permits_push, goes_apart, own_closed, test_other, same_test, other_test, unbegun_waits, unbegun_not}
-use Rattle.cancel_laws.proofs.Names.{IsOwn}
-use Rattle.cancel_laws.proofs.Links.{alike_hushed, none_leaves, hushed_begun, hushed_started, hushed_ahead, hushed_cancelled, own_cancelled}
-use Rattle.cancel_laws.proofs.Kept.{At, There, started_kept, told_kept, moved_up_kept, moved_up_all_kept, let_in_admitted, let_in_kept, admitted_kept, unlimited_kept, round_kept, round_waits, moved_all_kept, repeated_kept, said_kept, renewal_asked_kept}
-use Rattle.cancel_laws.proofs.KeptEnds.{written_kept, wait_kept, moved_shown_kept}
-use Rattle.cancel_laws.proofs.Gone.{NoneQueued, NoneIs, IsGone, gone_kept, IsAway, away_kept}
-use Rattle.cancel_laws.proofs.Bare.{bare_conn, bare, bare_acted, open_same, closed_stays, closed_twice, closed_apart, answered_own, answered_other, bare_answered, ready_same, repeating_same}
+use Rattle.conn_laws.proofs.Changes.Requests.{names, name_stays, progress_apart, progress_push, progress_count, permits_other, permits_push, goes_apart, own_closed, test_other, same_test, other_test, unbegun_waits, unbegun_not}
+use Rattle.conn_laws.proofs.Changes.Names.{IsOwn}
+use Rattle.conn_laws.proofs.Changes.Links.{none_leaves}
+use Rattle.cancel_laws.proofs.Links.{alike_hushed, hushed_begun, hushed_started, hushed_ahead, hushed_cancelled, own_cancelled}
+use Rattle.conn_laws.proofs.Changes.Kept.{At, There, started_kept, told_kept, moved_up_kept, moved_up_all_kept, let_in_admitted, let_in_kept, admitted_kept, unlimited_kept, round_kept, round_waits, moved_all_kept, repeated_kept, said_kept, renewal_asked_kept}
+use Rattle.conn_laws.proofs.Changes.KeptEnds.{written_kept, wait_kept, moved_shown_kept}
+use Rattle.conn_laws.proofs.Changes.Gone.{NoneQueued, NoneIs, IsGone, gone_kept, IsAway, away_kept}
+use Rattle.conn_laws.proofs.Changes.Bare.{open_same, closed_stays, closed_twice, closed_apart}
+use Rattle.cancel_laws.proofs.Bare.{bare_conn, bare, bare_acted, answered_own, answered_other, bare_answered, ready_same, repeating_same}
 use Rattle.mux_conn.specs.Repeats.{is_to_start, is_untimed, with_timer, repeating, repeat_id, repeat_queued, repeat_timed, repeat_asked, repeat_act, repeat_told, repeat_moved, repeated}
 
 -- requests

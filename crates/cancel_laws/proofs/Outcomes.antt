@@ -10,7 +10,7 @@ use Rattle.driver_model.specs.declared.event.EventKind.TheVariants as event
 use Rattle.driver_model.specs.declared.outcome.Outcome.{Outcome}
 use Rattle.shared_session.specs.Replay.{with_room, told, told_each, if_placed, outcome_at}
 use Rattle.cancel_laws.specs.ButFor.{unnumbered, all_unnumbered, shown_of, but_for}
-use Rattle.cancel_laws.proofs.Lists.{set_twice, set_apart, set_push_same}
+use Rattle.conn_laws.proofs.Changes.Lists.{set_twice, set_apart, set_push_same}
 
 -- what two traces tell one after another
 pub told-append : (os : List (Option Outcome)) (xs ys : List Action) → told_each os (xs ++ ys) ≡ told_each (told_each os xs) ys

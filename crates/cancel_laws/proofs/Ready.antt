@@ -13,61 +13,28 @@ use Rattle.connection_info.specs.declared.address.ConnectionInfo.{ConnectionInfo
 use Rattle.manager_config.specs.declared.config.ConnectionManagerConfig.{ConnectionManagerConfig}
 use Rattle.driver_model.specs.Kind.{has_timeouts}
 use Rattle.driver_model.specs.Request.{packed_bytes, lacks_resp3}
-use Rattle.mux_conn.specs.declared.life.Life.{Life}
 use Rattle.mux_conn.specs.declared.request.Pending.{Pending}
 use Rattle.mux_conn.specs.declared.request.Progress.TheVariants as progress
 use Rattle.mux_conn.specs.declared.request.Request.{Request}
-use Rattle.mux_conn.specs.Requests.{permits_at}
 use Rattle.mux_conn.specs.Passes.{passed}
 use Rattle.shared_session.specs.declared.core_state.Core.{Core}
 use Rattle.shared_session.specs.Turn.{Turning, work_of, heard, left_by, late_by, fired_by, requested, effect, counted, moved_on, next_turn}
 use Rattle.shared_session.specs.Replay.{opening_core, run_on, state_after, single_core, as_managed}
 use Rattle.shared_session.proofs.Plain.{plain_after, plain_opening, plain_turn}
 use Rattle.shared_session.proofs.Stays.{turn_plain}
-use Rattle.cancel_laws.proofs.Requests.{names, names_stay, names_push, names_count}
-use Rattle.cancel_laws.proofs.Names.{AreNamed, named_refused, named_asked}
-use Rattle.cancel_laws.proofs.Kept.{IsKept, IsKeptThere, There, kept_there, Unlimited, passed_kept, IsApart}
-use Rattle.cancel_laws.proofs.KeptEnds.{flushed_kept}
+use Rattle.conn_laws.proofs.Changes.Requests.{names, names_push, names_count}
+use Rattle.conn_laws.proofs.Changes.Names.{AreNamed, named_refused, named_asked}
+use Rattle.conn_laws.proofs.Changes.Kept.{Unlimited, passed_kept, IsApart}
+use Rattle.conn_laws.proofs.Changes.KeptEnds.{flushed_kept}
 use Rattle.cancel_laws.proofs.KeptTurns.{AtCore, heard_kept, left_by_kept, fired_kept, turn_kept}
-use Rattle.cancel_laws.proofs.Once.{IsOnce, once_kept, once_asks}
-use Rattle.cancel_laws.proofs.Rest.{IsIdle}
+use Rattle.conn_laws.proofs.Changes.Once.{IsOnce, once_kept, once_asks}
+use Rattle.conn_laws.proofs.Changes.Rest.{IsIdle}
 use Rattle.cancel_laws.proofs.Whole.{turn_idle, turn_requests, turn_table}
 use Rattle.cancel_laws.proofs.Turns.{turn_unlimited}
+use Rattle.conn_laws.proofs.Changes.Ready.{names_kept}
 
 -- names
 --
--- the requests have these names
-abbrev HasNames : List ℕ → List Request → Life → Type 0
-HasNames ns r life = names r ≡ ns
-
--- each single change keeps names
-names_there : (ns : List ℕ) → IsKeptThere (HasNames ns)
-names_there ns = record {
-  answer = λ r life q h. names_stay r q progress.Closed 0 ∙ h;
-  hush = λ r life q h. h;
-  want = λ r size bound h. h;
-  wait_on = λ r l k few h. h;
-  connect = λ r l h. h;
-  set_up = λ r l q greeting h. h;
-  go_on = λ r l k greeting few h. h;
-  repeat = λ r l k q greeting next few h. h;
-  ready = λ r l k greeting few h. h;
-  round = λ r life q t h. names_stay r q progress.Begun (permits_at r q) ∙ h;
-  admit = λ r life q count t h. names_stay r q progress.Admitted count ∙ h;
-  place = λ r l q t h. names_stay r q.number progress.Placed (permits_at r q.number) ∙ h;
-  start = λ r l q qs h. h;
-  say = λ r l q own h. h;
-  offer = λ r l h. h;
-  write = λ r l k h. h;
-  come = λ r l what piece h. h;
-  end = λ r life e h. h;
-  rest = λ r life h. h;
-}
-
--- so each part of a turn does
-names_kept : (ns : List ℕ) → IsKept (There (HasNames ns))
-names_kept ns = kept_there (names_there ns)
-
 -- each request has the name of a submission of its own
 abbrev pub NamedIn : Turning → Type 0
 NamedIn t = AreNamed t.core.table (names t.core.single.connection.requests)

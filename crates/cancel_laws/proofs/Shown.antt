@@ -18,12 +18,12 @@ use Rattle.shared_session.proofs.Plain.{plain_effects}
 use Rattle.shared_session.specs.Replay.{run_on, turns_on}
 use Rattle.cancel_laws.specs.ButFor.{unnumbered, all_unnumbered, shown_of, but_for}
 use Rattle.containers.proofs.Choices.{chosen}
-use Rattle.cancel_laws.proofs.Kept.{At}
+use Rattle.conn_laws.proofs.Changes.Kept.{At}
 use Rattle.cancel_laws.proofs.KeptTurns.{AtCore, effect_kept}
 use Rattle.cancel_laws.proofs.Whole.{turn_silent, last_silent}
-use Rattle.cancel_laws.proofs.Bare.{other_acts}
+use Rattle.conn_laws.proofs.Changes.Bare.{other_acts}
 use Rattle.cancel_laws.proofs.Turns.{above, more_after, AreAlike, turns_same, alike_turn, plain_too}
-use Rattle.cancel_laws.proofs.Silent.{IsSilent, silent_kept, silent_asks}
+use Rattle.conn_laws.proofs.Changes.Silent.{IsSilent, silent_kept, silent_asks}
 
 -- lists
 --

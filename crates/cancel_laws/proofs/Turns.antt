@@ -25,11 +25,12 @@ use Rattle.shared_session.specs.Turn.{Turning, work_of, with_work, shut_by, hear
 use Rattle.shared_session.proofs.Plain.{plain_turn}
 use Rattle.shared_session.proofs.Stays.{turn_plain}
 use Rattle.mux_conn.specs.declared.request.Progress.TheVariants as progress
-use Rattle.cancel_laws.proofs.Requests.{progress_count}
-use Rattle.cancel_laws.proofs.Kept.{other_act, At, Unlimited, unlimited_kept, passed_kept}
+use Rattle.conn_laws.proofs.Changes.Requests.{progress_count}
+use Rattle.conn_laws.proofs.Changes.Kept.{other_act, At, Unlimited, unlimited_kept, passed_kept}
 use Rattle.cancel_laws.proofs.KeptTurns.{AtCore, heard_kept, effect_kept, turn_kept}
-use Rattle.cancel_laws.proofs.Gone.{IsAway, away_kept, away_asks}
-use Rattle.cancel_laws.proofs.Bare.{bare_conn, other_acts, acts_other, bare_applied}
+use Rattle.conn_laws.proofs.Changes.Gone.{IsAway, away_kept, away_asks}
+use Rattle.conn_laws.proofs.Changes.Bare.{other_acts, acts_other}
+use Rattle.cancel_laws.proofs.Bare.{bare_conn, bare_applied}
 use Rattle.cancel_laws.proofs.Moved.{bare_asked, bare_left, bare_late, bare_passed, bare_flushed}
 use Rattle.cancel_laws.proofs.Whole.{turn_table}
 

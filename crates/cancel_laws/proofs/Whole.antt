@@ -13,11 +13,11 @@ use Rattle.shared_session.specs.declared.generations.Comeback.TheVariants as com
 use Rattle.shared_session.specs.Generations.{came_back, has_ended, heeding, begun, is_last_of, repeat_in}
 use Rattle.shared_session.specs.Turn.{Turning, counted, effect, ended_apart, flushed_apart, flushed_on, last_acts, next_turn, numbered, own_part, passed_by, work_of}
 use Rattle.shared_session.proofs.Comebacks.{came_kept}
-use Rattle.cancel_laws.proofs.Kept.{At, passed_kept}
-use Rattle.cancel_laws.proofs.KeptEnds.{flushed_kept}
-use Rattle.cancel_laws.proofs.Bare.{other_acts}
-use Rattle.cancel_laws.proofs.Silent.{IsSilent, silent_kept}
-use Rattle.cancel_laws.proofs.Rest.{IsIdle, IsMoved, all_moved, flushed_idle, flushed_requests}
+use Rattle.conn_laws.proofs.Changes.Kept.{At, passed_kept}
+use Rattle.conn_laws.proofs.Changes.KeptEnds.{flushed_kept}
+use Rattle.conn_laws.proofs.Changes.Bare.{other_acts}
+use Rattle.conn_laws.proofs.Changes.Silent.{IsSilent, silent_kept}
+use Rattle.conn_laws.proofs.Changes.Rest.{IsIdle, IsMoved, all_moved, flushed_idle, flushed_requests}
 use Rattle.mux_conn.specs.declared.again.Again.{Again}
 
 -- on a link that isn't answered yet nobody is moved

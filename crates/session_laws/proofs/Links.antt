@@ -1,7 +1,3 @@
-pub mod Server
-pub mod Creds
-pub mod SetUp
-pub mod SameSaid
 pub mod Said
 pub mod Lost
 pub mod Told
@@ -9,8 +5,6 @@ pub mod SetsUp
 pub mod Watches
 pub mod Close
 pub mod Telling
-pub mod Judged
-pub mod Greeted
 pub mod Failing
 pub mod End
 pub mod ComeUp
@@ -18,7 +12,6 @@ pub mod Retire
 pub mod Connect
 pub mod Given
 pub mod Took
-pub mod HeardBytes
 pub mod ReadSetup
 pub mod ReadWanting
 pub mod Read

@@ -8,7 +8,6 @@ pub mod Settle
 pub mod LetIn
 pub mod Cancel
 pub mod Late
-pub mod Further
 pub mod Rounded
 pub mod Submit
 pub mod Asked

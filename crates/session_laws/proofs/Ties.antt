@@ -1,11 +1,7 @@
-pub mod Numbers
 pub mod Tied
 pub mod States
-pub mod Aside
 pub mod Entered
 pub mod Names
-pub mod Permits
-pub mod InLine
 pub mod Behind
 pub mod Owes
 pub mod Kept
@@ -13,8 +9,6 @@ pub mod Moves
 pub mod Ahead
 pub mod Places
 pub mod Ordered
-pub mod More
-pub mod New
 pub mod Past
 pub mod Credentials
 pub mod Grown

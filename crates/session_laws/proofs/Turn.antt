@@ -4,5 +4,4 @@ pub mod Effects
 pub mod Legality
 pub mod Opening
 pub mod Ordered
-pub mod Adds
 pub mod Ends

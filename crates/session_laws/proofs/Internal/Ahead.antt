@@ -1,11 +1,11 @@
 -- The requests start that are ahead of new credentials.
-use Rattle.std.proofs.Common.{Bool, List, Option, [], ap, append_assoc, arith, false, inl, inr, length, refl, subst, sym, true, ℕ, ◌+◌, ◌++◌, ◌<◌, ◌∙◌, ◌∷◌, ◌≡◌, ◌⊎◌}
+use Rattle.std.proofs.Common.{Bool, List, Option, [], ap, append_assoc, arith, false, inl, length, refl, subst, sym, true, ℕ, ◌+◌, ◌++◌, ◌<◌, ◌∙◌, ◌∷◌, ◌≡◌}
 use Rattle.std.specs.Prelude.{not, ◌==◌, ◌&&◌, ◌||◌}
 use Rattle.containers.proofs.Choices.{by_test, chosen, eq_test, not_both, or_left, or_right}
 use Rattle.driver_model.specs.Shape.{need_of}
 use Rattle.driver_model.specs.declared.action.Action.{Action}
 use Rattle.driver_model.specs.declared.action.Owner.TheVariants as owner
-use Rattle.link_core.specs.Link.{LinkState, Starting, holds_back, is_first_up_to, is_up_to, start_of, started_one, started_to_each}
+use Rattle.link_core.specs.Link.{LinkState, Starting, holds_back, is_up_to, start_of, started_one, started_to_each}
 use Rattle.link_core.specs.declared.message.Queued.{Queued}
 use Rattle.link_laws.specs.Starts.{begun}
 use Rattle.mux_conn.specs.Connection.{in_front, is_due as is_renewal_due, is_outstanding}
@@ -23,17 +23,21 @@ use Rattle.legal_laws.proofs.Internal.Since.{SinceBegun}
 use Rattle.legal_laws.proofs.Submissions.InLine.{is_to_start}
 use Rattle.legal_laws.proofs.Submissions.Places.{Knows}
 use Rattle.session_laws.proofs.Requests.Going.{begun_with, first_in_queue, none_ends_mine}
-use Rattle.session_laws.proofs.Requests.Start.{after_start, on_link, start_action, start_tied, with_queue}
-use Rattle.session_laws.proofs.Requests.Starts.{begins_ends_none, fit_next, running_on, show_start, shows, shows-append}
-use Rattle.session_laws.proofs.Ties.Ahead.{HasSeats, IsRunning, queue_step, queue_unstarted, queue_within}
+use Rattle.conn_laws.proofs.Requests.Start.{with_queue}
+use Rattle.session_laws.proofs.Requests.Start.{after_start, on_link, start_action, start_tied}
+use Rattle.conn_laws.proofs.Requests.Starts.{begins_ends_none, fit_next, show_start, shows, shows-append}
+use Rattle.session_laws.proofs.Requests.Starts.{running_on}
+use Rattle.conn_laws.proofs.Ties.Ahead.{HasSeats}
+use Rattle.session_laws.proofs.Ties.Ahead.{IsRunning, queue_step, queue_unstarted, queue_within}
 use Rattle.session_laws.proofs.Ties.Entered.{book_more, shown_more, sound_more}
-use Rattle.session_laws.proofs.Ties.Moves.{or_true}
-use Rattle.session_laws.proofs.Ties.Names.{name_placed, name_within}
-use Rattle.session_laws.proofs.Ties.Numbers.{IsIn}
+use Rattle.conn_laws.proofs.Ties.Moves.{or_true}
+use Rattle.conn_laws.proofs.Ties.Names.{name_placed, name_within}
+use Rattle.conn_laws.proofs.Ties.Numbers.{IsIn}
 use Rattle.session_laws.proofs.Ties.Ordered.{AreOrdered, ordered_on}
 use Rattle.session_laws.proofs.Ties.Places.{known, since_begun}
-use Rattle.session_laws.proofs.Ties.States.{IsFit}
-use Rattle.session_laws.proofs.Ties.Tied.{HasCourse, Inner, Sound, Tied, queue_ids}
+use Rattle.conn_laws.proofs.Ties.States.{IsFit}
+use Rattle.conn_laws.proofs.Ties.Tied.{queue_ids}
+use Rattle.session_laws.proofs.Ties.Tied.{HasCourse, Inner, Sound, Tied}
 
 -- the link of a session that is ready was asked for
 pub ready_asked : (b : Book) (t : Inner) (link : LinkState) → Tied b t → t.life ≡ Ready link → t.link < b.links
@@ -138,31 +142,3 @@ each_ahead before n c acts t s (q ∷ qs) fit none served h =
     ∙ ap (λ (x : List LinkAct). before ++ shown_each t.link n c x) (append_assoc acts more (show_start t.requests (start_of s.link.started q) ∷ []) ∙ ap (λ (x : List LinkAct). acts ++ x) (sym (shows-append t.requests s.out (start_of s.link.started q)))) in
     let after = record t { started = t.started ++ q.id ∷ [] } in
     each_ahead before n c acts after next qs (fit_next t.size t.bound s q qs fit) none (λ outstanding. absurd (not_both (is_outstanding t.again) serves outstanding)) (subst (λ (x : List Action). IsTelling x (after_start t s.link q qs)) same first))
-
--- the link is fit behind them
-pub to_fit : (size bound : ℕ) (last : Option ℕ) (s : Starting) (qs : List Queued) → IsFit size bound (with_queue s.link qs) → IsFit size bound (started_to_each last s qs).link
-to_fit size bound last s [] h = record { sound = h.sound; size_is = h.size_is; bound_is = h.bound_is; within = h.within }
-to_fit size bound last s (q ∷ qs) h =
-    chosen (λ (x : Starting). IsFit size bound x.link) (holds_back s.link || not (is_up_to last q.id)) _ (started_to_each last (started_one s q) qs)
-    (λ stops. record { sound = h.sound; size_is = h.size_is; bound_is = h.bound_is; within = h.within })
-    (λ goes. to_fit size bound last (started_one s q) qs (fit_next size bound s q qs h))
-
--- a link that is held back is so behind them
-pub to_held : (last : Option ℕ) (s : Starting) (qs : List Queued) → holds_back s.link ≡ true → holds_back (started_to_each last s qs).link ≡ true
-to_held last s [] held = held
-to_held last s (q ∷ qs) held =
-    chosen (λ (x : Starting). holds_back x.link ≡ true) (holds_back s.link || not (is_up_to last q.id)) _ (started_to_each last (started_one s q) qs)
-    (λ stops. held)
-    (λ goes. absurd (not_both (holds_back s.link) (or_left (holds_back s.link) (not (is_up_to last q.id)) goes) held))
-
--- and nothing of its queue is up to that one, or it is held back
-pub to_stopped : (last : Option ℕ) (s : Starting) (qs : List Queued) → (holds_back (started_to_each last s qs).link ≡ true) ⊎ (is_first_up_to last (started_to_each last s qs).link.queue ≡ false)
-to_stopped last s [] = inr refl
-to_stopped last s (q ∷ qs) =
-    chosen (λ (x : Starting). (holds_back x.link ≡ true) ⊎ (is_first_up_to last x.link.queue ≡ false)) (holds_back s.link || not (is_up_to last q.id)) _ (started_to_each last (started_one s q) qs)
-    (λ stops. by_test (holds_back s.link) ((holds_back s.link ≡ true) ⊎ (is_up_to last q.id ≡ false)) (λ t. inl t) (λ f. inr (not_true (is_up_to last q.id) (sym (ap (λ x. x || not (is_up_to last q.id)) f) ∙ stops))))
-    (λ goes. to_stopped last (started_one s q) qs)
-  where
-    not_true : (x : Bool) → not x ≡ true → x ≡ false
-    not_true true e = cc
-    not_true false e = refl

@@ -1,9 +1,8 @@
 -- New credentials are told behind the requests that are ahead of them, behind their timer.
 use Rattle.std.proofs.Common.{List, None, Option, Some, [], ap, arith, false, inl, inr, length, length-append, refl, subst, sym, true, ℕ, ◌+◌, ◌++◌, ◌≤◌, ◌∙◌, ◌∷◌, ◌≡◌, ◌≢◌, ◌⊎◌}
 use Rattle.std.proofs.lemmas.List.{append-nil}
-use Rattle.std.specs.Prelude.{if◌then◌else◌, slice_get, ◌&&◌, ◌||◌}
-use Rattle.containers.proofs.Choices.{both_right, chosen, left_if, not_both, by_test, taken_if}
-use Rattle.containers.proofs.Places.{get_within}
+use Rattle.std.specs.Prelude.{if◌then◌else◌, ◌&&◌, ◌||◌}
+use Rattle.containers.proofs.Choices.{both_right, chosen, left_if, not_both, by_test}
 use Rattle.credentials.specs.Credentials.{Credentials}
 use Rattle.credentials.specs.Message.{auth_bytes}
 use Rattle.driver_model.specs.Shape.{need_of}
@@ -14,11 +13,8 @@ use Rattle.driver_model.specs.declared.action.Purpose.{Purpose}
 use Rattle.driver_model.specs.declared.action.Purpose.TheVariants as purpose
 use Rattle.driver_model.specs.declared.outcome.Shape.TheVariants.{Confirmation}
 use Rattle.link_core.specs.Link.{LinkState, Starting, begun, entry_of, holds_back, is_first_up_to, started_to}
-use Rattle.link_core.specs.declared.message.Entry.{Entry}
-use Rattle.link_core.specs.declared.message.Queued.{Queued}
-use Rattle.link_laws.proofs.Once.{wanted-append}
 use Rattle.link_laws.proofs.TiedLink.{all_push, begun_tied, timed_tied}
-use Rattle.link_laws.specs.Settles.{awaited_ids, wanted}
+use Rattle.link_laws.specs.Settles.{awaited_ids}
 use Rattle.link_laws.specs.Starts.{start_from}
 use Rattle.mux_conn.specs.Connection.{Work, are_some, is_due as is_renewal_due, is_outstanding, is_ready, last_queued, with_link}
 use Rattle.mux_conn.specs.declared.act.LinkAct.{LinkAct}
@@ -26,48 +22,43 @@ use Rattle.mux_conn.specs.Renewals.{asked_next, renewal_asked, renewal_id, renew
 use Rattle.mux_conn.specs.declared.act.LinkAct.TheVariants as act
 use Rattle.mux_conn.specs.declared.life.Life.{Life}
 use Rattle.mux_conn.specs.declared.life.Life.TheVariants.{Ready}
-use Rattle.mux_conn.specs.declared.renewal.Renewal.{Renewal}
-use Rattle.mux_conn.specs.declared.request.Request.{Request}
 use Rattle.shared_session.specs.declared.core_state.Core.{Core}
 use Rattle.shared_session.specs.Turn.{timers_of}
 use Rattle.legal_trace.specs.Book.{Book, book, entered, message_of, renewal_in}
-use Rattle.legal_trace.specs.Ledger.{Ledger, Start, begins, is_of_setup, noted, renewal_count, renewal_due, renewals_asked, setup_count, times, is_of_again}
+use Rattle.legal_trace.specs.Ledger.{begins, is_of_setup, noted, renewal_count, renewal_due, renewals_asked, times, is_of_again}
 use Rattle.legal_trace.specs.Legal.{MayRenew, MayTimeRenewal, NoneEnds}
-use Rattle.legal_trace.specs.Story.{Story}
-use Rattle.legal_trace.proofs.Setups.{count_more}
 use Rattle.session_laws.proofs.Ties.Ahead.{held_by}
-use Rattle.session_laws.proofs.Requests.Going.{HasRenewed, applied_up, none_ends_kept, none_ends_mine, renewals_timed, setups_started, monitors_started}
-use Rattle.session_laws.proofs.Ties.InLine.{kept_ids}
+use Rattle.conn_laws.proofs.Requests.Going.{HasRenewed}
+use Rattle.session_laws.proofs.Requests.Going.{applied_up, none_ends_kept, none_ends_mine, renewals_timed, setups_started, monitors_started}
+use Rattle.conn_laws.proofs.Ties.InLine.{kept_ids}
 use Rattle.session_laws.proofs.Ties.Kept.{mine_noted, others_kept, tied_by}
-use Rattle.session_laws.proofs.Ties.Names.{get_more, owner_of_auth}
-use Rattle.session_laws.proofs.Ties.Numbers.{IsIn, Rising, in_left, requests_behind, requests_in, requests_in-append, auth_is_own, is_own}
+use Rattle.conn_laws.proofs.Ties.Names.{get_more}
+use Rattle.conn_laws.proofs.Ties.Numbers.{IsIn, Rising, requests_behind, requests_in, requests_in-append, auth_is_own}
 use Rattle.legal_trace.specs.Steps.{any_below, is_ahead}
-use Rattle.session_laws.proofs.Internal.Ahead.{IsTelling, each_ahead, ordered_more, to_fit, to_held, to_stopped}
-use Rattle.session_laws.proofs.Internal.Serving.{outstanding_serves}
+use Rattle.conn_laws.proofs.Internal.Ahead.{to_fit, to_stopped}
+use Rattle.conn_laws.proofs.Changes.Rest.{held_ahead as to_held}
+use Rattle.session_laws.proofs.Internal.Ahead.{IsTelling, each_ahead, ordered_more}
+use Rattle.conn_laws.proofs.Internal.Serving.{outstanding_serves}
 use Rattle.session_laws.proofs.Ties.Ordered.{AreOrdered, IsOrdered, StaysOrdered, asked_ordered, none_ahead}
 use Rattle.session_laws.proofs.Ties.Places.{known, since_begun}
-use Rattle.session_laws.proofs.Internal.Renewals.{auth_renewed, asked_renewed, down_renewed_due, due_first, due_is, due_well, some_wait, timed_renewed}
-use Rattle.session_laws.proofs.Links.SetUp.{set_up_begins, setups_begins}
+use Rattle.conn_laws.proofs.Internal.Renewals.{auth_renewed, asked_renewed, down_renewed_due, due_first, due_is, due_well, some_wait, timed_renewed}
+use Rattle.conn_laws.proofs.Links.SetUp.{set_up_begins, setups_begins}
 use Rattle.session_laws.proofs.Requests.Settle.{Holds, book_of_more, renewal_tied, seen, sound_act, trace_of_acts}
-use Rattle.session_laws.proofs.Requests.Start.{not_setting, on_link, owners-append, owners_each-append, owners_length, setup_owners-append}
-use Rattle.session_laws.proofs.Requests.Starts.{begins_ends_none, shown_is, shows, shows_sources, shows_timers}
-use Rattle.session_laws.proofs.Ties.States.{IsFit}
-use Rattle.session_laws.proofs.Links.Server.{AreRenewed, TiedRenewal, setup_owners, timed_of}
-use Rattle.session_laws.proofs.Ties.Tied.{AreAimed, Inner, IsAim, IsEntry, Tied, TiedTries, has_ended, link_in, numbers_kept, owner_of, owners_each, queue_ids}
-use Rattle.session_laws.proofs.Links.Took.{queue_waits}
+use Rattle.conn_laws.proofs.Requests.Start.{not_setting}
+use Rattle.session_laws.proofs.Requests.Start.{on_link}
+use Rattle.conn_laws.proofs.Requests.Starts.{begins_ends_none, shown_is, shows}
+use Rattle.session_laws.proofs.Requests.Starts.{shows_sources, shows_timers}
+use Rattle.conn_laws.proofs.Ties.States.{IsFit}
+use Rattle.conn_laws.proofs.Links.Server.{TiedRenewal}
+use Rattle.conn_laws.proofs.Ties.Tied.{IsEntry, has_ended, link_in, owner_of, queue_ids}
+use Rattle.session_laws.proofs.Ties.Tied.{AreAimed, Inner, IsAim, Tied, numbers_kept}
+use Rattle.conn_laws.proofs.Links.Took.{queue_waits}
 use Rattle.mux_conn.specs.declared.life.Greeting.TheVariants as greet
 use Rattle.driver_model.specs.Hearing.{is_watching}
-use Rattle.session_laws.proofs.Internal.Repeats.{repeated_alike, begins_repeated}
-use Rattle.session_laws.proofs.Internal.Repeating.{HasRepeated}
+use Rattle.conn_laws.proofs.Internal.Repeats.{repeated_alike, begins_repeated}
+use Rattle.conn_laws.proofs.Internal.Repeating.{HasRepeated}
 use Rattle.session_laws.proofs.Internal.RepeatsDue.{repeating_timed, repeating_started}
-
--- two links of one life
-pub one_link : (link other : LinkState) → Ready link ≡ Ready other → link ≡ other
-one_link link other e = cc
-
--- one that is fit has the boundary of its connection
-pub bound_fit : (size bound : ℕ) (link : LinkState) → IsFit size bound link → (x : LinkState) → Ready link ≡ Ready x → x.boundary ≡ bound
-bound_fit size bound link fit x e = ap (λ (y : LinkState). y.boundary) (sym (one_link link x e)) ∙ fit.bound_is
+use Rattle.conn_laws.proofs.Internal.Renews.{auth_owner, bound_fit, one_link, timed_is_asked, tries_told, wanted_told}
 
 -- their timer
 --
@@ -81,10 +72,6 @@ aims_renewed timers link count number h k what e = let own : link ≤ link = ome
   | inl i ↦ h k what i
   | inr x ↦ subst (λ w. IsAim w link count) x.1 own
 ]
-
--- where the time is set, as many timers were asked for as new credentials were to be told
-timed_is_asked : (l : Ledger) (r : Renewal) (ms : ℕ) → r.within ≡ Some ms → AreRenewed l r → l.creds.timed ≡ r.asked
-timed_is_asked l r ms e h = h.timed_is ∙ ap (λ o. timed_of o r.asked) e
 
 -- it may be asked for
 may_time_renewal : (b : Book) (t : Inner) (link : LinkState) (number ms : ℕ) → number ≡ length t.timers → t.renewal.pending ≡ false → is_renewal_due t.renewal ≡ true → t.renewal.within ≡ Some ms → IsFit t.size t.bound link → HasRepeated t.again (Ready link) → Tied b (on_link t link) → NoneEnds b
@@ -172,43 +159,6 @@ time_tied b t link last number ms none due within h =
 -- it carries bytes
 auth_some : (c : Credentials) → auth_bytes c.username c.password ≢ []
 auth_some c e = cc
-
--- and is AUTH's
-auth_owner : (requests : List Request) → owner_of requests renewal_id ≡ owner.Auth
-auth_owner requests = owner_of_auth requests renewal_id refl
-
--- one more of the started, of this number, which is none of a request, nor of the setup
-pub tries_told : (l : Ledger) (story : ℕ → Story) (requests : List Request) (link : ℕ) (started : List ℕ) (s : Start) (id : ℕ) → length requests ≤ id → is_of_setup s.owner ≡ false → s.owner ≡ owner_of requests id → is_watching l.hearing ≡ false → TiedTries l story requests link started
-    → TiedTries (noted l (begins s)) story requests link (started ++ id ∷ [])
-tries_told l story requests link started s id few other own plain h =
-    let c = setup_count l.starts in
-    let same : setup_count (l.starts ++ s ∷ []) ≡ c = count_more l.starts s other in
-    record {
-      greeted = λ w. absurd (not_both (is_watching l.hearing) plain w);
-      owners = λ same_plain. owners-append l.starts (s ∷ []) ∙ (λ i. h.owners plain i ++ own i ∷ []) ∙ setup_owners-append c (owners_each requests started) (owner_of requests id ∷ [])
-          ∙ (λ i. setup_owners (sym same i) (sym (owners_each-append requests started (id ∷ [])) i));
-      shapes = λ j m x inside i e. elim (get_more started id j m i) [
-        | inl a ↦ elim (get_more l.starts s (c + j) x (ap (λ y. slice_get (l.starts ++ s ∷ []) (y + j)) (sym same) ∙ e)) [
-          | inl d ↦ h.shapes j m x inside a d
-          | inr d ↦ absurd (past j m a d.0)
-        ]
-        | inr a ↦ absurd (let k = a.1 in omega (arith, k, inside, few))
-      ];
-      tried = λ j m inside i. elim (get_more started id j m i) [
-        | inl a ↦ h.tried j m inside a ∙ ap (λ y. record { link = link; message = y + j } ∷ []) (sym same)
-        | inr a ↦ absurd (let k = a.1 in omega (arith, k, inside, few))
-      ];
-      untried = λ m r i out on. h.untried m r i (λ j. out (in_left m started (id ∷ []) j)) on;
-    }
-  where
-    past : (j m : ℕ) → slice_get started j ≡ Some m → setup_count l.starts + j ≡ length l.starts → ⊥
-    past j m a e = let w = get_within started j m a in let long = owners_length l.starts requests started (setup_count l.starts) (h.owners plain) in omega arith
-
--- an entry of the driver's own is no request's
-pub wanted_told : (row : List Entry) (q : Queued) → is_own q.id ≡ true → q.awaited ≡ true → requests_in (wanted (row ++ entry_of q ∷ [])) ≡ requests_in (wanted row)
-wanted_told row q own awaited =
-    ap requests_in (wanted-append row (entry_of q ∷ [])) ∙ ap (λ ns. requests_in (wanted row ++ (ns ++ []))) (taken_if q.awaited (q.id ∷ []) [] awaited)
-    ∙ requests_in-append (wanted row) (q.id ∷ []) ∙ ap (λ ns. requests_in (wanted row) ++ ns) (requests_behind q.id [] own) ∙ append-nil (requests_in (wanted row))
 
 -- what shows it
 abbrev auth_action : Inner → LinkState → Credentials → Action

@@ -2,11 +2,9 @@
 use Rattle.std.proofs.Common.{◌≡◌, ℕ, Bool, true, false, ◌&&◌, not, List, [], ◌∷◌, ◌++◌, refl, sym, ap, ◌∙◌, subst, arith}
 use Rattle.containers.proofs.Choices.{by_test, left_if, not_both, taken_if}
 use Rattle.driver_model.specs.declared.action.Action.{Action}
-use Rattle.driver_model.specs.declared.action.Owner.{Owner}
 use Rattle.driver_model.specs.declared.event.EventKind.{EventKind}
 use Rattle.driver_model.specs.News.{news_of, unrepeated}
 use Rattle.link_core.specs.Link.{LinkState}
-use Rattle.link_laws.proofs.TiedLink.{TiedLink}
 use Rattle.mux_conn.specs.declared.again.Again.TheVariants as again
 use Rattle.mux_conn.specs.declared.connection.MultiplexedConnection.{MultiplexedConnection}
 use Rattle.mux_conn.specs.declared.life.Life.{Life}
@@ -17,48 +15,24 @@ use Rattle.mux_conn.specs.Repeats.{repeating}
 use Rattle.shared_session.specs.declared.core_state.Core.{Core}
 use Rattle.shared_session.specs.Turn.{is_bad, with_work}
 use Rattle.legal_trace.specs.Book.{Book, book, has_generations}
-use Rattle.legal_trace.specs.Ledger.{Ledger, ending, is_ready as is_ready_link, is_repeating, is_served, is_set_up, unrepeated_by}
+use Rattle.legal_trace.specs.Ledger.{Ledger, ending, is_ready as is_ready_link, is_repeating, is_served, unrepeated_by}
 use Rattle.legal_trace.proofs.Setups.{ends_where_set}
 use Rattle.session_laws.proofs.Turn.Announce.{IsNewsKind, announced_sound, first_book, heard_book, heard_is, heard_tied_new, holds_first, quiet_still, turn_of, turned}
 use Rattle.session_laws.proofs.Links.Connect.{passed_over}
 use Rattle.session_laws.proofs.Links.End.{up_tied}
 use Rattle.session_laws.proofs.Turn.Heard.{book_kind, book_news, heard_by, hushed_there, none_ends, still_none, tame_between}
 use Rattle.session_laws.proofs.Internal.Held.{unready_repeats_not}
-use Rattle.session_laws.proofs.Internal.Renewals.{renewal_alike}
-use Rattle.session_laws.proofs.Internal.Repeats.{TiedRepeat, over_repeated, serves}
-use Rattle.session_laws.proofs.Links.Said.{mild_end, ready_served, renoticed, setup_served}
-use Rattle.session_laws.proofs.Links.SameSaid.{set_alike}
+use Rattle.conn_laws.proofs.Internal.Renewals.{renewal_alike}
+use Rattle.conn_laws.proofs.Internal.Repeats.{TiedRepeat, over_repeated, serves}
+use Rattle.conn_laws.proofs.Links.Said.{mild_end, renoticed, setup_served}
+use Rattle.session_laws.proofs.Links.Said.{ready_served}
 use Rattle.session_laws.proofs.Internal.Served.{served_rounds, served_waits}
-use Rattle.session_laws.proofs.Internal.Serving.{answered_serves, outstanding_serves}
+use Rattle.conn_laws.proofs.Internal.Serving.{answered_serves, outstanding_serves}
 use Rattle.session_laws.proofs.Requests.Settle.{seen, trace_of_acts}
 use Rattle.session_laws.proofs.Ties.States.{Between, HasApplied}
-use Rattle.session_laws.proofs.Ties.Tied.{Tied, TiedLife, TiedRounds, TiedWaits, carried, has_ended, inner, whole_link}
-
--- the ledger of a link on which it is given up
-abbrev given_up : Ledger → Ledger
-given_up l = record (unrepeated_by l) { heard = unrepeated }
-
--- its messages stand as they did
-given_up_tied : (name : ℕ → Owner) (l : Ledger) (link : LinkState) → TiedLink name l link → TiedLink name (given_up l) link
-given_up_tied name l link h = record {
-  sent = h.sent;
-  offer = h.offer;
-  bound = h.bound;
-  rest = h.rest;
-  broken = h.broken;
-  started = h.started;
-  within = h.within;
-  bytes = h.bytes;
-  row = h.row;
-}
-
--- it is set up as it was
-given_up_set : (l : Ledger) → is_set_up (given_up l) ≡ is_set_up l
-given_up_set l = set_alike l (given_up l) (record { starts = refl; dealt = refl; info = refl; hearing = refl; wanted = refl; given = refl })
-
--- the connection then
-abbrev serving : MultiplexedConnection → MultiplexedConnection
-serving c = record c { again = again.Nothing; fresh = numbers_of c.waiting }
+use Rattle.conn_laws.proofs.Ties.Tied.{TiedLife, TiedRounds, TiedWaits, carried, has_ended, whole_link}
+use Rattle.session_laws.proofs.Ties.Tied.{Tied, inner}
+use Rattle.conn_laws.proofs.Internal.RepeatOver.{given_up, given_up_set, given_up_tied, serving}
 
 -- on a link that is ready, where it isn't answered
 given_up_applied : (before : List Action) (c : Core) (started : List ℕ) (word : ℕ) (kind : EventKind) (link : LinkState) → Between before c started → is_bad c kind ≡ false → IsNewsKind c.timers kind → news_of c.timers c.sources c.single.link kind ≡ unrepeated

@@ -1,19 +1,14 @@
 -- What is subscribed is subscribed again before new credentials and the queue, behind its timer.
-use Rattle.std.proofs.Common.{List, None, [], arith, false, inl, inr, subst, sym, true, ℕ, ◌++◌, ◌==◌, ◌≤◌, ◌∙◌, ◌∷◌, ◌≡◌, ◌≢◌}
+use Rattle.std.proofs.Common.{List, None, [], arith, inl, inr, subst, sym, true, ℕ, ◌++◌, ◌==◌, ◌≤◌, ◌∙◌, ◌∷◌, ◌≡◌, ◌≢◌}
 use Rattle.containers.proofs.Choices.{by_test, eq_from, ne_from, not_both}
 use Rattle.driver_model.specs.declared.action.Purpose.{Purpose}
 use Rattle.driver_model.specs.declared.action.Purpose.TheVariants as purpose
-use Rattle.link_core.specs.Link.{LinkState, holds_back}
-use Rattle.mux_conn.specs.declared.life.Life.{Life}
-use Rattle.mux_conn.specs.declared.life.Life.TheVariants.{Ready}
-use Rattle.mux_conn.specs.declared.again.Again.{Again}
-use Rattle.mux_conn.specs.Repeats.{is_to_start, is_untimed}
 use Rattle.legal_trace.specs.Book.{Book}
 use Rattle.legal_trace.specs.Ledger.{again_due}
 use Rattle.legal_trace.specs.Legal.{RepeatsAreTimed, RepeatsAreStarted}
 use Rattle.legal_trace.specs.Steps.{is_held_back}
 use Rattle.legal_trace.proofs.Again.{again_is_up}
-use Rattle.session_laws.proofs.Ties.Names.{get_more}
+use Rattle.conn_laws.proofs.Ties.Names.{get_more}
 use Rattle.session_laws.proofs.Ties.Tied.{AreAimed, Inner, IsAim, Tied}
 
 -- a timer more for the link
@@ -22,10 +17,6 @@ aims_repeated timers link count h k what e = let own : link ≤ link = omega ari
   | inl i ↦ h k what i
   | inr x ↦ subst (λ w. IsAim w link count) x.1 own
 ]
-
--- behind a pass, what is to start on a link that is set up has its timer, and waits for its link, which is held back
-abbrev pub HasRepeated : Again → Life → Type 0
-HasRepeated a life = (link : LinkState) → life ≡ Ready link → is_to_start a ≡ true → (is_untimed a ≡ false) × (holds_back link ≡ true)
 
 -- it is to start on the link of the session alone, where that is ready
 pub due_here : (b : Book) (t : Inner) (m : ℕ) → Tied b t → again_due (b.link m) ≡ true → m ≡ t.link

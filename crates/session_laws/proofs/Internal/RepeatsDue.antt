@@ -1,13 +1,9 @@
 -- When what is subscribed again is to start: where the connection says so.
-use Rattle.std.proofs.Common.{◌≡◌, ◌≢◌, ◌&&◌, Bool, true, false, List, Option, None, Some, is_some, not, refl, sym, ap, subst, ◌∙◌, ℕ}
+use Rattle.std.proofs.Common.{◌≡◌, ◌&&◌, true, refl, sym, ap, subst, ◌∙◌}
 use Rattle.containers.proofs.Choices.{not_both}
-use Rattle.sub_tracker.specs.Subscribed.{Request as Call}
 use Rattle.link_core.specs.Link.{LinkState}
 use Rattle.link_laws.proofs.TiedLink.{TiedLink}
-use Rattle.mux_conn.specs.Connection.{is_outstanding, is_ready}
-use Rattle.mux_conn.specs.Repeats.{is_to_start, is_untimed}
-use Rattle.mux_conn.specs.declared.again.Again.{Again}
-use Rattle.mux_conn.specs.declared.again.Again.TheVariants as again
+use Rattle.mux_conn.specs.Repeats.{is_to_start}
 use Rattle.mux_conn.specs.declared.life.Life.{Life}
 use Rattle.mux_conn.specs.declared.life.Life.TheVariants.{Resting, Dialing, Wanting, SettingUp, Ready, Ended}
 use Rattle.legal_trace.specs.Book.{Book}
@@ -15,21 +11,15 @@ use Rattle.legal_trace.specs.Ledger.{Ledger, again_due, is_set_up}
 use Rattle.legal_trace.specs.Legal.{RepeatsAreTimed, RepeatsAreStarted}
 use Rattle.legal_trace.proofs.Again.{again_is_set, again_is_up}
 use Rattle.session_laws.proofs.Ties.Ahead.{held_by}
-use Rattle.session_laws.proofs.Links.Creds.{wanting_lacks}
-use Rattle.session_laws.proofs.Internal.Repeating.{HasRepeated, repeats_started, repeats_timed}
-use Rattle.session_laws.proofs.Internal.Repeats.{IsRepeated, TiedRepeat, to_start_is}
-use Rattle.session_laws.proofs.Links.Server.{AreSought, HasSaid}
-use Rattle.session_laws.proofs.Internal.Serving.{answered_started}
-use Rattle.session_laws.proofs.Links.SetUp.{not_set_up, lacking_unset}
-use Rattle.session_laws.proofs.Ties.Tied.{Inner, Tied, TiedLife, carried, has_ended, owner_of, whole_link}
-
--- nothing is to start on a link that takes requests
-pub served_repeated : (a : Again) (life : Life) → is_outstanding a ≡ false → HasRepeated a life
-served_repeated a life none link e start = absurd (not_both (is_to_start a) (answered_started a none) start)
-
--- nor on one that isn't set up
-pub down_repeated : (a : Again) (life : Life) → is_ready life ≡ false → HasRepeated a life
-down_repeated a life down link e start = absurd (not_both (is_ready life) down (ap is_ready e))
+use Rattle.conn_laws.proofs.Links.Creds.{wanting_lacks}
+use Rattle.conn_laws.proofs.Internal.Repeating.{HasRepeated}
+use Rattle.session_laws.proofs.Internal.Repeating.{repeats_started, repeats_timed}
+use Rattle.conn_laws.proofs.Internal.Repeats.{IsRepeated, TiedRepeat, to_start_is}
+use Rattle.conn_laws.proofs.Links.Server.{AreSought, HasSaid}
+use Rattle.conn_laws.proofs.Links.SetUp.{not_set_up, lacking_unset}
+use Rattle.conn_laws.proofs.Ties.Tied.{TiedLife, carried, has_ended, owner_of, whole_link}
+use Rattle.session_laws.proofs.Ties.Tied.{Inner, Tied}
+use Rattle.conn_laws.proofs.Internal.RepeatsDue.{timed_there}
 
 -- it is on a link that is set up, and the connection says so
 pub record IsDueThere (t : Inner) : Type 0 where
@@ -61,22 +51,6 @@ due_there b t h due = by_life t.life refl
         let repeat : IsRepeated l b.tracked t.renewal.within t.again = subst (TiedRepeat l b.tracked t.renewal.within t.again) e h.repeat in
         record { link = link; life = e; starts = sym (to_start_is l b.tracked t.renewal.within t.again (λ i. up i && well i) repeat) ∙ due }
     by_life (Ended x) e = absurd (not_both l.up (lived (Ended x) e).0 (again_is_up l due))
-
--- where a time is set, there is one
-within_is : (o : Option ℕ) → o ≢ None → is_some o ≡ true
-within_is None none = absurd (none refl)
-within_is (Some ms) none = refl
-
--- what isn't false is true
-not_not : (x : Bool) → not x ≡ false → x ≡ true
-not_not true e = refl
-not_not false e = cc
-
--- its timer was asked for, where the connection says so, and a time is set
-timed_there : (l : Ledger) (calls : List Call) (within : Option ℕ) (a : Again) → IsRepeated l calls within a → is_to_start a ≡ true → is_untimed a ≡ false → within ≢ None → l.again.timed ≡ true
-timed_there l calls within again.Nothing h starts timed some = cc
-timed_there l calls within (again.Due packed of_shape was) h starts timed some = h.timed_is ∙ (λ i. within_is within some i && not_not was timed i)
-timed_there l calls within again.Sent h starts timed some = cc
 
 -- so it has its timer in the book
 pub repeating_timed : (b : Book) (t : Inner) → Tied b t → HasRepeated t.again t.life → RepeatsAreTimed b

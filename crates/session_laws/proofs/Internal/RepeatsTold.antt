@@ -28,56 +28,32 @@ use Rattle.shared_session.specs.declared.core_state.Core.{Core}
 use Rattle.shared_session.specs.Turn.{timers_of}
 use Rattle.legal_trace.specs.Book.{Book, book, entered, message_of}
 use Rattle.legal_trace.specs.Ledger.{Ledger, Start, again_due, begins, is_of_again, is_of_renewal, is_of_setup, noted, repeats_timed}
-use Rattle.legal_trace.specs.Story.{Story}
-use Rattle.mux_conn.specs.declared.request.Request.{Request}
 use Rattle.legal_trace.specs.Legal.{MayRepeat, MayTimeRepeat, NoneEnds}
 use Rattle.session_laws.proofs.Ties.Ahead.{held_by}
 use Rattle.session_laws.proofs.Requests.Going.{applied_up, monitors_started, none_ends_kept, none_ends_mine, setups_started}
-use Rattle.session_laws.proofs.Ties.InLine.{kept_ids}
+use Rattle.conn_laws.proofs.Ties.InLine.{kept_ids}
 use Rattle.session_laws.proofs.Ties.Kept.{mine_noted, others_kept, tied_by}
-use Rattle.session_laws.proofs.Ties.Names.{owner_of_repeat}
-use Rattle.session_laws.proofs.Ties.Numbers.{IsIn, Rising, repeat_is_own, requests_behind, requests_in, requests_in-append}
-use Rattle.session_laws.proofs.Internal.Renewals.{begins_renewed, renewal_alike}
-use Rattle.session_laws.proofs.Internal.Renews.{one_link, tries_told, wanted_told}
-use Rattle.session_laws.proofs.Internal.Repeating.{HasRepeated, aims_repeated, due_here, repeats_timed as all_timed}
-use Rattle.session_laws.proofs.Internal.Repeats.{IsRepeatDue, repeat_sent, repeat_timed as timed_due, repeat_untimed, to_start_is}
-use Rattle.session_laws.proofs.Links.SetUp.{begun_open, set_up_begins, setups_begins}
+use Rattle.conn_laws.proofs.Ties.Names.{owner_of_repeat}
+use Rattle.conn_laws.proofs.Ties.Numbers.{IsIn, Rising, repeat_is_own, requests_behind, requests_in, requests_in-append}
+use Rattle.conn_laws.proofs.Internal.Renewals.{begins_renewed, renewal_alike}
+use Rattle.conn_laws.proofs.Internal.Renews.{one_link, tries_told, wanted_told}
+use Rattle.conn_laws.proofs.Internal.Repeating.{HasRepeated}
+use Rattle.session_laws.proofs.Internal.Repeating.{aims_repeated, due_here, repeats_timed as all_timed}
+use Rattle.conn_laws.proofs.Internal.Repeats.{IsRepeatDue, repeat_sent, repeat_timed as timed_due, repeat_untimed, to_start_is}
+use Rattle.conn_laws.proofs.Links.SetUp.{begun_open, set_up_begins, setups_begins}
 use Rattle.session_laws.proofs.Requests.Settle.{Holds, book_of_more, seen, sound_act, trace_of_acts}
-use Rattle.session_laws.proofs.Requests.Start.{not_setting, on_link}
-use Rattle.session_laws.proofs.Requests.Starts.{begins_ends_none}
-use Rattle.session_laws.proofs.Ties.States.{IsFit}
-use Rattle.session_laws.proofs.Ties.Tied.{Inner, IsEntry, Tied, TiedNumbers, TiedWaits, numbers_kept, owner_of, queue_ids}
-use Rattle.session_laws.proofs.Links.Took.{queue_waits}
+use Rattle.conn_laws.proofs.Requests.Start.{not_setting}
+use Rattle.session_laws.proofs.Requests.Start.{on_link}
+use Rattle.conn_laws.proofs.Requests.Starts.{begins_ends_none}
+use Rattle.conn_laws.proofs.Ties.States.{IsFit}
+use Rattle.conn_laws.proofs.Ties.Tied.{IsEntry, owner_of, queue_ids}
+use Rattle.session_laws.proofs.Ties.Tied.{Inner, Tied, TiedNumbers, numbers_kept}
+use Rattle.conn_laws.proofs.Links.Took.{queue_waits}
+use Rattle.conn_laws.proofs.Internal.RepeatsTold.{again_waits}
 
 -- the session on this link, with this to be subscribed again, whose timer was asked for or not
 abbrev pub due_on : Inner → LinkState → List ℕ → Shape → Bool → Inner
 due_on t link packed of_shape timed = record (on_link t link) { again = again.Due packed of_shape timed }
-
--- another stage of it, which isn't answered either, leaves the waits
-again_waits : (story : ℕ → Story) (requests : List Request) (a c : Again) (life : Life) (fresh moved : List ℕ) → is_outstanding c ≡ is_outstanding a → TiedWaits story requests a life fresh moved → TiedWaits story requests c life fresh moved
-again_waits story requests a c life fresh moved same h = record {
-  early = h.early;
-  backoff = h.backoff;
-  connect = h.connect;
-  creds = h.creds;
-  setup = h.setup;
-  resubscribe = λ p link w e goes. h.resubscribe p link w e (sym same ∙ goes);
-  permit = λ p link w e served. h.permit p link w e (sym same ∙ served);
-  place = h.place;
-  room = h.room;
-  newer = h.newer;
-  rising = h.rising;
-  no_backoff = h.no_backoff;
-  no_connect = h.no_connect;
-  no_creds = h.no_creds;
-  no_setup = h.no_setup;
-  no_resubscribe = λ p link i w e goes. h.no_resubscribe p link i w e (sym same ∙ goes);
-  unpermitted = λ p link w e goes. h.unpermitted p link w e (sym same ∙ goes);
-  no_permit = λ p link i w e served. h.no_permit p link i w e (sym same ∙ served);
-  no_place = h.no_place;
-  seatless = h.seatless;
-  no_room = h.no_room;
-}
 
 -- and the numbers: it is none of a server in monitor mode
 again_numbers : (b : Book) (t : Inner) (a : Again) → is_outstanding t.again ≡ true → TiedNumbers b t → TiedNumbers b (record t { again = a })

@@ -11,10 +11,12 @@ use Rattle.mux_conn.specs.Connection.{is_outstanding}
 use Rattle.mux_conn.specs.Effects.{numbers_of}
 use Rattle.mux_conn.specs.Requests.{is_waiting_at}
 use Rattle.legal_trace.specs.Book.{Book, has_generations}
-use Rattle.session_laws.proofs.Ties.InLine.{kept_ids}
-use Rattle.session_laws.proofs.Ties.Numbers.{IsIn, Rising, requests_in, rising_right}
-use Rattle.session_laws.proofs.Requests.Rounded.{rounds_new, unbegun_waits}
-use Rattle.session_laws.proofs.Ties.Tied.{Inner, Tied, TiedRounds, TiedWaits, link_in, queue_ids, waiting_ids}
+use Rattle.conn_laws.proofs.Ties.InLine.{kept_ids}
+use Rattle.conn_laws.proofs.Ties.Numbers.{IsIn, Rising, requests_in, rising_right}
+use Rattle.conn_laws.proofs.Requests.Rounded.{rounds_new}
+use Rattle.conn_laws.proofs.Changes.Requests.{unbegun_waits}
+use Rattle.conn_laws.proofs.Ties.Tied.{TiedRounds, TiedWaits, link_in, queue_ids, waiting_ids}
+use Rattle.session_laws.proofs.Ties.Tied.{Inner, Tied}
 use Rattle.session_laws.proofs.Requests.Waits.{waiting_there}
 
 -- the numbers of those that wait

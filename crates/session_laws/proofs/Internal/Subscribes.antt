@@ -1,6 +1,5 @@
 -- What is subscribed again on the next link of a session that comes back: the machine's message is the book's.
-use Rattle.std.proofs.Common.{◌≡◌, ◌≢◌, ℕ, ◌+◌, ◌<◌, ◌==◌, Bool, true, false, ◌&&◌, not, is_some, if◌then◌else◌, List, [], ◌∷◌, length, Option, Some, None, refl, sym, ap, ◌∙◌, subst, arith, codes}
-use Rattle.std.proofs.Math.Bool.{and-false}
+use Rattle.std.proofs.Common.{◌≡◌, ◌≢◌, ℕ, ◌+◌, ◌<◌, ◌==◌, Bool, true, false, ◌&&◌, not, if◌then◌else◌, List, [], ◌∷◌, length, Some, refl, sym, ap, subst, arith, codes}
 use Rattle.containers.proofs.Choices.{chosen, ne_from}
 use Rattle.connection_info.specs.declared.address.ConnectionInfo.{ConnectionInfo}
 use Rattle.manager_config.specs.declared.config.ConnectionManagerConfig.{ConnectionManagerConfig}
@@ -9,18 +8,15 @@ use Rattle.resp_write.specs.Pack.{pack_pipeline}
 use Rattle.sub_tracker.specs.Held.{Held, held_after}
 use Rattle.sub_tracker.specs.Pipeline.{command_for, followed_by, resubscription}
 use Rattle.sub_tracker.specs.Subscribed.{Request}
-use Rattle.driver_model.specs.declared.action.Owner.TheVariants as owner
 use Rattle.driver_model.specs.declared.outcome.Shape.{Shape}
 use Rattle.driver_model.specs.declared.outcome.Shape.TheVariants.{Single, Pipeline}
 use Rattle.driver_model.specs.Shape.{need_of, one_at_least, shape_inside}
-use Rattle.mux_conn.specs.declared.again.Again.{Again}
 use Rattle.mux_conn.specs.declared.again.Again.TheVariants as again
 use Rattle.shared_session.specs.declared.generations.Generations.{Generations}
 use Rattle.shared_session.specs.Generations.{repeat_for, generations_at}
 use Rattle.shared_session.specs.Subscriptions.{repeat_after, repeat_of}
-use Rattle.legal_trace.specs.Again.{again_message, is_subscribed, repeats_in}
-use Rattle.legal_trace.specs.Ledger.{Ledger, again_of}
-use Rattle.session_laws.proofs.Internal.Repeats.{IsHeld}
+use Rattle.legal_trace.specs.Again.{is_subscribed, repeats_in}
+use Rattle.conn_laws.proofs.Internal.Subscribes.{RepeatsNext}
 
 -- the message
 --
@@ -50,19 +46,6 @@ inside_needs n = chosen (λ (s : Shape). 0 < need_of s) (n == 1) Single (Pipelin
 
 -- on the next link
 --
--- where anything is subscribed after these calls it is this message, for which no timer was asked so far
-pub record IsNextRepeat (repeats : Bool) (calls : List Request) (packed : List ℕ) (of_shape : Shape) (timed : Bool) : Type 0 where
-  pub goes : repeats ≡ true
-  pub untimed : timed ≡ false
-  pub message : again_message calls ≡ record { owner = owner.Resub; shape = of_shape; bytes = packed }
-  pub some : packed ≢ []
-  pub needs : 0 < need_of of_shape
-
-abbrev pub RepeatsNext : Bool → List Request → Again → Type 0
-RepeatsNext repeats calls again.Nothing = repeats ≡ false
-RepeatsNext repeats calls (again.Due packed of_shape timed) = IsNextRepeat repeats calls packed of_shape timed
-RepeatsNext repeats calls again.Sent = ⊥
-
 -- by what is held after them
 held_next : (calls : List Request) → RepeatsNext (is_subscribed calls) calls (repeat_of (resubscription (held_after calls)))
 held_next calls =
@@ -87,17 +70,3 @@ nothing_first settings info number = by_kind settings.automatic_resubscription
     by_kind : (subscribes : Bool) → (if subscribes then repeat_after (generations_at settings info number).subscribed else again.Nothing) ≡ again.Nothing
     by_kind true = refl
     by_kind false = refl
-
--- on a link that was just asked for it is held until that is set up
-pub asked_repeat : (l : Ledger) (calls : List Request) (within : Option ℕ) (a : Again) → l.again.over ≡ false → l.again.timed ≡ false → again_of l ≡ None → RepeatsNext l.again.wanted calls a → IsHeld l calls within a
-asked_repeat l calls within again.Nothing in_time untimed none h = h
-asked_repeat l calls within (again.Due packed of_shape timed) in_time untimed none h = record {
-  wanted = h.goes;
-  in_time = in_time;
-  unstarted = none;
-  timed_is = untimed ∙ sym (ap (λ b. is_some within && b) h.untimed ∙ and-false (is_some within));
-  message = h.message;
-  some = h.some;
-  needs = h.needs;
-}
-asked_repeat l calls within again.Sent in_time untimed none h = absurd h

@@ -1,13 +1,11 @@
 -- The connection's link ends: it is closed, and all its requests are answered.
-use Rattle.std.proofs.Common.{Bool, true, ◌≡◌, ◌≢◌, inl, inr, ℕ, ◌-◌, ◌<◌, List, [], ◌∷◌, ◌++◌, length, Option, Some, None, refl, sym, ap, ◌∙◌, ◌⊎◌, not, ◌&&◌, if◌then◌else◌, subst, append_assoc, arith, false}
+use Rattle.std.proofs.Common.{Bool, true, ◌≡◌, ◌≢◌, inl, inr, ℕ, ◌-◌, List, [], ◌∷◌, ◌++◌, length, Option, Some, None, refl, sym, ap, ◌∙◌, ◌⊎◌, not, ◌&&◌, if◌then◌else◌, subst, arith, false}
 use Rattle.std.specs.List.{AllByRecursion}
 use Rattle.std.proofs.lemmas.List.{append-nil}
 use Rattle.redis_error.specs.declared.redis_error.RedisError.TheVariants as error
 use Rattle.redis_error.specs.declared.redis_error.RedisError.{RedisError}
 use Rattle.driver_model.specs.declared.action.Action.{Action}
 use Rattle.driver_model.specs.declared.action.Action.TheVariants as action
-use Rattle.driver_model.specs.declared.action.Owner.{Owner}
-use Rattle.driver_model.specs.Shape.{outcome_of}
 use Rattle.driver_model.specs.declared.outcome.Outcome.{Outcome}
 use Rattle.driver_model.specs.declared.outcome.Outcome.TheVariants as outcome
 use Rattle.link_core.specs.declared.message.Settled.{Settled}
@@ -18,49 +16,50 @@ use Rattle.mux_conn.specs.declared.act.LinkAct.TheVariants as act
 use Rattle.mux_conn.specs.declared.again.Again.TheVariants as again
 use Rattle.mux_conn.specs.declared.life.Life.{Life}
 use Rattle.mux_conn.specs.declared.life.Life.TheVariants.{Resting, Wanting, SettingUp, Ready, Ended}
-use Rattle.mux_conn.specs.declared.request.Request.{Request}
 use Rattle.mux_conn.specs.declared.request.Waiting.{Waiting}
-use Rattle.mux_conn.specs.Connection.{Work, acted, at_life, is_resting, is_outstanding}
+use Rattle.mux_conn.specs.Connection.{Work, is_resting, is_outstanding}
 use Rattle.mux_conn.specs.Requests.{is_open_at, name_at}
 use Rattle.mux_conn.specs.Effects.{waiting_failed, nobody_waits, failed_each, settled_each, ended, all_answered, cut_short, parted, noticed}
 use Rattle.shared_session.specs.declared.core_state.Core.{Core}
 use Rattle.shared_session.specs.Turn.{with_work}
-use Rattle.legal_trace.specs.Ledger.{Ledger, Ending, ends, noted, ending, ending_or_shutdown, failure_of, is_fault, is_cut, parts, by_shutdown, by_fault, by_opening, by_attempt, lasting}
-use Rattle.legal_trace.specs.Story.{Story}
+use Rattle.legal_trace.specs.Ledger.{Ledger, Ending, ends, noted, ending, failure_of, is_fault, is_cut, parts, by_fault, lasting}
 use Rattle.legal_trace.specs.Book.{Book, book, entered}
 use Rattle.legal_trace.specs.Owed.{owed, owed_by, owed_unstarted, owed_waiting}
 use Rattle.legal_trace.specs.Legal.{MayClose, MayPart}
-use Rattle.session_laws.proofs.Requests.Rounded.{rounds_down}
-use Rattle.session_laws.proofs.Ties.Numbers.{IsIn, in_left, in_right, Rising, rising_in, rising_within, rising_right, rising_tail, requests_in, requests_in-append, all_requests}
-use Rattle.session_laws.proofs.Links.Server.{hearing_there, on_link}
-use Rattle.session_laws.proofs.Ties.Tied.{TiedCreation, Inner, no_link, link_in, owner_of, queue_ids, waiting_ids, IsKept, TiedLines, TiedWaits, Tied, relined, FailureIsShown, IsOver, TiedLife, has_ended}
+use Rattle.conn_laws.proofs.Requests.Rounded.{rounds_down}
+use Rattle.conn_laws.proofs.Ties.Numbers.{IsIn, in_left, in_right, Rising, rising_in, rising_right, requests_in, requests_in-append, all_requests}
+use Rattle.conn_laws.proofs.Links.Server.{hearing_there, on_link}
+use Rattle.conn_laws.proofs.Ties.Tied.{TiedCreation, no_link, link_in, owner_of, queue_ids, waiting_ids, IsOver, TiedLife, has_ended}
+use Rattle.session_laws.proofs.Ties.Tied.{Inner, Tied, relined}
 use Rattle.session_laws.proofs.Links.Said.{ready_shown, sources_asked, ready_served}
-use Rattle.session_laws.proofs.Ties.States.{HasApplied, IsStopped}
-use Rattle.session_laws.proofs.Ties.InLine.{kept_ids, kept_in, line_of, IsInLine, awaited_rises, awaited_in}
-use Rattle.session_laws.proofs.Ties.Owes.{in_time, none_owed, in_line, later_unstarted, owed_none_started, settled_owed, notices_told, lives, is_asked, owed_asked}
+use Rattle.conn_laws.proofs.Ties.States.{IsStopped}
+use Rattle.session_laws.proofs.Ties.States.{HasApplied}
+use Rattle.conn_laws.proofs.Ties.InLine.{kept_ids, IsInLine, awaited_in}
+use Rattle.conn_laws.proofs.Ties.Owes.{lives, is_asked, owed_asked}
+use Rattle.session_laws.proofs.Ties.Owes.{in_time, none_owed, in_line, later_unstarted, owed_none_started, settled_owed, notices_told}
 use Rattle.session_laws.proofs.Ties.Kept.{mine_noted, others_kept, tied_by}
 use Rattle.session_laws.proofs.Requests.Answer.{after_end}
-use Rattle.session_laws.proofs.Managers.Comes.{ends_there, has_begun, has_links}
-use Rattle.session_laws.proofs.Ties.Aside.{aside_ends, others_created}
-use Rattle.session_laws.proofs.Requests.Settle.{book_of_more, seen, trace_of_acts, Holds, IsAnswering, answering, IsDue, IsDueError, settled_holds, failed_holds, Leaves, leaves_on, settled_leaves, failed_leaves, Parts, sound_told, replied_each, replied_keeps, renewal_over, own_each}
+use Rattle.conn_laws.proofs.Managers.Comes.{ends_there}
+use Rattle.session_laws.proofs.Managers.Comes.{has_begun, has_links}
+use Rattle.conn_laws.proofs.Ties.Aside.{aside_ends, others_created}
+use Rattle.conn_laws.proofs.Requests.Settle.{IsDue, IsDueError, settled_leaves, replied_each, replied_keeps, own_each}
+use Rattle.session_laws.proofs.Requests.Settle.{book_of_more, seen, trace_of_acts, Holds, IsAnswering, answering, settled_holds, failed_holds, Parts, sound_told, renewal_over}
 use Rattle.containers.proofs.Choices.{not_both, chosen}
 use Rattle.driver_model.specs.declared.push_info.PushInfo.{PushInfo}
 use Rattle.resp_value.specs.declared.push_kind.PushKind.TheVariants.{Disconnection}
-use Rattle.session_laws.proofs.Links.Told.{owed_told, push_tied}
+use Rattle.conn_laws.proofs.Links.Told.{owed_told}
+use Rattle.session_laws.proofs.Links.Told.{push_tied}
 use Rattle.driver_model.specs.declared.news.LinkFault.{LinkFault}
-use Rattle.session_laws.proofs.Ties.Names.{open_within, request_not}
-use Rattle.session_laws.proofs.Internal.Renewals.{renewal_ended}
+use Rattle.conn_laws.proofs.Ties.Names.{open_within}
+use Rattle.session_laws.proofs.Ties.Names.{request_not}
+use Rattle.conn_laws.proofs.Internal.Renewals.{renewal_ended}
 use Rattle.mux_conn.specs.Renewals.{renewing}
 use Rattle.driver_model.specs.Hearing.{hears_pushes}
 use Rattle.driver_model.specs.declared.hearing.Notice.TheVariants as notice
-use Rattle.session_laws.proofs.Links.Lost.{end_served}
-use Rattle.mux_conn.specs.declared.again.Again.{Again}
-use Rattle.session_laws.proofs.Internal.Own.{own_over}
-use Rattle.session_laws.proofs.Internal.Repeats.{TiedRepeat}
-
--- no error is none
-no_failure : (e : RedisError) → ◌≡◌ {A = Option RedisError} None (Some e) → ⊥
-no_failure e is = cc
+use Rattle.conn_laws.proofs.Links.Lost.{end_served}
+use Rattle.conn_laws.proofs.Internal.Own.{own_over}
+use Rattle.conn_laws.proofs.Internal.Repeats.{TiedRepeat}
+use Rattle.conn_laws.proofs.Links.Close.{AreDue, AreInTime, IsClosedOf, SettlesAll, all_kept, close_in_line, close_lines, ended_waits, ends_failed, ends_owed, ends_so, no_failure, unfailed_lasts, waiting_in_line, waiting_leaves, waiting_lines}
 
 -- the link is closed
 --
@@ -75,69 +74,6 @@ may_close b t why h none told n must = record {
   sourced = sources_asked b t h;
   pushed = notices_told b t h told;
 }
-
--- the wanted messages of the row and the queue are to be answered
-close_lines : (story : ℕ → Story) (requests : List Request) (link : LinkState) (waiting admitted : List Waiting) (pending started : List ℕ) → pending ≡ requests_in (wanted link.row) ++ awaited_ids link.queue → TiedLines story requests link waiting admitted [] started
-    → TiedLines story requests no_link waiting admitted pending started
-close_lines story requests link waiting admitted pending started ids h =
-    let kept = kept_ids admitted waiting in
-    record {
-      line = rising_tail 0 (requests_in started) (queue_ids link.queue ++ kept) kept (length requests) (λ low r. rising_right low (queue_ids link.queue) kept (length requests) r) h.line;
-      queued = tt;
-      entries = tt;
-      packs = h.packs;
-      packed_in = h.packed_in;
-      there = λ p e. elim (h.there p e) [
-        | inl i ↦ inl (in_left p pending [] (subst (IsIn p) (sym ids) i))
-        | inr w ↦ inr w
-      ];
-    }
-
--- the waits, on a link without messages that is not dialing
-pub ended_waits : (story : ℕ → Story) (requests : List Request) (a : Again) (life : Life) (e : RedisError) (fresh moved : List ℕ) → TiedWaits story requests a life fresh moved → TiedWaits story requests a (Ended e) fresh moved
-ended_waits story requests a life e fresh moved h = record {
-  early = h.early;
-  backoff = λ p w d. cc;
-  connect = λ p w d. cc;
-  creds = λ p link w s. cc;
-  setup = λ p link greeting w s. cc;
-  resubscribe = λ p link w r goes. cc;
-  permit = λ p link w r none. cc;
-  place = h.place;
-  room = λ p i. absurd i;
-  newer = h.newer;
-  rising = h.rising;
-  no_backoff = λ p i w d. cc;
-  no_connect = λ p i w d. cc;
-  no_creds = λ p link i w s. cc;
-  no_setup = λ p link greeting i w s. cc;
-  no_resubscribe = λ p link i w r goes. cc;
-  unpermitted = λ p link w r goes. cc;
-  no_permit = λ p link i w r none. cc;
-  no_place = h.no_place;
-  seatless = h.seatless;
-  no_room = λ p i r. absurd r;
-}
-
--- where its opening has not failed, it doesn't matter whether another attempt follows
-unfailed_lasts : (last : Bool) (why : Ending) (o : Outcome) → failure_of why ≡ None → owed_by why ≡ Some o → lasting last why ≡ why
-unfailed_lasts true why o failed owes = refl
-unfailed_lasts false by_shutdown o failed owes = refl
-unfailed_lasts false (by_fault f) o failed owes = refl
-unfailed_lasts false (by_opening e) o failed owes = absurd (no_failure e (sym failed))
-unfailed_lasts false (by_attempt e) o failed owes = cc
-
--- so it ends so
-pub ends_so : (l : Ledger) (why : Ending) → lasting l.last why ≡ why → ending l ≡ Some why → lasting l.last (ending_or_shutdown (ending l)) ≡ why
-ends_so l why lasts must = ap (λ x. lasting l.last (ending_or_shutdown x)) must ∙ lasts
-
--- what a submission without a message is owed then
-ends_owed : (l : Ledger) (turn : ℕ) (why : Ending) (e : RedisError) → lasting l.last why ≡ why → ending l ≡ Some why → owed_by why ≡ Some (outcome.Fault e) → owed_unstarted (noted l (ends turn)).end ≡ Some (outcome.Fault e)
-ends_owed l turn why e last must is = ap owed_by (ends_so l why last must) ∙ is
-
--- and what its failure is
-ends_failed : (l : Ledger) (turn created : ℕ) (why : Ending) → lasting l.last why ≡ why → ending l ≡ Some why → ((e : RedisError) → failure_of why ≡ Some e → created ≢ 0) → FailureIsShown (noted l (ends turn)).end created
-ends_failed l turn created why last must shown e fails = shown e (sym (ap failure_of (ends_so l why last must)) ∙ fails)
 
 -- the session is tied to the book with the end of the link; the creation may be shown with it
 pub close_tied : (b : Book) (t : Inner) (created : ℕ) (halted told : Bool) (why : Ending) (e : RedisError) (parting : Bool) (pending : List ℕ) → pending ≡ requests_in (wanted (link_in t.life).row) ++ awaited_ids (link_in t.life).queue → ending (b.link t.link) ≡ Some why → owed_by why ≡ Some (outcome.Fault e)
@@ -182,22 +118,8 @@ close_tied b t created halted told why e parting pending ids must is shown mild 
       late = λ p o late. absurd (h.late p o late);
     })
 
--- they are in line
-close_in_line : (requests : List Request) (link : LinkState) (admitted waiting : List Waiting) (pending : List ℕ) → pending ≡ requests_in (wanted link.row) ++ awaited_ids link.queue → IsInLine requests link admitted waiting []
-    → IsInLine requests no_link admitted waiting pending
-close_in_line requests link admitted waiting pending ids r =
-    let rows = requests_in (wanted link.row) in
-    let last = kept_ids admitted waiting in
-    subst (λ ns. Rising 0 (ns ++ last) (length requests)) (sym ids)
-    (subst (λ ns. Rising 0 ns (length requests)) (sym (append_assoc rows (awaited_ids link.queue) last))
-    (rising_tail 0 rows (queue_ids link.queue ++ last) (awaited_ids link.queue ++ last) (length requests) (λ low s. awaited_rises low link.queue last (length requests) s) r))
-
 -- what is due then
 --
--- who is open is in time
-abbrev pub AreInTime : (ℕ → Story) → List Request → Type 0
-AreInTime story requests = (p : ℕ) → is_open_at requests p ≡ true → (story (name_at requests p)).overdue ≡ false
-
 -- so it is where nothing is to be answered
 pub are_in_time : (b : Book) (t : Inner) → Tied b t → t.pending ≡ [] → AreInTime b.story t.requests
 are_in_time b t h none p o = in_time b t p h o (λ i. subst (IsIn p) none i)
@@ -206,10 +128,6 @@ are_in_time b t h none p o = in_time b t p h o (λ i. subst (IsIn p) none i)
 due_each : (b : Book) (t : Inner) (ss : List Settled) → Tied b t → AreInTime b.story t.requests → AllByRecursion (IsOwed (owner_of t.requests) (b.link t.link)) ss → AllByRecursion (IsDue (owed b) (name_at t.requests) (is_open_at t.requests)) ss
 due_each b t [] h early all = tt
 due_each b t (s ∷ ss) h early all = ((λ o. settled_owed b t s h (open_within t.requests s.id o) (early s.id o) all.0), due_each b t ss h early all.1)
-
--- who is to be answered, and in line, is within
-pub pending_within : (requests : List Request) (link : LinkState) (admitted waiting : List Waiting) (ns : List ℕ) (n : ℕ) → IsInLine requests link admitted waiting ns → IsIn n ns → n < length requests
-pending_within requests link admitted waiting ns n r i = let k = rising_in 0 (ns ++ line_of link admitted waiting) (length requests) n r (in_left n ns (line_of link admitted waiting) i) in k.1
 
 -- so each of them is due what it came to
 pub pending_due : (b : Book) (t : Inner) (ss : List Settled) → Tied b t → AreInTime b.story t.requests → AllByRecursion (IsOwed (owner_of t.requests) (b.link t.link)) ss → AllByRecursion (IsDue (owed b) (name_at t.requests) (is_open_at t.requests)) ss
@@ -227,11 +145,6 @@ waiting_due b t e (q ∷ qs) h early over all = (
 kept_unstarted : (b : Book) (t : Inner) (n : ℕ) → Tied b t → IsIn n (kept_ids t.admitted t.waiting) → IsIn n t.started → ⊥
 kept_unstarted b t n h i = later_unstarted b t n h (in_right n (queue_ids (link_in t.life).queue) (kept_ids t.admitted t.waiting) i)
 
--- all that wait for a place are due it, and all that wait for the connection
-pub record AreDue (owes : ℕ → Option Outcome) (name : ℕ → ℕ) (was : ℕ → Bool) (e : RedisError) (admitted waiting : List Waiting) : Type 0 where
-  pub place : AllByRecursion (IsDueError owes name was e) admitted
-  pub connection : AllByRecursion (IsDueError owes name was e) waiting
-
 -- so they are
 pub all_waiting_due : (b : Book) (t : Inner) (e : RedisError) → Tied b t → AreInTime b.story t.requests → owed_waiting b.shut (b.link t.link) ≡ Some (outcome.Fault e)
     → AreDue (owed b) (name_at t.requests) (is_open_at t.requests) e t.admitted t.waiting
@@ -242,46 +155,10 @@ all_waiting_due b t e h early over = record {
 
 -- those that wait are to be answered
 --
--- who they are, in order
-abbrev all_kept : List Waiting → List Waiting → List ℕ
-all_kept admitted waiting = waiting_ids admitted ++ (waiting_ids waiting ++ [])
-
--- these are those that have no place
-all_kept_is : (admitted waiting : List Waiting) → all_kept admitted waiting ≡ kept_ids admitted waiting
-all_kept_is admitted waiting = ap (λ ns. waiting_ids admitted ++ ns) (append-nil (waiting_ids waiting))
-
--- each that is kept is one of them
-kept_pending : (requests : List Request) (waiting admitted : List Waiting) (p : ℕ) → IsKept requests waiting admitted p → IsIn p (all_kept admitted waiting)
-kept_pending requests waiting admitted p w = subst (IsIn p) (sym (all_kept_is admitted waiting)) (kept_in requests waiting admitted p w)
-
--- the lines of those
-waiting_lines : (story : ℕ → Story) (requests : List Request) (link : LinkState) (waiting admitted : List Waiting) (started : List ℕ) → TiedLines story requests link waiting admitted [] started → TiedLines story requests link [] [] (all_kept admitted waiting) started
-waiting_lines story requests link waiting admitted started h =
-    let kept = kept_ids admitted waiting in
-    record {
-      line = rising_tail 0 (requests_in started) (queue_ids link.queue ++ kept) (queue_ids link.queue ++ []) (length requests)
-          (λ low r. rising_tail low (queue_ids link.queue) kept [] (length requests) (λ least s. rising_within least kept (length requests) s) r) h.line;
-      queued = h.queued;
-      entries = h.entries;
-      packs = tt;
-      packed_in = tt;
-      there = λ p e. elim (h.there p e) [
-        | inl i ↦ inl (in_right p (all_kept admitted waiting) (requests_in (wanted link.row) ++ awaited_ids link.queue) i)
-        | inr w ↦ inl (in_left p (all_kept admitted waiting) (requests_in (wanted link.row) ++ awaited_ids link.queue) (kept_pending requests waiting admitted p w))
-      ];
-    }
-
 -- the session is tied with them to be answered
 waiting_tied : (b : Book) (t : Inner) → Tied b (record t { pending = [] }) → Tied b (record t { waiting = []; admitted = []; pending = all_kept t.admitted t.waiting })
 waiting_tied b t h =
     relined b (record t { pending = [] }) [] [] t.fresh t.moved (all_kept t.admitted t.waiting) h (waiting_lines b.story t.requests (link_in t.life) t.waiting t.admitted t.started h.lines) h.waits h.rounds (λ p o late. absurd (h.late p o late))
-
--- and they are in line
-waiting_in_line : (requests : List Request) (life : Life) (admitted waiting : List Waiting) → link_in life ≡ no_link → IsInLine requests (link_in life) admitted waiting [] → IsInLine requests (link_in life) [] [] (all_kept admitted waiting)
-waiting_in_line requests life admitted waiting bare r =
-    let last = all_kept admitted waiting in
-    subst (λ (x : LinkState). IsInLine requests x [] [] last) (sym bare)
-    (subst (λ ns. Rising 0 ns (length requests)) (sym (append-nil last ∙ all_kept_is admitted waiting)) (subst (λ (x : LinkState). IsInLine requests x admitted waiting []) bare r))
 
 -- all that wait are answered
 waiting_failed_holds : (before : List Action) (f : Core) (ledger : Ledger) (owes : ℕ → Option Outcome) (name : ℕ → ℕ) (was : ℕ → Bool) (w : Work) (e : RedisError) (started : List ℕ) → link_in w.conn.life ≡ no_link → AreDue owes name was e w.conn.admitted w.conn.waiting
@@ -299,13 +176,6 @@ waiting_failed_holds before f ledger owes name was w e started bare due quiet h 
       named = h.named;
       opens = h.opens;
     }))
-
--- what that leaves
-pub waiting_leaves : (w : Work) (e : RedisError) → Leaves (nobody_waits w) (waiting_failed w e)
-waiting_leaves w e =
-    let rest = nobody_waits w in
-    let first = failed_each rest e w.conn.admitted in
-    leaves_on rest first (failed_each first e w.conn.waiting) (failed_leaves rest e w.conn.admitted) (failed_leaves first e w.conn.waiting)
 
 -- the end
 --
@@ -354,17 +224,6 @@ waiting_shut before f w started h rests shut =
     let none = (subst (λ (x : Life). TiedLife l b.created x) rests h.tied.life).0 in
     let nothing : w.conn.again ≡ again.Nothing = subst (TiedRepeat l b.tracked w.conn.renewal.within w.conn.again) rests h.tied.repeat in
     kept_end before f w Resting error.Closed started h rests refl (λ up goes. not_both (is_outstanding w.conn.again) (ap is_outstanding nothing) goes) (λ i. if (h.tied.numbers.shut ∙ shut) i && not (none i) then Some (outcome.Fault error.Closed) else owed_unstarted l.end)
-
--- a settled message is one of these that wait, and gets the closed connection
-abbrev pub IsClosedOf : List ℕ → Settled → Type 0
-IsClosedOf ids s = (outcome_of s.verdict ≡ outcome.Fault error.Closed) × IsIn s.id ids
-
--- what a link settles when it ends: what started is owed what it comes to, and what waits in the queue gets the closed
--- connection
-pub record SettlesAll (name : ℕ → Owner) (l : Ledger) (link : LinkState) (row queue : List Settled) : Type 0 where
-  pub started : AllByRecursion (IsOwed name l) row
-  pub waits : AllByRecursion (IsClosedOf (queue_ids link.queue)) queue
-  pub ids : settled_ids (row ++ queue) ≡ wanted link.row ++ awaited_ids link.queue
 
 -- the messages of the queue are due the error of the end
 queue_due : (b : Book) (t : Inner) (ids : List ℕ) (ss : List Settled) → Tied b t → AreInTime b.story t.requests → owed_waiting b.shut (b.link t.link) ≡ Some (outcome.Fault error.Closed) → ((n : ℕ) → IsIn n ids → IsIn n t.started → ⊥) → AllByRecursion (IsClosedOf ids) ss
@@ -510,10 +369,6 @@ parted_holds before f w ids row queue started hears cut h =
       unstarted = h.unstarted;
     }
 
--- answers leave those that were moved in this turn
-answered_moved : (w : Work) (out : List Settled) → (all_answered w out).conn.moved ≡ w.conn.moved
-answered_moved w out = (waiting_leaves (settled_each w out) error.Closed).moved ∙ (settled_leaves w out).moved
-
 -- and one that a fault ends, which is told where somebody hears it
 pub faulted_holds : (before : List Action) (f : Core) (w : Work) (row queue : List Settled) (fault : LinkFault) (started : List ℕ) → Holds before f w [] started → has_ended w.conn.life ≡ false → w.conn.opened ≡ true
     → (let b = book (trace_of_acts before f w.acts) in let l = b.link f.single.link in
@@ -531,20 +386,6 @@ faulted_holds before f w row queue fault started h alive opened must =
     all_ends before f (noticed v (notice.Push (record { kind = Disconnection; parts = [] }))) ids row queue started
     (parted_holds before f v ids row queue started t cut (cut_holds before f w row queue (by_fault fault) true started h alive refl refl (inl opened) (λ heard done. cc) must)))
     (λ n. all_ends before f v ids row queue started (cut_holds before f w row queue (by_fault fault) false started h alive refl refl (inl opened) (λ heard done. absurd (not_both (hears_pushes w.conn.hears) n heard)) must))
-
--- those that were moved in this turn stay
-pub ended_moved : (w : Work) (out : List Settled) → (ended w out).conn.moved ≡ w.conn.moved
-ended_moved w out =
-    let v = acted (at_life w (Ended error.Closed)) act.Close in
-    answered_moved v out
-
--- nor do they where the end is told
-pub parted_moved : (w : Work) (out : List Settled) → (all_answered (parted (cut_short w)) out).conn.moved ≡ w.conn.moved
-parted_moved w out =
-    let v = cut_short w in
-    chosen (λ (x : Work). (all_answered x out).conn.moved ≡ w.conn.moved) (hears_pushes v.conn.hears) (noticed v (notice.Push (record { kind = Disconnection; parts = [] }))) v
-    (λ t. answered_moved (noticed v (notice.Push (record { kind = Disconnection; parts = [] }))) out)
-    (λ t. answered_moved v out)
 
 -- so the event has had its effect
 pub ended_applied : (before : List Action) (f : Core) (w : Work) (e : RedisError) (started : List ℕ) → f.turns ≢ 0 → w.conn.moved ≡ [] → HasEnded before f w e started → HasApplied before (with_work (record { core = f; acts = [] }) w) started

@@ -4,7 +4,6 @@ use Rattle.std.proofs.Common.{inl, inr, length, ◌==◌, ◌≡◌, ℕ, ◌+�
 use Rattle.containers.proofs.Choices.{chosen, left_if, not_both, taken_if}
 use Rattle.driver_model.specs.declared.action.Action.{Action}
 use Rattle.driver_model.specs.declared.action.Action.TheVariants as action
-use Rattle.driver_model.specs.declared.action.Owner.{Owner}
 use Rattle.driver_model.specs.declared.action.SourceUse.TheVariants as source
 use Rattle.driver_model.specs.declared.action.WaitKind.{WaitKind}
 use Rattle.driver_model.specs.declared.action.WaitKind.TheVariants as wait
@@ -16,66 +15,54 @@ use Rattle.driver_model.specs.Setup.{says_nothing}
 use Rattle.link_core.specs.declared.message.Queued.{Queued}
 use Rattle.link_core.specs.declared.message.Entry.{Entry}
 use Rattle.link_core.specs.Link.{LinkState, enqueued}
-use Rattle.link_laws.proofs.TiedLink.{TiedLink, enqueued_tied, said_tied}
+use Rattle.link_laws.proofs.TiedLink.{enqueued_tied, said_tied}
 use Rattle.link_laws.specs.Settles.{wanted, awaited_ids}
 use Rattle.mux_conn.specs.declared.act.LinkAct.TheVariants as act
 use Rattle.mux_conn.specs.declared.life.Life.{Life}
 use Rattle.mux_conn.specs.declared.life.Life.TheVariants.{Resting, Dialing, Wanting, SettingUp, Ready, Ended}
 use Rattle.mux_conn.specs.Requests.{is_waiting_at}
-use Rattle.mux_conn.specs.Effects.{all_fresh, come_up, creation_told, made_ready, sets_up, setup_queued, steps_of, numbers_of, greeted, setup_id}
+use Rattle.mux_conn.specs.Effects.{all_fresh, come_up, made_ready, sets_up, setup_queued, steps_of, numbers_of, greeted, setup_id}
 use Rattle.mux_conn.specs.Turn.{early_wait}
 use Rattle.mux_conn.specs.Connection.{Work, is_ready, acted, opened_on, is_resting}
 use Rattle.mux_conn.specs.Renewals.{source_asked}
 use Rattle.mux_conn.specs.declared.connection.MultiplexedConnection.{MultiplexedConnection}
-use Rattle.mux_conn.specs.declared.request.Request.{Request}
-use Rattle.mux_conn.specs.declared.request.Waiting.{Waiting}
 use Rattle.shared_session.specs.declared.core_state.Core.{Core}
 use Rattle.shared_session.specs.Turn.{with_work, is_bad}
-use Rattle.legal_trace.specs.Ledger.{Ledger, Heard, ending, ending_unready, ending_up, is_ready as is_ready_link, lacks_credentials, setup_after, setup_count, setup_steps, Sourced, noted, noted_each, sources, source_due, Start}
+use Rattle.legal_trace.specs.Ledger.{Ledger, Heard, ending, ending_unready, ending_up, is_ready as is_ready_link, lacks_credentials, setup_after, setup_count, setup_steps, noted, noted_each, sources, source_due}
 use Rattle.legal_trace.specs.Book.{Book, blank_book, book, entered, use_for, if_mine, hearing_in, has_generations}
-use Rattle.legal_trace.specs.Story.{Story}
 use Rattle.legal_trace.specs.Legal.{AllStand, MayBeCreated, MayNeed}
 use Rattle.legal_trace.proofs.Setups.{ends_where_set, silent_is_set, silent_is_greeted}
 use Rattle.session_laws.proofs.Internal.Served.{fresh_rises, numbers_is}
-use Rattle.session_laws.proofs.Requests.Rounded.{rounds_down, rounds_new, unbegun_waits, early_on}
-use Rattle.session_laws.proofs.Links.Server.{AreSetups, HasCredentials, IsSettingUp, IsSetupDue, IsSetUp, AreSought, HasSaid, AreSetupsAlone, IsWatching, greeting_at, owners_of, setup_owners, watch_queued}
-use Rattle.session_laws.proofs.Ties.Tied.{shown_creation, Sound, TiedCreation, AreQueued, IsEntry, IsQueued, Inner, Tied, TiedLines, TiedNotices, TiedWaits, has_ended, inner, link_in, no_link, owner_of, queue_ids, shown_wait, waiting_ids, AreUses, is_reading, TiedRounds, is_begun}
-use Rattle.session_laws.proofs.Ties.States.{Between, HasApplied, IsFit, IsFitIn}
-use Rattle.session_laws.proofs.Links.Creds.{has_credentials, IsOfRenewals, down_sourced}
-use Rattle.session_laws.proofs.Links.Said.{PushesOf, ending_setting, readied, setup_recredited, well_readied}
+use Rattle.conn_laws.proofs.Requests.Rounded.{rounds_down, rounds_new, early_on}
+use Rattle.conn_laws.proofs.Changes.Requests.{unbegun_waits, waiting_open}
+use Rattle.conn_laws.proofs.Links.Server.{AreSetups, HasCredentials, IsSettingUp, IsSetupDue, IsSetUp, IsWatching, greeting_at, watch_queued}
+use Rattle.conn_laws.proofs.Ties.Tied.{shown_creation, TiedCreation, AreQueued, TiedLines, TiedNotices, TiedWaits, has_ended, link_in, no_link, owner_of, queue_ids, shown_wait, waiting_ids, AreUses, is_reading, TiedRounds}
+use Rattle.session_laws.proofs.Ties.Tied.{Sound, Inner, Tied, inner, is_begun}
+use Rattle.conn_laws.proofs.Ties.States.{IsFit, IsFitIn}
+use Rattle.session_laws.proofs.Ties.States.{Between, HasApplied}
+use Rattle.conn_laws.proofs.Links.Creds.{has_credentials, IsOfRenewals, down_sourced}
+use Rattle.conn_laws.proofs.Links.Said.{PushesOf, ending_setting, readied, setup_recredited, well_readied}
 use Rattle.session_laws.proofs.Ties.Entered.{all_stand-append, book_more, sound_more, book-append}
 use Rattle.session_laws.proofs.Requests.Settle.{Tells, seen, trace_of_acts}
-use Rattle.session_laws.proofs.Ties.InLine.{kept_ids}
-use Rattle.session_laws.proofs.Ties.Numbers.{IsIn, Rising, requests_in}
-use Rattle.session_laws.proofs.Turn.Announce.{IsNewsKind, comes_as, heard_book, heard_is, heard_starts, heard_tied, may_turn, turn_of, turned, ComesTo, heard_tied_by, others_heard, renews_hear, uses_asked, uses_more, protocol_still, heard_hearing, asked_hear}
-use Rattle.session_laws.proofs.Turn.Heard.{book_kind, book_news, fresh_applied, heard_by, none_ends, none_hears, hushed_there, going_awake}
-use Rattle.session_laws.proofs.Ties.Ahead.{waiting_open}
-use Rattle.session_laws.proofs.Internal.Renewals.{early_renewal, renewed_first}
+use Rattle.conn_laws.proofs.Ties.Numbers.{IsIn, requests_in}
+use Rattle.conn_laws.proofs.Turn.Announce.{heard_starts, renews_hear, heard_hearing, asked_hear}
+use Rattle.session_laws.proofs.Turn.Announce.{IsNewsKind, comes_as, heard_book, heard_is, heard_tied, may_turn, turn_of, turned, ComesTo, heard_tied_by, others_heard, uses_asked, uses_more, protocol_still}
+use Rattle.conn_laws.proofs.Turn.Heard.{none_hears}
+use Rattle.session_laws.proofs.Turn.Heard.{book_kind, book_news, fresh_applied, heard_by, none_ends, hushed_there, going_awake}
+use Rattle.conn_laws.proofs.Internal.Renewals.{early_renewal, renewed_first}
 use Rattle.session_laws.proofs.Ties.Kept.{mine_noted, others_kept, replaced}
 use Rattle.std.proofs.lemmas.List.{append-nil, nil_from_length}
 use Rattle.session_laws.proofs.Links.Failing.{unstarted_owed}
 use Rattle.mux_conn.specs.declared.life.Greeting.TheVariants as greet
-use Rattle.mux_conn.specs.declared.life.Greeting.{Greeting}
 use Rattle.driver_model.specs.Hearing.{is_watching}
 use Rattle.session_laws.proofs.Managers.Comes.{tied_live, tied_unopened}
-use Rattle.session_laws.proofs.Internal.Serving.{unready_serves}
-use Rattle.mux_conn.specs.declared.again.Again.{Again}
+use Rattle.conn_laws.proofs.Internal.Serving.{unready_serves}
 use Rattle.session_laws.proofs.Internal.Held.{held_hears}
-use Rattle.session_laws.proofs.Internal.Repeats.{held_alike, held_ready}
+use Rattle.conn_laws.proofs.Internal.Repeats.{held_alike, held_ready}
+use Rattle.conn_laws.proofs.Links.ComeUp.{IsEarly, IsMade, IsUpNow, bare_alone, bare_lines, early_sources, early_started, made_conn, none_wait, not_resubscribing, says_same}
 
 -- the waits
 --
--- a link without messages has the lines of one that isn't up
-bare_lines : (story : ℕ → Story) (requests : List Request) (link : LinkState) (waiting admitted : List Waiting) (started : List ℕ) → link.queue ≡ [] → link.row ≡ [] → TiedLines story requests no_link waiting admitted [] started → TiedLines story requests link waiting admitted [] started
-bare_lines story requests link waiting admitted started queue row h = record {
-  line = subst (λ (qs : List Queued). Rising 0 (requests_in started ++ (queue_ids qs ++ kept_ids admitted waiting)) (length requests)) (sym queue) h.line;
-  queued = subst (AllByRecursion (IsQueued story requests)) (sym queue) tt;
-  entries = subst (AllByRecursion (IsEntry requests)) (sym row) tt;
-  packs = h.packs;
-  packed_in = h.packed_in;
-  there = λ p e. elim (h.there p e) [ inl i ↦ absurd i | inr k ↦ inr k ];
-}
-
 -- who waits for the connection is one of them
 bare_waits : (b : Book) (t : Inner) (p : ℕ) → Tied b t → t.pending ≡ [] → t.admitted ≡ [] → link_in t.life ≡ no_link → is_waiting_at t.requests p ≡ true → IsIn p (waiting_ids t.waiting)
 bare_waits b t p h none nobody e w =
@@ -101,15 +88,6 @@ shown_early b t p (Ended x) h none e f g w = cc
 -- one wait is no other
 same_kind : (a b : WaitKind) → ◌≡◌ {A = Option WaitKind} (Some a) (Some b) → a ≡ b
 same_kind a b e = cc
-
--- by a life alone nobody waits for what is subscribed again
-not_resubscribing : (life : Life) → early_wait life ≢ wait.Resubscribe
-not_resubscribing Resting same = cc
-not_resubscribing Dialing same = cc
-not_resubscribing (Wanting link) same = cc
-not_resubscribing (SettingUp link greeting) same = cc
-not_resubscribing (Ready link) same = cc
-not_resubscribing (Ended e) same = cc
 
 -- the waits in a life in which something else is waited for, where all that waited are to show theirs anew
 pub fresh_waits : (b : Book) (t : Inner) (life after : Life) → Tied b t → t.pending ≡ [] → t.admitted ≡ [] → t.fresh ≡ [] → t.life ≡ life → link_in life ≡ no_link → is_ready life ≡ false → has_ended life ≡ false → early_wait life ≢ early_wait after → is_resting after ≡ false
@@ -146,46 +124,10 @@ fresh_waits b t life after h none nobody no_fresh e bare f g other goes queue = 
 
 -- a link is ready
 --
--- it is up and set up, and has no messages
-pub record IsMade (l : Ledger) (created : ℕ) (requests : List Request) (link : LinkState) : Type 0 where
-  pub asked : l.asked ≡ true
-  pub up : l.up ≡ true
-  pub alive : l.end ≡ None
-  pub said : IsSetUp l
-  pub tied : TiedLink (owner_of requests) l link
-  pub queue : link.queue ≡ []
-  pub row : link.row ≡ []
-
 -- which is shown
 pub record IsShownReady (front : List Action) (f : Core) (w : Work) (l : Ledger) (untold : List Heard) (started : List ℕ) : Type 0 where
   pub holds : Tells front f w untold [] started
   pub ledger : (book (trace_of_acts front f w.acts)).link f.single.link ≡ l
-
--- the life of a connection that has a link, which isn't ready, and has not ended
-pub record IsEarly (life : Life) (after : WaitKind) : Type 0 where
-  pub bare : link_in life ≡ no_link
-  pub unready : is_ready life ≡ false
-  pub alive : has_ended life ≡ false
-  pub there : is_resting life ≡ false
-  pub other : early_wait life ≢ after
-
--- no message has started there
-early_started : (l : Ledger) (started : List ℕ) (life : Life) → is_ready life ≡ false → has_ended life ≡ false → HasSaid l started life → started ≡ []
-early_started l started Resting unready alive h = h.1
-early_started l started Dialing unready alive h = h.1
-early_started l started (Wanting link) unready alive h = h.1
-early_started l started (SettingUp link greeting) unready alive h = h.0
-early_started l started (Ready link) unready alive h = cc
-early_started l started (Ended e) unready alive h = cc
-
--- nor was a second source asked for
-pub early_sources : (c : Sourced) (life : Life) → is_ready life ≡ false → has_ended life ≡ false → AreSought c life → c.renews ≡ false
-early_sources c Resting unready alive h = h.2
-early_sources c Dialing unready alive h = h.2
-early_sources c (Wanting link) unready alive h = h.3
-early_sources c (SettingUp link greeting) unready alive h = h.1
-early_sources c (Ready link) unready alive h = cc
-early_sources c (Ended e) unready alive h = cc
 
 -- what is known of a link that becomes ready, which wasn't before, and to whose server this is said
 pub record IsReadied (b : Book) (c : Core) (l : Ledger) (info : RedisConnectionInfo) (link : LinkState) (untold : List Heard) : Type 0 where
@@ -435,27 +377,6 @@ makes_ready before c started word kind n info link untold h good k is other earl
     by_told true told = again told c.single.connection.renewal.wanted refl
     by_told false untold_yet = by_wanted (h0.creation.before untold_yet) c.single.connection.renewal.wanted refl
 
--- what a link that becomes ready leaves of a connection, whether a source is asked for or not
-abbrev pub made_of : MultiplexedConnection → LinkState → MultiplexedConnection
-made_of c link = record c { fresh = numbers_of c.waiting; life = Ready link; opened = true; told = true }
-
--- what a source that is asked for leaves
-pub made_conn : (w : Work) (link : LinkState) → (made_ready w link).conn ≡ made_of w.conn link
-made_conn w link =
-    let v = creation_told (opened_on (all_fresh w) link) None in
-    chosen (λ (x : Work). x.conn ≡ made_of w.conn link) w.conn.renewal.wanted (acted v act.NeedRenewals) v (λ t. refl) (λ f. refl)
-
--- but for what it shows
-pub made_is : (w : Work) (link : LinkState) → made_ready w link ≡ record { conn = made_of w.conn link; acts = (made_ready w link).acts }
-made_is w link = by_wanted w.conn.renewal.wanted
-  where
-    v : Work
-    v = creation_told (opened_on (all_fresh w) link) None
-
-    by_wanted : (b : Bool) → (if b then acted v act.NeedRenewals else v) ≡ record { conn = made_of w.conn link; acts = (if b then acted v act.NeedRenewals else v).acts }
-    by_wanted true = refl
-    by_wanted false = refl
-
 -- so the event has had its effect, where the link need not end
 pub ready_applied : (front : List Action) (f : Core) (conn : MultiplexedConnection) (link : LinkState) (l : Ledger) (started : List ℕ) → f.turns ≢ 0 → f.shut ≡ false → conn.admitted ≡ [] → conn.moved ≡ [] → IsFit conn.size conn.boundary link → ending l ≡ None
     → IsShownReady front f (made_ready (record { conn = conn; acts = [] }) link) l [] started → HasApplied front (with_work (record { core = f; acts = [] }) (made_ready (record { conn = conn; acts = [] }) link)) started
@@ -479,21 +400,6 @@ ready_applied front f conn link l started began awake nobody none_moved fit none
 
 -- a link is up
 --
--- that has no messages, and whose server is told this
-pub record IsUpNow (l : Ledger) (created : ℕ) (c : MultiplexedConnection) (info : RedisConnectionInfo) (started : List ℕ) (link : LinkState) : Type 0 where
-  pub asked : l.asked ≡ true
-  pub up : l.up ≡ true
-  pub alive : l.end ≡ None
-  pub info_is : l.info ≡ info
-  pub wanted_is : l.creds.wanted ≡ c.renewal.wanted
-  pub sent : AreSetups l
-  pub starts : l.starts ≡ []
-  pub none : started ≡ []
-  pub tied : (name : ℕ → Owner) → TiedLink name l link
-  pub queue : link.queue ≡ []
-  pub row : link.row ≡ []
-  pub fit : IsFit c.size c.boundary link
-
 -- to whose server the same protocol is said
 spoken_up : (before : List Action) (c : Core) (started : List ℕ) (kind : EventKind) (n : News) (info : RedisConnectionInfo) (link : LinkState) → Between before c started → news_of c.timers c.sources c.single.link kind ≡ n → is_resting c.single.connection.life ≡ false
     → IsUpNow (heard_by (book before) c n) (book before).created c.single.connection info started link → info.protocol ≡ c.single.connection.info.protocol
@@ -507,10 +413,6 @@ setting_course : (b : Book) (c : Core) (started : List ℕ) (n : News) → Tied 
 setting_course b c started n h there unready alive =
     let live = tied_live b (inner c started) h there alive in
     (live.links, live.begun, tied_unopened b (inner c started) h unready alive, (asked_hear (b.link c.single.link) c.turns n).last ∙ live.lasts)
-
--- what is to be said is the same for the session and the ledger
-says_same : (l : Ledger) (info : RedisConnectionInfo) → l.info ≡ info → says_nothing (setup_steps l 0) ≡ says_nothing (setup info true)
-says_same l info is = ap (λ (x : RedisConnectionInfo). says_nothing (setup x true)) is
 
 -- nothing is to be said: it is ready
 comes_ready : (before : List Action) (c : Core) (started : List ℕ) (word : ℕ) (kind : EventKind) (n : News) (info : RedisConnectionInfo) (link : LinkState) → Between before c started → is_bad c kind ≡ false → IsNewsKind c.timers kind → news_of c.timers c.sources c.single.link kind ≡ n
@@ -527,10 +429,6 @@ comes_ready before c started word kind n info link h good k is other shutless ea
     let made : IsMade l (book before).created conn.requests link = record { asked = u.asked; up = u.up; alive = u.alive; said = said; tied = u.tied (owner_of conn.requests); queue = u.queue; row = u.row } in
     ready_applied (before ++ turn_of c word kind ∷ []) (turned c kind) conn link (readied more l) started (λ z. absurd (omega arith)) (going_awake c kind n is shutless early.there early.alive h.hushed) (h.fit.none (unready_serves c.single.connection.life c.single.connection.again early.unready)) h.moved u.fit (ends_where_set (readied more l) u.up (well_readied more l ∙ said.well) ∙ calm more)
     (makes_ready before c started word kind n info link [] h good k is other early (record { info_is = u.info_is; sent = u.sent; wanted_is = u.wanted_is; has = has; made = made; notices = notices }))
-
--- on a link on which nothing has started setups stand alone
-bare_alone : (l : Ledger) → l.starts ≡ [] → AreSetupsAlone l
-bare_alone l none = ap owners_of none ∙ ap (λ (ss : List Start). setup_owners (setup_count ss) []) (sym none)
 
 -- or its setup is to start
 comes_to_say : (before : List Action) (c : Core) (started : List ℕ) (word : ℕ) (kind : EventKind) (n : News) (info : RedisConnectionInfo) (link : LinkState) → Between before c started → is_bad c kind ≡ false → IsNewsKind c.timers kind → news_of c.timers c.sources c.single.link kind ≡ n
@@ -592,35 +490,6 @@ comes_to_say before c started word kind n info link h good k is other shutless e
       none = λ z. nobody;
     })
     (hushed_there c kind n life is shutless early.there early.alive h.hushed)
-
--- where there are no requests nobody waits
-none_wait : (story : ℕ → Story) (requests : List Request) (a : Again) (life : Life) (link : LinkState) (greeting : Greeting) (fresh moved : List ℕ) → requests ≡ [] → TiedWaits story requests a life fresh moved → TiedWaits story requests a (SettingUp link greeting) fresh moved
-none_wait story requests a life link greeting fresh moved empty h = record {
-  early = h.early;
-  backoff = λ p w d. absurd (nobody p w);
-  connect = λ p w d. absurd (nobody p w);
-  creds = λ p x w d. absurd (nobody p w);
-  setup = λ p x u w d. absurd (nobody p w);
-  resubscribe = λ p x w d goes. absurd (nobody p w);
-  permit = λ p x w d none. absurd (nobody p w);
-  place = h.place;
-  room = λ p i. absurd i;
-  newer = h.newer;
-  rising = h.rising;
-  no_backoff = λ p i w d. absurd (nobody p w);
-  no_connect = λ p i w d. absurd (nobody p w);
-  no_creds = λ p x i w d. absurd (nobody p w);
-  no_setup = λ p x u i w d. absurd (nobody p w);
-  no_resubscribe = λ p x i w d goes. absurd (nobody p w);
-  unpermitted = λ p x w d goes. absurd (nobody p w);
-  no_permit = λ p x i w d none. absurd (nobody p w);
-  no_place = h.no_place;
-  seatless = h.seatless;
-  no_room = λ p i j. absurd j;
-}
-  where
-    nobody : (p : ℕ) → is_waiting_at requests p ≡ true → ⊥
-    nobody p w = not_both (is_waiting_at requests p) (ap (λ (rs : List Request). is_waiting_at rs p) empty) w
 
 -- where its server is put into monitor mode there are none
 none_asked : (b : Book) (t : Inner) → Tied b t → is_watching t.hears ≡ true → t.requests ≡ []

@@ -7,54 +7,62 @@ use Rattle.redis_error.specs.declared.fault_kind.FaultKind.TheVariants as kinds
 use Rattle.redis_error.specs.declared.redis_error.RedisError.TheVariants as error
 use Rattle.driver_model.specs.declared.action.Action.{Action}
 use Rattle.driver_model.specs.declared.action.Action.TheVariants as action
-use Rattle.driver_model.specs.declared.action.Owner.{Owner}
 use Rattle.driver_model.specs.declared.action.SourceUse.TheVariants as source
-use Rattle.driver_model.specs.declared.action.WaitKind.{WaitKind}
 use Rattle.driver_model.specs.declared.action.WaitKind.TheVariants as wait
 use Rattle.driver_model.specs.declared.event.EventKind.{EventKind}
 use Rattle.driver_model.specs.News.{connected, news_of, News, refused, overdue, dropped, shut}
-use Rattle.link_core.specs.Link.{LinkState, fresh}
+use Rattle.link_core.specs.Link.{LinkState}
 use Rattle.link_laws.proofs.TiedLink.{TiedLink, connected_tied, named_tied, sourced_tied}
 use Rattle.link_laws.specs.Settles.{wanted, awaited_ids}
 use Rattle.mux_conn.specs.declared.life.Life.{Life}
 use Rattle.mux_conn.specs.declared.life.Life.TheVariants.{Resting, Dialing, Wanting, SettingUp, Ready, Ended}
 use Rattle.mux_conn.specs.Effects.{come_up, comes_to_want, new_link, numbers_of, connected_at, refused_at, overdue_at, dropped_at, dropped_by, afresh, given_up, opening_failed}
 use Rattle.mux_conn.specs.Connection.{Work, is_ready, is_resting}
-use Rattle.mux_conn.specs.Turn.{early_wait}
 use Rattle.mux_conn.specs.declared.act.LinkAct.TheVariants as act
 use Rattle.shared_session.specs.declared.core_state.Core.{Core}
 use Rattle.shared_session.specs.Turn.{with_work, is_bad}
 use Rattle.legal_trace.specs.Owed.{owed_by}
-use Rattle.legal_trace.specs.Ledger.{Ledger, hears, lacks_credentials, noted, noted_each, ending, ending_alive, is_over, by_opening, ends, dials, refused_in, failure_in, failure_of, source_due, sources, is_set_up, ending_asked, lasting, renewal_count}
+use Rattle.legal_trace.specs.Ledger.{Ledger, lacks_credentials, noted, noted_each, ending, ending_alive, is_over, by_opening, ends, refused_in, failure_in, failure_of, source_due, sources, is_set_up, ending_asked, lasting, renewal_count}
 use Rattle.legal_trace.specs.Book.{Book, blank_book, book, entered, if_mine, use_for, hearing_in}
 use Rattle.legal_trace.specs.Legal.{AllStand, MayNeed, is_attempt, is_by_attempt}
-use Rattle.session_laws.proofs.Requests.Rounded.{rounds_down, early_on}
-use Rattle.session_laws.proofs.Ties.Aside.{unfailed, not_up_ends}
-use Rattle.session_laws.proofs.Links.Server.{AreSought, HasSaid, on_link, hearing_there}
-use Rattle.session_laws.proofs.Ties.Tied.{shown_creation, AreQueued, inner, no_link, link_in, carried, whole_link, owner_of, Tied, TiedLife, TiedLines, has_ended, AreUses, IsOver}
-use Rattle.session_laws.proofs.Links.Creds.{down_sourced}
-use Rattle.session_laws.proofs.Links.Said.{ending_wanting, ready_heard, setting_heard, setup_hears, dropped_end, PushesOf, pushes_there, renoticed}
-use Rattle.session_laws.proofs.Links.Failing.{IsFailing, failing_applied, unready_shown, unstarted_owed, IsUnready}
-use Rattle.session_laws.proofs.Ties.States.{IsFit, Between, HasApplied, HasEffect, HasRetired}
+use Rattle.conn_laws.proofs.Requests.Rounded.{rounds_down, early_on}
+use Rattle.conn_laws.proofs.Ties.Aside.{unfailed, not_up_ends}
+use Rattle.conn_laws.proofs.Links.Server.{AreSought, HasSaid, on_link, hearing_there}
+use Rattle.conn_laws.proofs.Ties.Tied.{shown_creation, AreQueued, no_link, link_in, carried, whole_link, owner_of, TiedLife, TiedLines, has_ended, AreUses, IsOver}
+use Rattle.session_laws.proofs.Ties.Tied.{inner, Tied}
+use Rattle.conn_laws.proofs.Links.Creds.{down_sourced}
+use Rattle.conn_laws.proofs.Links.Said.{ending_wanting, ready_heard, setting_heard, setup_hears, dropped_end, PushesOf, pushes_there, renoticed}
+use Rattle.conn_laws.proofs.Links.Failing.{IsUnready}
+use Rattle.session_laws.proofs.Links.Failing.{IsFailing, failing_applied, unready_shown, unstarted_owed}
+use Rattle.conn_laws.proofs.Ties.States.{IsFit}
+use Rattle.session_laws.proofs.Ties.States.{Between, HasApplied, HasEffect, HasRetired}
 use Rattle.session_laws.proofs.Ties.Entered.{all_stand-append, book_more, sound_more, shown_more}
 use Rattle.session_laws.proofs.Requests.Settle.{seen, trace_of_acts, book_of_more}
-use Rattle.session_laws.proofs.Turn.Announce.{IsNewsKind, comes_as, heard_book, heard_is, heard_starts, heard_tied, heard_tied_by, may_turn, others_heard, turn_of, turned, uses_asked, uses_more, timed_hear, heard_hearing, asked_hear, uses_hear}
-use Rattle.session_laws.proofs.Turn.Heard.{heard_by, book_kind, book_news, lives_as, none_ends, leads_still, quiet_applied, ended_quiet, pushes_still, none_hears, still_none, hushed_there, hushed_news, resting_quiet, tame_between}
-use Rattle.session_laws.proofs.Links.End.{up_tied, setting_tied, setting_overdue, wanting_tied, wanting_overdue, plain_begins, IsPlain, dropped_up, plain_is, notices_there}
+use Rattle.conn_laws.proofs.Turn.Announce.{heard_starts, timed_hear, heard_hearing, asked_hear, uses_hear}
+use Rattle.session_laws.proofs.Turn.Announce.{IsNewsKind, comes_as, heard_book, heard_is, heard_tied, heard_tied_by, may_turn, others_heard, turn_of, turned, uses_asked, uses_more}
+use Rattle.conn_laws.proofs.Turn.Heard.{none_hears}
+use Rattle.session_laws.proofs.Turn.Heard.{heard_by, book_kind, book_news, lives_as, none_ends, leads_still, quiet_applied, ended_quiet, pushes_still, still_none, hushed_there, hushed_news, resting_quiet, tame_between}
+use Rattle.conn_laws.proofs.Links.End.{IsPlain, plain_is}
+use Rattle.session_laws.proofs.Links.End.{up_tied, setting_tied, setting_overdue, wanting_tied, wanting_overdue, plain_begins, dropped_up, notices_there}
 use Rattle.session_laws.proofs.Ties.Kept.{mine_noted, others_kept, replaced}
-use Rattle.session_laws.proofs.Links.Close.{may_close, close_tied, ended_waits, ends_so}
-use Rattle.session_laws.proofs.Links.ComeUp.{IsEarly, IsUpNow, comes_up, fresh_waits}
-use Rattle.session_laws.proofs.Internal.Renewals.{renewal_ended, early_renewal}
-use Rattle.session_laws.proofs.Ties.Numbers.{requests_in}
-use Rattle.session_laws.proofs.Links.SetUp.{lacking_unset}
+use Rattle.conn_laws.proofs.Links.Close.{ended_waits, ends_so}
+use Rattle.session_laws.proofs.Links.Close.{may_close, close_tied}
+use Rattle.conn_laws.proofs.Links.ComeUp.{IsUpNow}
+use Rattle.session_laws.proofs.Links.ComeUp.{comes_up, fresh_waits}
+use Rattle.conn_laws.proofs.Internal.Renewals.{renewal_ended, early_renewal}
+use Rattle.conn_laws.proofs.Ties.Numbers.{requests_in}
+use Rattle.conn_laws.proofs.Links.SetUp.{lacking_unset}
 use Rattle.driver_model.specs.Hearing.{hears_messages}
 use Rattle.redis_error.specs.declared.redis_error.RedisError.{RedisError}
-use Rattle.session_laws.proofs.Managers.Comes.{tied_live, tied_unopened, resting_down}
+use Rattle.conn_laws.proofs.Managers.Comes.{resting_down}
+use Rattle.session_laws.proofs.Managers.Comes.{tied_live, tied_unopened}
 use Rattle.session_laws.proofs.Links.Retire.{IsAttempted, retires, closed_retires}
-use Rattle.session_laws.proofs.Ties.Owes.{get_behind}
-use Rattle.session_laws.proofs.Internal.Serving.{unready_serves}
-use Rattle.session_laws.proofs.Internal.Held.{held_hears, failed_served}
-use Rattle.session_laws.proofs.Internal.Repeats.{held_alike}
+use Rattle.conn_laws.proofs.Ties.Owes.{get_behind}
+use Rattle.conn_laws.proofs.Internal.Serving.{unready_serves}
+use Rattle.conn_laws.proofs.Internal.Held.{failed_served}
+use Rattle.session_laws.proofs.Internal.Held.{held_hears}
+use Rattle.conn_laws.proofs.Internal.Repeats.{held_alike}
+use Rattle.conn_laws.proofs.Links.Connect.{again_is, connects, early_dialing, refused_is, resized, up_refused}
 
 -- news of no account
 --
@@ -65,36 +73,8 @@ pub passed_over : (before : List Action) (c : Core) (started : List ℕ) (word :
 passed_over before c started word kind n h good k is other stays none =
     quiet_applied before c started word kind n c.single.connection.life h good k is (leads_still before c started n h stays) (ap ending stays ∙ none) h.fit (hushed_news c kind n is other h.hushed)
 
--- a connect that succeeds
---
--- the ledger of a link whose connect succeeds
-connects : (l : Ledger) (turn : ℕ) → is_over l ≡ false → noted l (hears turn connected) ≡ record l { up = true; heard = connected }
-connects l turn f = left_if_over (is_over l) f
-  where
-    left_if_over : (b : Bool) → b ≡ false → (record (if b then l else record l { up = true }) { heard = connected }) ≡ record l { up = true; heard = connected }
-    left_if_over true e = cc
-    left_if_over false e = refl
-
--- one that is up stays so
-again_is : (l : Ledger) (turn : ℕ) → l.up ≡ true → l.end ≡ None → noted l (hears turn connected) ≡ record l { heard = connected }
-again_is l turn up alive = connects l turn (ap is_some alive) ∙ ap (λ (u : Bool). record l { up = u; heard = connected }) (sym up)
-
 -- a new link
 --
--- what ties a link without messages to its ledger speaks neither of the size of its queue nor of its boundary
-resized : (name : ℕ → Owner) (l : Ledger) (size bound other another : ℕ) → TiedLink name l (fresh size bound) → TiedLink name l (fresh other another)
-resized name l size bound other another h = record {
-  sent = h.sent;
-  offer = h.offer;
-  bound = h.bound;
-  rest = h.rest;
-  broken = h.broken;
-  started = h.started;
-  within = h.within;
-  bytes = h.bytes;
-  row = h.row;
-}
-
 -- it is up then
 up_now : (before : List Action) (c : Core) (started : List ℕ) → Between before c started → c.single.connection.life ≡ Dialing
     → IsUpNow (heard_by (book before) c connected) (book before).created c.single.connection c.single.connection.info started (new_link c.single.connection)
@@ -122,10 +102,6 @@ up_now before c started h e =
       row = refl;
       fit = record { sound = refl; size_is = refl; bound_is = refl; within = omega arith };
     }
-
--- what was waited for then
-early_dialing : (life : Life) (after : WaitKind) → life ≡ Dialing → wait.Connect ≢ after → IsEarly life after
-early_dialing life after e other = record { bare = ap link_in e; unready = ap is_ready e; alive = ap has_ended e; there = ap is_resting e; other = λ same. other (sym (ap early_wait e) ∙ same) }
 
 -- no credentials of a source are wanted: it comes up
 connected_up : (before : List Action) (c : Core) (started : List ℕ) (word : ℕ) (kind : EventKind) → Between before c started → is_bad c kind ≡ false → IsNewsKind c.timers kind → news_of c.timers c.sources c.single.link kind ≡ connected → c.single.connection.life ≡ Dialing
@@ -256,14 +232,6 @@ connected_applied before c started word kind h good k is = by_life c.single.conn
 
 -- a connect that is refused
 --
--- a link whose connect isn't answered dials
-is_dialing : (l : Ledger) (created : ℕ) → TiedLife l created Dialing → dials l ≡ true
-is_dialing l created h = (λ i. h.0 i && not (h.1 i) && not (is_some (h.2 i)))
-
--- its ledger is over then
-refused_is : (l : Ledger) (turn created : ℕ) (f : FaultKind) → TiedLife l created Dialing → noted l (hears turn (refused f)) ≡ record (refused_in l turn (error.Io f)) { heard = refused f }
-refused_is l turn created f h = ap (λ (x : Ledger). record x { heard = refused f }) (taken_if (dials l) (refused_in l turn (error.Io f)) l (is_dialing l created h))
-
 -- the opening has failed
 refused_fails : (before : List Action) (c : Core) (started : List ℕ) (word : ℕ) (kind : EventKind) (f : FaultKind) → Between before c started → is_bad c kind ≡ false → IsNewsKind c.timers kind → news_of c.timers c.sources c.single.link kind ≡ refused f → c.single.connection.life ≡ Dialing
     → c.single.connection.last ≡ true → IsFailing (before ++ turn_of c word kind ∷ []) (turned c kind) [] c.single.connection (error.Io f) started
@@ -353,18 +321,6 @@ refused_retires before c started word kind f h good k is e last =
     subst (λ (y : Work). HasRetired front (with_work (record { core = turned c kind; acts = [] }) y)) (sym (left_if conn.last (given_up w (error.Io f)) (record w { conn = afresh conn }) last))
     (retires before c started word kind (refused f) [] now.link now.placed now.since l h is (λ z. cc) unready last refl refl (others_heard b c started kind b.created h0 good (λ some. some)) own_ledger a
     (uses_hear c.sources c.single.link l0 c.turns (refused f) h0.uses) (subst (AllStand blank_book) (sym (append-nil front)) all) (ap book (append-nil front) ∙ book_is))
-
--- a link that is up doesn't dial
-up_dials : (l : Ledger) → l.up ≡ true → dials l ≡ false
-up_dials l up = ap (λ u. l.asked && not u && not (is_over l)) up ∙ none_of l.asked (is_over l)
-  where
-    none_of : (a b : Bool) → (a && false && not b) ≡ false
-    none_of true b = refl
-    none_of false b = refl
-
--- a refusal leaves it
-up_refused : (l : Ledger) (turn : ℕ) (f : FaultKind) → l.up ≡ true → noted l (hears turn (refused f)) ≡ record l { heard = refused f }
-up_refused l turn f up = ap (λ (x : Ledger). record x { heard = refused f }) (left_if (dials l) (refused_in l turn (error.Io f)) l (up_dials l up))
 
 -- the first answer to the connect is that it failed, or it was answered before
 pub refused_applied : (before : List Action) (c : Core) (started : List ℕ) (word : ℕ) (kind : EventKind) (f : FaultKind) → Between before c started → is_bad c kind ≡ false → IsNewsKind c.timers kind → news_of c.timers c.sources c.single.link kind ≡ refused f

@@ -1,25 +1,17 @@
 -- A fault ends the connection's link, or the shutdown does.
-use Rattle.std.proofs.Common.{if◌then◌else◌, inl, inr, ◌≡◌, ◌≢◌, ℕ, ◌-◌, true, false, List, [], ◌∷◌, ◌++◌, Some, None, refl, sym, ap, ◌∙◌, subst, ◌&&◌, not, is_some, arith, Option, ◌≤◌, ◌+◌, length, take, ◌||◌, Bool}
-use Rattle.std.specs.List.{AllByRecursion}
-use Rattle.containers.proofs.Choices.{chosen, taken_if, left_if, le_test, not_both}
+use Rattle.std.proofs.Common.{inl, ◌≡◌, ◌≢◌, ℕ, ◌-◌, true, false, List, [], ◌∷◌, ◌++◌, Some, None, refl, sym, ap, ◌∙◌, subst, ◌&&◌, not, is_some, arith, ◌||◌, Bool}
+use Rattle.containers.proofs.Choices.{taken_if, left_if}
 use Rattle.redis_error.specs.declared.fault_kind.FaultKind.TheVariants as kinds
 use Rattle.redis_error.specs.declared.redis_error.RedisError.{RedisError}
 use Rattle.redis_error.specs.declared.redis_error.RedisError.TheVariants as error
 use Rattle.driver_model.specs.declared.action.Action.{Action}
-use Rattle.driver_model.specs.declared.action.Owner.{Owner}
-use Rattle.driver_model.specs.declared.action.Owner.TheVariants as owner
 use Rattle.driver_model.specs.declared.event.EventKind.{EventKind}
 use Rattle.driver_model.specs.declared.news.LinkFault.{LinkFault}
-use Rattle.driver_model.specs.declared.outcome.Verdict.TheVariants as verdict
-use Rattle.driver_model.specs.News.{News, failed, denied, deserted, shut, news_of, overdue, dropped}
-use Rattle.link_core.specs.declared.message.Queued.{Queued}
-use Rattle.link_core.specs.declared.message.Settled.{Settled}
-use Rattle.link_core.specs.Ends.{failed_by, row_closed, row_hit, queue_closed, error_of}
+use Rattle.driver_model.specs.News.{News, failed, shut, news_of, overdue, dropped}
+use Rattle.link_core.specs.Ends.{row_closed, row_hit, queue_closed}
 use Rattle.link_core.specs.Link.{LinkState}
-use Rattle.link_laws.specs.Settles.{settled_ids, wanted, awaited_ids, IsOwed}
-use Rattle.link_laws.proofs.Dealt.{all_append}
 use Rattle.link_laws.proofs.Once.{closed_ids, hit_ids}
-use Rattle.link_laws.proofs.Settles.{row_hit_owed, row_closed_owed, same_error}
+use Rattle.link_laws.proofs.Settles.{row_hit_owed, row_closed_owed}
 use Rattle.link_laws.proofs.TiedLink.{TiedLink}
 use Rattle.mux_conn.specs.declared.life.Greeting.{Greeting}
 use Rattle.mux_conn.specs.declared.life.Life.{Life}
@@ -28,54 +20,29 @@ use Rattle.mux_conn.specs.Connection.{is_ready, Work, is_resting}
 use Rattle.mux_conn.specs.Effects.{ended, ended_by, failed_at, overdue_at, shut_at, unauthorized_at, greeting_error, dropped_at, waiting_failed}
 use Rattle.shared_session.specs.declared.core_state.Core.{Core}
 use Rattle.shared_session.specs.Turn.{with_work, is_bad, is_shutdown}
-use Rattle.legal_trace.specs.Ledger.{Ledger, by_fault, by_opening, by_shutdown, ends, hears, noted, ending, ending_alive, ending_unready, ending_up, is_over, is_set_up, lacks_credentials, fault_error, opening_error, monitor_among, reach, Start, setup_count, is_full}
+use Rattle.legal_trace.specs.Ledger.{Ledger, by_fault, by_opening, by_shutdown, ends, noted, ending, ending_alive, ending_unready, is_over, lacks_credentials}
 use Rattle.legal_trace.specs.Book.{Book, book, hearing_in}
-use Rattle.session_laws.proofs.Ties.Numbers.{IsIn}
-use Rattle.session_laws.proofs.Links.Server.{AreSought, HasCredentials, HasSaid, IsGreeting, IsWatchSent, on_link, hearing_on, hearing_there}
-use Rattle.session_laws.proofs.Ties.Tied.{Inner, inner, link_in, no_link, carried, whole_link, owner_of, queue_ids, Tied, TiedLife, has_ended, greeter, TiedNotices, is_reading}
-use Rattle.session_laws.proofs.Links.Creds.{asked_sourced, has_sourced, wanting_lacks}
-use Rattle.session_laws.proofs.Links.SetUp.{not_set_up, lacking_unset, alone_unwatched}
-use Rattle.session_laws.proofs.Links.Said.{ending_wanting, ready_heard, setting_heard, setting_told, renoticed, PushesOf}
-use Rattle.session_laws.proofs.Links.Failing.{Fails, IsUnready}
-use Rattle.session_laws.proofs.Ties.States.{Between, HasApplied, HasEffect, IsStopped}
+use Rattle.conn_laws.proofs.Links.Server.{AreSought, HasSaid, on_link, hearing_on, hearing_there}
+use Rattle.conn_laws.proofs.Ties.Tied.{link_in, no_link, carried, whole_link, owner_of, TiedLife, has_ended, greeter, TiedNotices, is_reading}
+use Rattle.session_laws.proofs.Ties.Tied.{Inner, inner, Tied}
+use Rattle.conn_laws.proofs.Links.Creds.{asked_sourced, has_sourced, wanting_lacks}
+use Rattle.conn_laws.proofs.Links.SetUp.{not_set_up, lacking_unset}
+use Rattle.conn_laws.proofs.Links.Said.{ending_wanting, ready_heard, setting_heard, setting_told, renoticed, PushesOf}
+use Rattle.conn_laws.proofs.Links.Failing.{Fails, IsUnready}
+use Rattle.conn_laws.proofs.Ties.States.{IsStopped}
+use Rattle.session_laws.proofs.Ties.States.{Between, HasApplied, HasEffect}
 use Rattle.session_laws.proofs.Requests.Settle.{seen, trace_of_acts, Holds}
-use Rattle.session_laws.proofs.Links.Close.{HasEnded, IsClosedOf, SettlesAll, ended_holds, ended_moved, ended_applied, faulted_holds, parted_moved, waiting_shut, waiting_leaves}
+use Rattle.conn_laws.proofs.Links.Close.{SettlesAll, ended_moved, parted_moved, waiting_leaves}
+use Rattle.session_laws.proofs.Links.Close.{HasEnded, ended_holds, ended_applied, faulted_holds, waiting_shut}
 use Rattle.session_laws.proofs.Turn.Announce.{turn_of, turned, IsNewsKind}
-use Rattle.session_laws.proofs.Turn.Heard.{IsOfAnother, heard_by, Begins, Leads, heard_begins, leads_still, ended_quiet, dialing_quiet, tame_between, resting_quiet, none_ends}
+use Rattle.session_laws.proofs.Turn.Heard.{heard_by, Begins, Leads, heard_begins, leads_still, ended_quiet, dialing_quiet, tame_between, resting_quiet, none_ends}
 use Rattle.driver_model.specs.Hearing.{felt, hears_messages}
 use Rattle.driver_model.specs.declared.hearing.Hearing.{Hearing}
-use Rattle.link_laws.proofs.Rows.{none_open, open_list, open_rows}
-use Rattle.link_core.specs.Dealing.{is_awaiting}
-use Rattle.mux_conn.specs.declared.life.Greeting.TheVariants as greet
 use Rattle.driver_model.specs.declared.news.LinkFault.TheVariants as faults
-use Rattle.link_core.specs.declared.message.Entry.{Entry}
-use Rattle.std.proofs.lemmas.List.{take_all}
-use Rattle.session_laws.proofs.Managers.Comes.{tied_opened, resting_ends}
+use Rattle.conn_laws.proofs.Managers.Comes.{resting_ends}
+use Rattle.session_laws.proofs.Managers.Comes.{tied_opened}
 use Rattle.session_laws.proofs.Links.Retire.{setup_failed}
-
--- what waits in the queue gets the closed connection
-queue_waits : (ids : List ℕ) (queue : List Queued) → ((n : ℕ) → IsIn n (queue_ids queue) → IsIn n ids) → AllByRecursion (IsClosedOf ids) (queue_closed queue)
-queue_waits ids [] keep = tt
-queue_waits ids (q ∷ qs) keep =
-    all_append (IsClosedOf ids) (failed_by q.awaited q.id error.Closed) (queue_closed qs)
-    (chosen (AllByRecursion (IsClosedOf ids)) q.awaited (record { id = q.id; verdict = verdict.Fault error.Closed } ∷ []) [] (λ t. ((refl, keep q.id (inl refl)), tt)) (λ f. tt))
-    (queue_waits ids qs (λ n i. keep n (inr i)))
-
--- what a link settles that ends, by the life of its connection
-settles_ready : (name : ℕ → Owner) (l : Ledger) (life : Life) (link : LinkState) (row : List Settled) → life ≡ Ready link → AllByRecursion (IsOwed name l) row → settled_ids (row ++ queue_closed link.queue) ≡ wanted link.row ++ awaited_ids link.queue
-    → SettlesAll name l (link_in life) row (queue_closed link.queue)
-settles_ready name l life link row is all ids =
-    subst (λ (x : Life). SettlesAll name l (link_in x) row (queue_closed link.queue)) (sym is) (record { started = all; waits = queue_waits (queue_ids link.queue) link.queue (λ n i. i); ids = ids })
-
--- a link that is up, with its ledger
-pub record IsUp (name : ℕ → Owner) (l : Ledger) (created : ℕ) (link : LinkState) : Type 0 where
-  pub asked : l.asked ≡ true
-  pub up : l.up ≡ true
-  pub alive : l.end ≡ None
-  pub shown : created ≢ 0
-  pub has : HasCredentials l.creds
-  pub well : is_set_up l ≡ true
-  pub tied : TiedLink name l link
+use Rattle.conn_laws.proofs.Links.End.{Denies, IsPlain, IsSetting, IsUp, IsWanting, bare_error_is, opening_error_is, plain_is, settles_ready}
 
 -- the link of a connection that is ready is up
 pub up_tied : (b : Book) (t : Inner) (link : LinkState) → t.life ≡ Ready link → Tied b t → IsUp (owner_of t.requests) (b.link t.link) b.created link
@@ -92,19 +59,6 @@ up_tied b t link is h =
       well = said.well;
       tied = subst (λ (x : Life). TiedLink (carried x t.requests) l (whole_link x)) is (h.link (ap has_ended is));
     }
-
--- a link that waits for credentials, with its ledger
-pub record IsWanting (l : Ledger) (created : ℕ) (started : List ℕ) (link : LinkState) : Type 0 where
-  pub asked : l.asked ≡ true
-  pub up : l.up ≡ true
-  pub alive : l.end ≡ None
-  pub sought : AreSought l.creds (Wanting link)
-  pub lacks : lacks_credentials l ≡ true
-  pub starts : l.starts ≡ []
-  pub none : started ≡ []
-  pub queue : link.queue ≡ []
-  pub row : link.row ≡ []
-  pub tied : TiedLink (λ p. owner.Setup) l link
 
 -- so it is while the connection says so
 pub wanting_tied : (b : Book) (t : Inner) (link : LinkState) → t.life ≡ Wanting link → Tied b t → IsWanting (b.link t.link) b.created t.started link
@@ -125,17 +79,6 @@ wanting_tied b t link is h =
       row = said.3;
       tied = subst (λ (x : Life). TiedLink (carried x t.requests) l (whole_link x)) is (h.link (ap has_ended is));
     }
-
--- a link that is set up, with its ledger
-pub record IsSetting (l : Ledger) (created : ℕ) (started : List ℕ) (link : LinkState) (greeting : Greeting) : Type 0 where
-  pub asked : l.asked ≡ true
-  pub up : l.up ≡ true
-  pub alive : l.end ≡ None
-  pub has : HasCredentials l.creds
-  pub once : l.creds.renews ≡ false
-  pub none : started ≡ []
-  pub said : IsGreeting l link greeting
-  pub tied : TiedLink (λ p. greeter greeting) l link
 
 -- so it is while the connection says so
 pub setting_tied : (b : Book) (t : Inner) (link : LinkState) (greeting : Greeting) → t.life ≡ SettingUp link greeting → Tied b t → IsSetting (b.link t.link) b.created t.started link greeting
@@ -190,26 +133,6 @@ bare_ends before f w started h over alive bare must =
 
 -- the turns of these events
 --
--- news that leave what is told of a link
-abbrev pub IsPlain : News → Type 0
-IsPlain (failed f) = Unit {0}
-IsPlain shut = Unit {0}
-IsPlain overdue = Unit {0}
-IsPlain (denied text) = Unit {0}
-IsPlain deserted = Unit {0}
-IsPlain dropped = Unit {0}
-IsPlain _ = ⊥
-
--- the link stays as it is
-pub plain_is : (l : Ledger) (turn : ℕ) (n : News) → IsPlain n → noted l (hears turn n) ≡ record l { heard = n }
-plain_is l turn (failed f) k = refl
-plain_is l turn shut k = refl
-plain_is l turn overdue k = refl
-plain_is l turn (denied text) k = refl
-plain_is l turn deserted k = refl
-plain_is l turn dropped k = refl
-plain_is l turn _ k = absurd k
-
 plain_leads : (before : List Action) (c : Core) (started : List ℕ) (n : News) → IsPlain n → Between before c started → Leads (book before) c n c.single.connection.life [] started
 plain_leads before c started n k h = leads_still before c started n h (plain_is ((book before).link c.single.link) c.turns n k)
 
@@ -267,32 +190,6 @@ wanting_fails before c started n x link h e is =
       sent = h.sound.tied.setup.sent;
       notices = renoticed (tame_between before c started h) (notices_there b c started (ap is_resting e) h.sound.tied);
     }
-
--- MONITOR that isn't answered takes items
-watch_awaits : (name : ℕ → Owner) (l : Ledger) (link : LinkState) (row : List Entry) → link.row ≡ row → IsWatchSent l link → l.end ≡ None → TiedLink name l link → is_awaiting row ≡ true
-watch_awaits name l link (e ∷ es) is sent alive tied = refl
-watch_awaits name l link [] is sent alive tied =
-    let none : open_rows l.starts l.dealt ≡ [] = sym (tied.row alive) ∙ ap (open_list name) is in
-    let far = none_open l.starts l.dealt none in
-    let all : take (sent.k + 1) l.starts ≡ l.starts = take_all (sent.k + 1) l.starts (omega (arith, sent.long)) in
-    absurd (not_both (is_full l sent.k) sent.open_is (le_test _ _ (subst (λ (ss : List Start). reach ss l.dealt ≤ length l.dealt) (sym all) far)))
-
--- the error of a greeting that a fault ends is that of the opening
-pub opening_error_is : (name : ℕ → Owner) (l : Ledger) (link : LinkState) (greeting : Greeting) (f : LinkFault) → IsGreeting l link greeting → l.end ≡ None → TiedLink name l link → opening_error l f ≡ greeting_error greeting link.row f
-opening_error_is name l link greet.WithUser f h alive tied = ap (λ (o : Option ℕ). if is_some o then fault_error f else error.Closed) (alone_unwatched l.starts (setup_count l.starts) 0 h.alone)
-opening_error_is name l link greet.WithoutUser f h alive tied = ap (λ (o : Option ℕ). if is_some o then fault_error f else error.Closed) (alone_unwatched l.starts (setup_count l.starts) 0 h.alone)
-opening_error_is name l link greet.Monitor f h alive tied = elim h.stage [
-  | inl due ↦
-      ap (λ (o : Option ℕ). if is_some o then fault_error f else error.Closed) (alone_unwatched l.starts (setup_count l.starts) 0 due.alone)
-      ∙ ap (λ (row : List Entry). if is_awaiting row then error_of f else error.Closed) (sym due.row)
-  | inr sent ↦
-      ap (λ (o : Option ℕ). if is_some o then fault_error f else error.Closed) sent.sent ∙ same_error f
-      ∙ sym (taken_if (is_awaiting link.row) (error_of f) error.Closed (watch_awaits name l link link.row refl sent alive tied))
-]
-
--- and that of a link on which nothing has started is the closed connection
-pub bare_error_is : (l : Ledger) (f : LinkFault) → l.starts ≡ [] → opening_error l f ≡ error.Closed
-bare_error_is l f none = ap (λ (ss : List Start). if is_some (monitor_among ss 0) then fault_error f else error.Closed) none
 
 -- a fault of a link that is set up ends it
 fault_applied : (before : List Action) (c : Core) (started : List ℕ) (word : ℕ) (kind : EventKind) (n : News) (link : LinkState) (f : LinkFault) → Between before c started
@@ -374,14 +271,6 @@ pub wanting_overdue : (before : List Action) (c : Core) (started : List ℕ) (wo
 wanting_overdue before c started word kind link h good k is e =
     let x = error.Io kinds.TimedOut in
     setup_failed before c started word kind overdue x h good k is (λ z. cc) (wanting_unready (book before) (inner c started) link e h.sound.tied) (wanting_fails before c started overdue x link h e refl)
-
--- news that there are none, and the error by which an opening fails then that waits for them
-pub record Denies (n : News) (x : RedisError) : Type 0 where
-  pub stays : (l : Ledger) (turn : ℕ) → noted l (hears turn n) ≡ record l { heard = n }
-  pub apart : IsOfAnother n
-  pub ends : (l : Ledger) → ending_unready l n ≡ (if lacks_credentials l then Some (by_opening x) else None)
-  pub calm : (l : Ledger) → ending_up l n ≡ None
-  pub open_still : n ≢ shut
 
 -- so the opening fails
 pub denied_fails : (before : List Action) (c : Core) (started : List ℕ) (word : ℕ) (kind : EventKind) (n : News) (x : RedisError) (link : LinkState) → Denies n x → Between before c started → is_bad c kind ≡ false → IsNewsKind c.timers kind

@@ -1,9 +1,8 @@
 -- The opening of the connection's link has failed, which is shown; and a link that is closed before it is set up.
 use Rattle.std.proofs.Common.{◌≡◌, ◌≢◌, ℕ, ◌+◌, ◌-◌, ◌==◌, if◌then◌else◌, Bool, true, false, List, [], ◌∷◌, ◌++◌, length, Some, None, refl, sym, ap, ◌∙◌, subst, arith, ◌||◌, ◌<◌, Option}
 use Rattle.std.proofs.lemmas.List.{append-nil}
-use Rattle.containers.proofs.Choices.{by_test, taken_if, left_if, both_left, both_right, eq_from, ne_from, not_both}
+use Rattle.containers.proofs.Choices.{by_test, left_if, both_left, both_right, eq_from, ne_from, not_both}
 use Rattle.redis_error.specs.declared.redis_error.RedisError.{RedisError}
-use Rattle.connection_info.specs.declared.address.RedisConnectionInfo.{RedisConnectionInfo}
 use Rattle.driver_model.specs.declared.action.Action.{Action}
 use Rattle.driver_model.specs.declared.action.Action.TheVariants as action
 use Rattle.driver_model.specs.declared.event.EventKind.{EventKind}
@@ -12,10 +11,9 @@ use Rattle.link_core.specs.Link.{LinkState}
 use Rattle.mux_conn.specs.declared.act.LinkAct.{LinkAct}
 use Rattle.mux_conn.specs.declared.act.LinkAct.TheVariants as act
 use Rattle.mux_conn.specs.declared.connection.MultiplexedConnection.{MultiplexedConnection}
-use Rattle.mux_conn.specs.declared.life.Life.{Life}
 use Rattle.mux_conn.specs.declared.life.Life.TheVariants.{Ended}
-use Rattle.mux_conn.specs.Connection.{Work, at_life, is_ready as is_life_ready, is_resting}
-use Rattle.mux_conn.specs.Effects.{creation_told, given_up, opening_failed, waiting_failed}
+use Rattle.mux_conn.specs.Connection.{Work}
+use Rattle.mux_conn.specs.Effects.{opening_failed, waiting_failed}
 use Rattle.mux_conn.specs.Requests.{name_at}
 use Rattle.shared_session.specs.declared.core_state.Core.{Core}
 use Rattle.shared_session.specs.Turn.{with_work, is_bad}
@@ -24,28 +22,31 @@ use Rattle.legal_trace.specs.Story.{Story, bytes_of, is_open, last_of}
 use Rattle.legal_trace.specs.Book.{Book, blank_book, book, entered, if_mine, hearing_in}
 use Rattle.legal_trace.specs.Owed.{owed_by, owed_to_try, owed_unstarted, owed_waiting}
 use Rattle.legal_trace.specs.Legal.{AllStand, FailuresAreShown, MayClose, MayFail, NoneEnds, ReadyIsShown, VerdictsAreShown, NoneIsOwed}
-use Rattle.session_laws.proofs.Requests.Rounded.{rounds_down}
-use Rattle.session_laws.proofs.Ties.Numbers.{IsIn}
-use Rattle.session_laws.proofs.Links.Server.{AreSetups}
-use Rattle.session_laws.proofs.Ties.Tied.{shown_creation, inner, link_in, no_link, TiedLines, Tied, has_ended}
+use Rattle.conn_laws.proofs.Requests.Rounded.{rounds_down}
+use Rattle.conn_laws.proofs.Ties.Numbers.{IsIn}
+use Rattle.conn_laws.proofs.Ties.Tied.{shown_creation, TiedLines}
+use Rattle.session_laws.proofs.Ties.Tied.{inner, Tied}
 use Rattle.session_laws.proofs.Ties.States.{Between, HasApplied}
 use Rattle.session_laws.proofs.Ties.Entered.{all_stand-append, shown_more}
-use Rattle.session_laws.proofs.Links.Creds.{down_sourced}
-use Rattle.session_laws.proofs.Ties.Names.{get_some, name_of_some, open_within}
-use Rattle.session_laws.proofs.Ties.Owes.{in_time, not_empty, open_request, request_story, get_behind, is_asked, owed_asked}
+use Rattle.conn_laws.proofs.Links.Creds.{down_sourced}
+use Rattle.conn_laws.proofs.Ties.Names.{get_some, name_of_some, open_within}
+use Rattle.conn_laws.proofs.Ties.Owes.{get_behind, is_asked, owed_asked}
+use Rattle.session_laws.proofs.Ties.Owes.{in_time, not_empty, open_request, request_story}
 use Rattle.session_laws.proofs.Ties.Kept.{mine_noted, others_kept, replaced}
 use Rattle.session_laws.proofs.Requests.Answer.{after_end}
-use Rattle.session_laws.proofs.Ties.Aside.{aside_ends, others_created, unfailed}
+use Rattle.conn_laws.proofs.Ties.Aside.{aside_ends, others_created, unfailed}
 use Rattle.session_laws.proofs.Requests.Settle.{seen, sound_act, trace_of_acts, Holds, book_of_more}
-use Rattle.session_laws.proofs.Links.Close.{ended_applied, ended_waits, waiting_ends, waiting_leaves, ends_so}
-use Rattle.session_laws.proofs.Turn.Announce.{turn_of, turned, IsNewsKind, first_book, heard_book, heard_is, heard_starts, heard_tied_by, may_turn, others_heard, uses_hear, uses_on, timed_hear, asked_hear, heard_hearing}
+use Rattle.conn_laws.proofs.Links.Close.{ended_waits, waiting_leaves, ends_so}
+use Rattle.session_laws.proofs.Links.Close.{ended_applied, waiting_ends}
+use Rattle.conn_laws.proofs.Turn.Announce.{heard_starts, uses_hear, timed_hear, asked_hear, heard_hearing}
+use Rattle.session_laws.proofs.Turn.Announce.{turn_of, turned, IsNewsKind, first_book, heard_book, heard_is, heard_tied_by, may_turn, others_heard, uses_on}
 use Rattle.session_laws.proofs.Turn.Heard.{heard_by, book_kind, book_news}
-use Rattle.session_laws.proofs.Links.Said.{PushesOf, sources_asked}
-use Rattle.session_laws.proofs.Internal.Renewals.{renewal_ended}
-use Rattle.driver_model.specs.declared.hearing.Hearing.{Hearing}
+use Rattle.session_laws.proofs.Links.Said.{sources_asked}
+use Rattle.conn_laws.proofs.Internal.Renewals.{renewal_ended}
 use Rattle.driver_model.specs.Hearing.{hears_something}
 use Rattle.session_laws.proofs.Managers.Comes.{tied_live, tied_unopened}
-use Rattle.session_laws.proofs.Internal.Held.{failed_served}
+use Rattle.conn_laws.proofs.Internal.Held.{failed_served}
+use Rattle.conn_laws.proofs.Links.Failing.{Fails, IsUnready, ended_so, given_up_is}
 
 -- the failure is shown
 --
@@ -74,18 +75,6 @@ failing_may trace f acts conn e started untold h = record {
   where
     over : NoneEnds (book trace) × VerdictsAreShown (book trace) × FailuresAreShown (entered (book trace) (action.Created (Some e)))
     over = after_end (entered (book trace) (action.Created (Some e))) (seen f acts (record conn { life = Ended e; told = true }) [] started) (h.tied untold) refl
-
--- what its last attempt leaves
-abbrev ended_so : Work → RedisError → Work
-ended_so w e = creation_told (at_life w (Ended e)) (Some e)
-
--- it is given up
-given_up_is : (w : Work) (e : RedisError) → w.conn.last ≡ true → opening_failed w e ≡ waiting_failed (ended_so w e) e
-given_up_is w e last = taken_if w.conn.last (given_up w e) _ last
-
--- and has ended
-pub given_up_ended : (w : Work) (e : RedisError) → w.conn.last ≡ true → (opening_failed w e).conn.life ≡ Ended e
-given_up_ended w e last = ap (λ (x : Work). x.conn.life) (given_up_is w e last) ∙ (waiting_leaves (ended_so w e) e).life
 
 -- which is shown, where it wasn't told before
 failing_shown : (before : List Action) (f : Core) (w : Work) (e : RedisError) (started : List ℕ) → IsFailing (trace_of_acts before f w.acts) f w.acts w.conn e started
@@ -134,25 +123,6 @@ pub unready_shown : (now : Book) (link : ℕ) (l : Ledger) → now.link link ≡
 unready_shown now link l own others unready m ready = by_test (m == link) _
     (λ same. absurd (not_both (is_set_up l) unready (ap is_set_up (sym own) ∙ both_right (now.link link).up (is_set_up (now.link link)) (subst (λ i. is_ready (now.link i) ≡ true) (eq_from m link same) ready))))
     (λ other. absurd (not_both (now.link m).up (others m (ne_from m link other)) (both_left (now.link m).up (is_set_up (now.link m)) ready)))
-
--- a link that isn't set up, and whose opening fails with this error
-pub record Fails (l : Ledger) (info : RedisConnectionInfo) (wants : Bool) (heard mine : Hearing) (x : RedisError) : Type 0 where
-  pub alive : l.end ≡ None
-  pub unready : is_set_up l ≡ false
-  pub must : ending l ≡ Some (by_opening x)
-  pub info_is : l.info ≡ info
-  pub wanted_is : l.creds.wanted ≡ wants
-  pub sourced : source_due l ≡ false
-  pub sent : AreSetups l
-  pub notices : PushesOf heard mine l
-
--- a connection whose link is up and not set up, so that no message of a request has started
-pub record IsUnready (created : ℕ) (life : Life) (started : List ℕ) : Type 0 where
-  pub bare : link_in life ≡ no_link
-  pub none : started ≡ []
-  pub unready : is_life_ready life ≡ false
-  pub alive : has_ended life ≡ false
-  pub there : is_resting life ≡ false
 
 -- it is closed
 pub setup_stands : (before : List Action) (c : Core) (started : List ℕ) (word : ℕ) (kind : EventKind) (n : News) (x : RedisError) → Between before c started → is_bad c kind ≡ false → IsNewsKind c.timers kind → news_of c.timers c.sources c.single.link kind ≡ n

@@ -23,15 +23,18 @@ use Rattle.shared_session.specs.declared.core_state.Core.{Core}
 use Rattle.shared_session.specs.Turn.{with_work, is_bad}
 use Rattle.legal_trace.specs.Ledger.{Ledger, authorized_by, by_opening, ending, lacks_credentials, setup_count}
 use Rattle.legal_trace.specs.Book.{book, hearing_in}
-use Rattle.session_laws.proofs.Links.Server.{AreSetups, on_link}
-use Rattle.session_laws.proofs.Ties.Tied.{has_ended, inner, link_in}
-use Rattle.session_laws.proofs.Links.Creds.{awaited_is, has_credentials, none_awaited, unawaited_is, wanting_awaits}
-use Rattle.session_laws.proofs.Links.Said.{PushesOf, ready_heard, setting_heard, renoticed}
+use Rattle.conn_laws.proofs.Links.Server.{AreSetups, on_link}
+use Rattle.conn_laws.proofs.Ties.Tied.{has_ended, link_in}
+use Rattle.session_laws.proofs.Ties.Tied.{inner}
+use Rattle.conn_laws.proofs.Links.Creds.{awaited_is, has_credentials, none_awaited, unawaited_is, wanting_awaits}
+use Rattle.conn_laws.proofs.Links.Said.{PushesOf, ready_heard, setting_heard, renoticed}
 use Rattle.session_laws.proofs.Ties.States.{Between, HasApplied, HasEffect}
 use Rattle.session_laws.proofs.Turn.Announce.{IsNewsKind, turn_of, turned}
 use Rattle.session_laws.proofs.Turn.Heard.{dialing_quiet, ended_quiet, heard_by, tame_between, resting_quiet}
-use Rattle.session_laws.proofs.Links.End.{Denies, denied_fails, setting_tied, up_tied, wanting_tied, notices_there}
-use Rattle.session_laws.proofs.Links.ComeUp.{IsEarly, IsUpNow, comes_up}
+use Rattle.conn_laws.proofs.Links.End.{Denies}
+use Rattle.session_laws.proofs.Links.End.{denied_fails, setting_tied, up_tied, wanting_tied, notices_there}
+use Rattle.conn_laws.proofs.Links.ComeUp.{IsEarly, IsUpNow}
+use Rattle.session_laws.proofs.Links.ComeUp.{comes_up}
 use Rattle.session_laws.proofs.Links.Connect.{passed_over}
 
 -- they are said to the server

@@ -1,129 +1,74 @@
 -- Bytes come: what they settle is answered, and bytes that begin no value end the link.
-use Rattle.std.proofs.Common.{◌≡◌, inl, inr, ℕ, Bool, true, false, ◌||◌, List, [], ◌∷◌, ◌++◌, length, Some, None, if◌then◌else◌, refl, sym, ap, ◌∙◌, subst, append_assoc, arith, ◌&&◌}
+use Rattle.std.proofs.Common.{◌≡◌, inl, ℕ, Bool, true, false, ◌||◌, List, [], ◌∷◌, ◌++◌, Some, None, if◌then◌else◌, refl, sym, ap, ◌∙◌, subst, arith, ◌&&◌}
 use Rattle.std.specs.List.{AllByRecursion}
 use Rattle.std.proofs.lemmas.List.{append-nil}
 use Rattle.containers.proofs.Choices.{by_test, chosen, taken_if, left_if, not_both, both_left}
 use Rattle.redis_error.specs.declared.redis_error.RedisError.TheVariants as error
-use Rattle.resp_value.specs.Data.{Data}
-use Rattle.resp_read.specs.Values.{is_spoiled, values}
 use Rattle.driver_model.specs.declared.action.Action.{Action}
-use Rattle.driver_model.specs.declared.action.Owner.{Owner}
 use Rattle.driver_model.specs.declared.event.EventKind.{EventKind}
 use Rattle.driver_model.specs.declared.news.LinkFault.TheVariants as fault
 use Rattle.driver_model.specs.News.{came, news_of, News}
-use Rattle.link_core.specs.Dealing.{Dealing, dealing_with, taken_each}
+use Rattle.link_core.specs.Dealing.{Dealing}
 use Rattle.link_core.specs.Link.{LinkState, Reading, read_on, read_with}
 use Rattle.link_core.specs.Ends.{row_hit, queue_closed}
-use Rattle.link_laws.specs.Settles.{settled_ids, wanted, awaited_ids, IsOwed}
-use Rattle.link_laws.specs.Notices.{AreApart, SayTheSame}
+use Rattle.link_laws.specs.Settles.{settled_ids, wanted, IsOwed}
 use Rattle.link_laws.proofs.Notices.{heard_kinds, reads_tell, set_reads, settles_apart}
-use Rattle.link_laws.proofs.Once.{taken_keeps}
 use Rattle.link_laws.proofs.SetUp.{stays_set}
 use Rattle.link_laws.proofs.Settles.{read_owed}
-use Rattle.link_laws.proofs.TiedLink.{ReadsAlike, TiedLink, deals, has_read, has_heard, reads_on, heard_is, read_taken, read_tied}
-use Rattle.sub_tracker.specs.Subscribed.{Request as Call}
+use Rattle.link_laws.proofs.TiedLink.{ReadsAlike, deals, has_read, has_heard, reads_on, heard_is, read_taken, read_tied}
 use Rattle.mux_conn.specs.declared.connection.MultiplexedConnection.{MultiplexedConnection}
 use Rattle.mux_conn.specs.declared.life.Life.{Life}
 use Rattle.mux_conn.specs.declared.life.Life.TheVariants.{Resting, Dialing, Wanting, SettingUp, Ready, Ended}
 use Rattle.mux_conn.specs.declared.request.Request.{Request}
-use Rattle.mux_conn.specs.declared.request.Waiting.{Waiting}
 use Rattle.mux_conn.specs.Connection.{Work, is_ready, is_resting, is_outstanding}
-use Rattle.mux_conn.specs.Requests.{is_open_at, name_at, is_unbegun_at}
+use Rattle.mux_conn.specs.Requests.{is_open_at, name_at}
 use Rattle.mux_conn.specs.Effects.{failed_at, read_to, read_at, read_setup, read_wanting, told_each, numbers_of}
 use Rattle.shared_session.specs.declared.core_state.Core.{Core}
 use Rattle.shared_session.specs.Turn.{with_work, is_bad}
-use Rattle.legal_trace.specs.Ledger.{Ledger, by_fault, bytes_came, ending, ending_up, is_set_up, is_unreadable, Heard, hears, noted}
+use Rattle.legal_trace.specs.Ledger.{Ledger, by_fault, bytes_came, ending, is_unreadable, Heard, hears, noted}
 use Rattle.legal_trace.specs.Story.{Story}
 use Rattle.legal_trace.specs.Book.{Book, book, entered, hearing_in, has_generations}
 use Rattle.legal_trace.specs.Owed.{owed}
-use Rattle.session_laws.proofs.Ties.Numbers.{IsIn, Rising, requests_in, requests_in-append, requests_behind}
-use Rattle.session_laws.proofs.Links.Server.{TiedSetup, AreRenewed, AreSought, IsSetUp, TiedRenewal, on_link, hearing_there}
-use Rattle.session_laws.proofs.Ties.Tied.{inner, link_in, owner_of, queue_ids, IsEntry, TiedLines, AreQueued, TiedWaits, has_ended, Tied, Sound, TiedRounds, HasCourse, AreEarly}
-use Rattle.session_laws.proofs.Links.SetUp.{set_up_hears}
-use Rattle.legal_trace.proofs.Setups.{ends_where_set}
+use Rattle.conn_laws.proofs.Ties.Numbers.{requests_in}
+use Rattle.conn_laws.proofs.Links.Server.{TiedSetup, AreSought, TiedRenewal, on_link, hearing_there}
+use Rattle.conn_laws.proofs.Ties.Tied.{link_in, owner_of, TiedLines, AreQueued, TiedWaits, has_ended, TiedRounds, AreEarly}
+use Rattle.session_laws.proofs.Ties.Tied.{inner, Tied, Sound, HasCourse}
+use Rattle.conn_laws.proofs.Links.SetUp.{set_up_hears}
 use Rattle.legal_trace.proofs.Came.{Came, bytes_are}
-use Rattle.session_laws.proofs.Links.Greeted.{values_all}
-use Rattle.session_laws.proofs.Links.HeardBytes.{all_heard, heard_notices, none_noticed}
-use Rattle.session_laws.proofs.Ties.More.{after_came, after_is}
-use Rattle.session_laws.proofs.Links.ReadSetup.{setup_read, fit_by}
+use Rattle.conn_laws.proofs.Links.HeardBytes.{all_heard, heard_notices, none_noticed}
+use Rattle.conn_laws.proofs.Ties.More.{after_came, after_is}
+use Rattle.conn_laws.proofs.Links.ReadSetup.{fit_by}
+use Rattle.session_laws.proofs.Links.ReadSetup.{setup_read}
 use Rattle.session_laws.proofs.Links.ReadWanting.{wanting_read}
-use Rattle.session_laws.proofs.Ties.States.{IsFit, Between, HasApplied, HasEffect}
-use Rattle.session_laws.proofs.Ties.InLine.{kept_ids, IsInLine}
+use Rattle.session_laws.proofs.Ties.States.{Between, HasApplied, HasEffect}
+use Rattle.conn_laws.proofs.Ties.InLine.{IsInLine}
 use Rattle.session_laws.proofs.Ties.Owes.{in_line}
-use Rattle.session_laws.proofs.Requests.Settle.{seen, trace_of_acts, IsDue, Tells, replied_each, replied_keeps, own_each, AnswersNone}
-use Rattle.session_laws.proofs.Links.Close.{AreInTime, are_in_time, HasEnded, pending_due, ended_applied, parted_moved}
+use Rattle.conn_laws.proofs.Requests.Settle.{IsDue, replied_each, replied_keeps, own_each, AnswersNone}
+use Rattle.session_laws.proofs.Requests.Settle.{seen, trace_of_acts, Tells}
+use Rattle.conn_laws.proofs.Links.Close.{AreInTime, parted_moved}
+use Rattle.session_laws.proofs.Links.Close.{are_in_time, HasEnded, pending_due, ended_applied}
 use Rattle.session_laws.proofs.Turn.Announce.{turn_of, turned, IsNewsKind, announced_sound, first_book, heard_book, heard_is as turn_is, heard_tied_new, StaysQuiet}
 use Rattle.session_laws.proofs.Turn.Heard.{heard_by, lives_as, none_ends, ended_quiet, dialing_quiet, book_kind, book_news, tame_between, resting_quiet, going_awake}
 use Rattle.session_laws.proofs.Links.End.{up_tied, fault_ends, notices_there}
-use Rattle.session_laws.proofs.Links.Took.{queue_waits}
-use Rattle.session_laws.proofs.Links.Told.{retells, well_told}
-use Rattle.session_laws.proofs.Links.Telling.{IsHeard, IsTelling, telling, told_holds, told_leaves, unheard_holds}
+use Rattle.conn_laws.proofs.Links.Took.{queue_waits}
+use Rattle.conn_laws.proofs.Links.Telling.{told_leaves}
+use Rattle.session_laws.proofs.Links.Telling.{IsTelling, telling, told_holds, unheard_holds}
 use Rattle.link_core.specs.declared.message.NoticeAt.{NoticeAt}
 use Rattle.link_core.specs.declared.message.Settled.{Settled}
 use Rattle.session_laws.proofs.Ties.Names.{request_not}
-use Rattle.session_laws.proofs.Internal.Replies.{read_renewed}
-use Rattle.mux_conn.specs.declared.renewal.Renewal.{Renewal}
+use Rattle.conn_laws.proofs.Internal.Replies.{read_renewed}
 use Rattle.driver_model.specs.declared.hearing.Hearing.{Hearing}
 use Rattle.driver_model.specs.declared.hearing.Hearing.TheVariants as hearing
 use Rattle.driver_model.specs.declared.news.LinkFault.{LinkFault}
 use Rattle.driver_model.specs.Hearing.{felt, hears_something}
-use Rattle.session_laws.proofs.Internal.Own.{again_after, answered_after, fresh_after, has_repeat, own_done, own_is}
+use Rattle.conn_laws.proofs.Internal.Own.{again_after, answered_after, fresh_after, has_repeat, own_done, own_is}
 use Rattle.session_laws.proofs.Internal.Served.{served_rounds, served_waits}
-use Rattle.session_laws.proofs.Internal.Serving.{unserved_before, outstanding_serves}
-use Rattle.session_laws.proofs.Internal.Repeats.{IsRepeated, TiedRepeat, serves}
-use Rattle.session_laws.proofs.Internal.Resubscribed.{read_repeated}
+use Rattle.conn_laws.proofs.Internal.Serving.{unserved_before, outstanding_serves}
+use Rattle.conn_laws.proofs.Internal.Repeats.{IsRepeated, TiedRepeat, serves}
+use Rattle.conn_laws.proofs.Internal.Resubscribed.{read_repeated}
 use Rattle.mux_conn.specs.declared.again.Again.{Again}
 use Rattle.mux_conn.specs.declared.again.Again.TheVariants as again
-use Rattle.session_laws.proofs.Requests.Rounded.{placed_begun}
-use Rattle.session_laws.proofs.Ties.Ahead.{placed_open}
-use Rattle.link_core.specs.declared.message.Entry.{Entry}
-
--- values that are taken leave entries as they are, but for what they got
-taken_entries : (requests : List Request) (h : Hearing) (d : Dealing) (vs : List Data) → AllByRecursion (IsEntry requests) d.row → AllByRecursion (IsEntry requests) (taken_each h true d vs).row
-taken_entries requests h d vs all = values_all (IsEntry requests) (λ e item k. elim k [ inl r ↦ inl (record { below = r.below; placed_at = r.placed_at }) | inr a ↦ inr (record { is = a.is; awaited_is = a.awaited_is; shape_is = a.shape_is }) ]) h true d vs all
-
--- those that bytes settle, and those still wanted, are those wanted before
-read_wanted : (h : Hearing) (link : LinkState) (piece : List ℕ) → settled_ids (deals h true link piece).out ++ wanted (deals h true link piece).row ≡ wanted link.row
-read_wanted h link piece = taken_keeps h true (dealing_with link.row) (values (link.rest ++ piece))
-
--- so it is of requests
-read_asked : (h : Hearing) (link : LinkState) (piece : List ℕ) → requests_in (settled_ids (deals h true link piece).out) ++ requests_in (wanted (deals h true link piece).row) ≡ requests_in (wanted link.row)
-read_asked h link piece = sym (requests_in-append (settled_ids (deals h true link piece).out) (wanted (deals h true link piece).row)) ∙ ap requests_in (read_wanted h link piece)
-
--- the lines, with those that are to be answered
-read_lines : (story : ℕ → Story) (requests : List Request) (h : Hearing) (link : LinkState) (piece : List ℕ) (waiting admitted : List Waiting) (started : List ℕ) → TiedLines story requests link waiting admitted [] started
-    → TiedLines story requests (has_read h true link piece) waiting admitted (requests_in (settled_ids (deals h true link piece).out)) started
-read_lines story requests h link piece waiting admitted started k =
-    let ids = requests_in (settled_ids (deals h true link piece).out) in
-    let rows = requests_in (wanted (deals h true link piece).row) in
-    let queue = awaited_ids link.queue in
-    record {
-      line = k.line;
-      queued = k.queued;
-      entries = taken_entries requests h (dealing_with link.row) (values (link.rest ++ piece)) k.entries;
-      packs = k.packs;
-      packed_in = k.packed_in;
-      there = λ p e. elim (k.there p e) [
-        | inl i ↦ inl (subst (λ ns. IsIn p ns) (ap (λ ns. ns ++ queue) (sym (read_asked h link piece)) ∙ append_assoc ids rows queue) i)
-        | inr w ↦ inr w
-      ];
-    }
-
--- and are in line
-read_in_line : (requests : List Request) (h : Hearing) (link : LinkState) (piece : List ℕ) (admitted waiting : List Waiting) → IsInLine requests link admitted waiting [] → IsInLine requests (has_read h true link piece) admitted waiting (requests_in (settled_ids (deals h true link piece).out))
-read_in_line requests h link piece admitted waiting r =
-    let ids = requests_in (settled_ids (deals h true link piece).out) in
-    let rows = requests_in (wanted (deals h true link piece).row) in
-    let later = queue_ids link.queue ++ kept_ids admitted waiting in
-    subst (λ ns. Rising 0 ns (length requests)) (ap (λ ns. ns ++ later) (sym (read_asked h link piece)) ∙ append_assoc ids rows later) r
-
--- what ends the link is what can't be read on
-read_ending : (after : Ledger) (told : ℕ) (piece : List ℕ) → after.heard ≡ came piece → after.up ≡ true → is_set_up after ≡ true → ending (retells after told after.parted) ≡ (if is_unreadable after then Some (by_fault (felt after.hearing fault.Parse)) else None)
-read_ending after told piece heard up well = ends_where_set (retells after told after.parted) up (well_told after told after.parted ∙ well) ∙ ap (ending_up (retells after told after.parted)) heard
-
--- a link that is not broken is fit
-read_fit : (size bound : ℕ) (h : Hearing) (link : LinkState) (piece : List ℕ) → IsFit size bound link → (has_read h true link piece).broken ≡ false → (x : LinkState) → Ready (has_read h true link piece) ≡ Ready x → IsFit size bound x
-read_fit size bound h link piece fit sound x e = let same : has_read h true link piece ≡ x = cc in subst (IsFit size bound) same (record { sound = sound; size_is = fit.size_is; bound_is = fit.bound_is; within = fit.within })
+use Rattle.conn_laws.proofs.Links.Read.{IsReadUp, none_wanted, read_asked, read_ending, read_fit, read_in_line, read_lines, unread_is}
 
 -- what the link of a connection has taken of bytes that come
 abbrev deals_of : Core → LinkState → List ℕ → Dealing
@@ -139,20 +84,6 @@ reads c link piece = record { conn = lives_as c (Ready (read_of c link piece)); 
 
 -- the link that is up
 --
--- what bytes that came on it leave is what its ledger has taken
-record IsReadUp (l after : Ledger) (requests : List Request) (read : LinkState) (d : Dealing) (r : Renewal) (a : Again) (calls : List Call) : Type 0 where
-  pub tied : TiedLink (owner_of requests) after read
-  pub well : IsSetUp after
-  pub renewed : AreRenewed after (replied_each r d.out)
-  pub repeated : IsRepeated after calls r.within (again_after (is_outstanding a) a d.out)
-  pub owed : AllByRecursion (IsOwed (owner_of requests) after) d.out
-  pub heard : List Heard
-  pub notices : after.notices ≡ l.notices ++ heard
-  pub same : SayTheSame d.notices heard
-  pub there : AllByRecursion (IsHeard after) heard
-  pub apart : AreApart (owner_of requests) after d.notices heard 0 d.out
-  pub strange : after.strange ≡ d.strange
-
 -- so it is
 reads_up : (before : List Action) (c : Core) (started : List ℕ) (piece : List ℕ) (link : LinkState) → Between before c started → c.single.connection.life ≡ Ready link
     → (let l = (book before).link c.single.link in IsReadUp l (has_heard l piece) c.single.connection.requests (read_of c link piece) (deals_of c link piece) c.single.connection.renewal c.single.connection.again (book before).tracked)
@@ -232,18 +163,6 @@ read_early b c started link piece h e =
     by_reply (λ a fresh. AreEarly conn.requests a (Ready (read_of c link piece))) c (deals_of c link piece)
     (λ goes unserved. cc)
     (λ unserved alive. let k = subst (AreEarly conn.requests conn.again) e h.early unserved refl in record { unbegun = k.unbegun; empty = k.empty })
-
--- where no round has begun, no request's message is in a row
-none_wanted : (requests : List Request) (row : List Entry) → AllByRecursion (IsEntry requests) row → ((p : ℕ) → is_open_at requests p ≡ true → is_unbegun_at requests p ≡ true) → requests_in (wanted row) ≡ []
-none_wanted requests [] entries unbegun = refl
-none_wanted requests (e ∷ es) entries unbegun = by_awaited e.awaited refl (none_wanted requests es entries.1 unbegun)
-  where
-    by_awaited : (x : Bool) → e.awaited ≡ x → requests_in (wanted es) ≡ [] → requests_in ((if x then e.id ∷ [] else []) ++ wanted es) ≡ []
-    by_awaited false is rest = rest
-    by_awaited true is rest = elim entries.0 [
-      | inl r ↦ let at = r.placed_at is in absurd (not_both (is_unbegun_at requests e.id) (placed_begun requests e.id at) (unbegun e.id (placed_open requests e.id at)))
-      | inr own ↦ requests_behind e.id (wanted es) own.is ∙ rest
-    ]
 
 -- what both are is none where both are
 first_none : (xs ys : List ℕ) → xs ++ ys ≡ [] → xs ≡ []
@@ -392,10 +311,6 @@ read_answered before c started word kind piece link h good k is e it r =
     subst (λ (ns : List NoticeAt). IsTelling front f after owes (name_at conn.requests) (is_open_at conn.requests) (told_each w 0 ns out) [] [] started) (sym (none_noticed conn.hears true link piece n))
     (unheard_holds front f after owes (name_at conn.requests) (is_open_at conn.requests) w 0 out started q.due
     (begun [] (subst (λ (x : Ledger). IsTelling front f x owes (name_at conn.requests) (is_open_at conn.requests) (own_done w out) [] (requests_in (settled_ids out) ++ []) started) q.ledger q.telling))))
-
--- what can't be read on is so of the link and of its ledger
-unread_is : (name : ℕ → Owner) (after : Ledger) (read : LinkState) (d : Dealing) → TiedLink name after read → after.strange ≡ d.strange → is_unreadable after ≡ (read.broken || d.strange)
-unread_is name after read d tied strange = (λ i. (ap is_spoiled tied.rest ∙ sym tied.broken) i || strange i)
 
 -- the first of two, where neither is so
 neither : (p q : Bool) → (p || q) ≡ false → p ≡ false

@@ -1,5 +1,5 @@
 -- Bytes come on a link that is set up: its greeting may be answered then.
-use Rattle.std.proofs.Common.{if◌then◌else◌, ◌≡◌, ◌⊎◌, inl, inr, ℕ, suc, ◌<◌, ◌≤◌, ◌==◌, nat_lt, Bool, true, false, ◌&&◌, ◌||◌, not, List, [], ◌∷◌, ◌++◌, length, Option, Some, None, refl, sym, ap, ◌∙◌, subst, arith}
+use Rattle.std.proofs.Common.{if◌then◌else◌, ◌≡◌, inl, inr, ℕ, suc, ◌<◌, ◌≤◌, nat_lt, Bool, true, false, ◌&&◌, ◌||◌, not, List, [], ◌∷◌, ◌++◌, length, Option, Some, None, refl, sym, ap, ◌∙◌, subst, arith}
 use Rattle.std.specs.List.{AllByRecursion}
 use Rattle.containers.proofs.Choices.{by_test, chosen, taken_if, left_if, lt_from, not_both, not_lt_from}
 use Rattle.redis_error.specs.declared.redis_error.RedisError.{RedisError}
@@ -28,7 +28,6 @@ use Rattle.link_core.specs.Dealing.{Dealing, dealing_with}
 use Rattle.link_core.specs.Ends.{row_hit, queue_closed}
 use Rattle.link_core.specs.Link.{LinkState, enqueued, read_on, read_with}
 use Rattle.link_laws.specs.Notices.{SayTheSame}
-use Rattle.link_laws.specs.Greetings.{IsBehind}
 use Rattle.link_laws.proofs.Notices.{heard_kinds, reads_behind, reads_tell}
 use Rattle.link_laws.proofs.SetUp.{all_done, setup_sets}
 use Rattle.link_laws.proofs.TiedLink.{SameNames, TiedLink, deals, enqueued_tied, heard_is, named_tied}
@@ -37,9 +36,9 @@ use Rattle.mux_conn.specs.declared.connection.MultiplexedConnection.{Multiplexed
 use Rattle.mux_conn.specs.declared.life.Greeting.{Greeting}
 use Rattle.mux_conn.specs.declared.life.Greeting.TheVariants as greet
 use Rattle.mux_conn.specs.declared.life.Life.{Life}
-use Rattle.mux_conn.specs.declared.life.Life.TheVariants.{Wanting, SettingUp, Ended, Ready, Resting}
+use Rattle.mux_conn.specs.declared.life.Life.TheVariants.{SettingUp}
 use Rattle.mux_conn.specs.Connection.{Work, acted, is_ready, with_setup, is_resting}
-use Rattle.mux_conn.specs.Effects.{answered_setup, behind_first, broken_at, failed_at, greeted, greeted_by, greeting_error, greeting_queued, has_user, heard_on, judged_by, made_ready, noticed_each, opening_failed, read_setup, set_up_by, sets_up, setup_id, setup_queued, steps_of, told_each, afresh, given_up}
+use Rattle.mux_conn.specs.Effects.{answered_setup, behind_first, broken_at, failed_at, greeted_by, greeting_error, greeting_queued, has_user, heard_on, judged_by, made_ready, noticed_each, opening_failed, read_setup, set_up_by, sets_up, setup_id, setup_queued, steps_of, told_each}
 use Rattle.mux_conn.specs.Requests.{is_open_at, name_at}
 use Rattle.shared_session.specs.declared.core_state.Core.{Core}
 use Rattle.shared_session.specs.Turn.{is_bad, with_work}
@@ -49,84 +48,41 @@ use Rattle.legal_trace.specs.Owed.{owed}
 use Rattle.legal_trace.proofs.Came.{Came, bytes_are}
 use Rattle.legal_trace.proofs.Monitors.{unwatched}
 use Rattle.legal_trace.proofs.Setups.{AreSetups as SetUpsAre, ends_where_set, greeted_more, set_is_greeted}
-use Rattle.session_laws.proofs.Requests.Rounded.{rounds_down, early_on}
-use Rattle.session_laws.proofs.Turn.Announce.{IsNewsKind, turn_of, turned, asked_hear}
-use Rattle.session_laws.proofs.Links.Close.{HasEnded, ended_applied, parted_moved}
-use Rattle.session_laws.proofs.Links.ComeUp.{IsEarly, IsMade, IsReadied, IsShownReady, made_conn, made_is, made_of, makes_ready}
-use Rattle.session_laws.proofs.Links.Creds.{has_credentials, has_sourced}
-use Rattle.session_laws.proofs.Links.End.{IsSetting, fault_ends, opening_error_is, setting_tied, setting_unready, notices_there}
-use Rattle.session_laws.proofs.Links.Failing.{Fails, given_up_ended}
+use Rattle.conn_laws.proofs.Requests.Rounded.{rounds_down, early_on}
+use Rattle.conn_laws.proofs.Turn.Announce.{asked_hear}
+use Rattle.session_laws.proofs.Turn.Announce.{IsNewsKind, turn_of, turned}
+use Rattle.conn_laws.proofs.Links.Close.{parted_moved}
+use Rattle.session_laws.proofs.Links.Close.{HasEnded, ended_applied}
+use Rattle.conn_laws.proofs.Links.ComeUp.{IsEarly, IsMade, made_conn, made_is, made_of}
+use Rattle.session_laws.proofs.Links.ComeUp.{IsReadied, IsShownReady, makes_ready}
+use Rattle.conn_laws.proofs.Links.Creds.{has_credentials, has_sourced}
+use Rattle.conn_laws.proofs.Links.End.{IsSetting, opening_error_is}
+use Rattle.session_laws.proofs.Links.End.{fault_ends, setting_tied, setting_unready, notices_there}
+use Rattle.conn_laws.proofs.Links.Failing.{Fails}
 use Rattle.session_laws.proofs.Links.Retire.{setup_failed}
-use Rattle.session_laws.proofs.Links.Greeted.{IsAnswered, IsReadSet, IsReadUnset, answered_result, due_same, few_rows, full_row, full_settled, open_still, reads_answered, repeats_first, sent_last, set_unwatched, sets_of, settled_last, setup_full, setup_last, still_awaited, still_full, unset_of, watch_answered, watch_full, watch_last, watch_sets}
-use Rattle.session_laws.proofs.Turn.Heard.{heard_by, none_ends, none_hears, quiet_applied, setting_fit, setting_waits, tame_between, hushed_there, going_awake}
-use Rattle.session_laws.proofs.Links.HeardBytes.{all_heard, heard_notices, none_noticed, quiet_notices, unset_unreadable}
-use Rattle.session_laws.proofs.Links.Judged.{judged_memory}
-use Rattle.session_laws.proofs.Ties.More.{after_came, after_is}
+use Rattle.conn_laws.proofs.Links.Greeted.{IsAnswered, IsReadSet, IsReadUnset, answered_result, due_same, few_rows, full_row, full_settled, open_still, reads_answered, repeats_first, sent_last, set_unwatched, sets_of, settled_last, setup_full, setup_last, still_awaited, still_full, unset_of, watch_answered, watch_full, watch_last, watch_sets}
+use Rattle.conn_laws.proofs.Turn.Heard.{none_hears, setting_fit, setting_waits}
+use Rattle.session_laws.proofs.Turn.Heard.{heard_by, none_ends, quiet_applied, tame_between, hushed_there, going_awake}
+use Rattle.conn_laws.proofs.Links.HeardBytes.{all_heard, heard_notices, none_noticed, quiet_notices, unset_unreadable}
+use Rattle.conn_laws.proofs.Links.Judged.{judged_memory}
+use Rattle.conn_laws.proofs.Ties.More.{after_came, after_is}
 use Rattle.session_laws.proofs.Ties.Owes.{in_line}
-use Rattle.session_laws.proofs.Internal.Renewals.{early_renewal}
-use Rattle.session_laws.proofs.Links.Said.{PushesOf, ending_failed, ending_setting, readied, well_readied}
-use Rattle.session_laws.proofs.Links.SameSaid.{greeting_alike, greeting_link, greeting_of, set_alike}
-use Rattle.session_laws.proofs.Links.SetUp.{not_set_up}
+use Rattle.conn_laws.proofs.Internal.Renewals.{early_renewal}
+use Rattle.conn_laws.proofs.Links.Said.{PushesOf, ending_failed, ending_setting, readied, well_readied}
+use Rattle.conn_laws.proofs.Links.SameSaid.{greeting_alike, greeting_link, greeting_of, set_alike}
+use Rattle.conn_laws.proofs.Links.SetUp.{not_set_up}
 use Rattle.session_laws.proofs.Requests.Settle.{seen, trace_of_acts}
-use Rattle.session_laws.proofs.Ties.States.{Between, HasEffect, IsFit, IsFitIn}
-use Rattle.session_laws.proofs.Links.Telling.{IsTelling, heard_readied, telling, told_holds, told_leaves}
-use Rattle.session_laws.proofs.Links.Server.{IsGreeting, IsSetUp, IsSettingUp, IsSetupDue, IsSetupSent, IsWatchDue, IsWatchSent, IsWatching, TiedCreds, TiedSetup, greeting_at, watch_queued, hearing_there, on_link}
-use Rattle.session_laws.proofs.Ties.Tied.{AreQueued, TiedLife, TiedLines, TiedWaits, greeter, has_ended, inner, link_in, owner_of, HasCourse}
-use Rattle.session_laws.proofs.Links.Told.{retells, well_told}
-use Rattle.driver_model.specs.declared.news.LinkFault.{LinkFault}
-use Rattle.session_laws.proofs.Internal.Serving.{unready_serves}
-use Rattle.session_laws.proofs.Internal.Repeats.{serves}
+use Rattle.conn_laws.proofs.Ties.States.{IsFit}
+use Rattle.session_laws.proofs.Ties.States.{Between, HasEffect}
+use Rattle.conn_laws.proofs.Links.Telling.{heard_readied, told_leaves}
+use Rattle.session_laws.proofs.Links.Telling.{IsTelling, telling, told_holds}
+use Rattle.conn_laws.proofs.Links.Server.{IsGreeting, IsSetUp, IsSettingUp, IsSetupDue, IsSetupSent, IsWatchDue, IsWatchSent, IsWatching, TiedCreds, TiedSetup, greeting_at, watch_queued, hearing_there, on_link}
+use Rattle.conn_laws.proofs.Ties.Tied.{AreQueued, TiedLife, TiedLines, TiedWaits, greeter, has_ended, link_in, owner_of}
+use Rattle.session_laws.proofs.Ties.Tied.{inner, HasCourse}
+use Rattle.conn_laws.proofs.Links.Told.{retells, well_told}
+use Rattle.conn_laws.proofs.Internal.Serving.{unready_serves}
 use Rattle.session_laws.proofs.Internal.Held.{held_hears}
-
--- notices that all stand behind some message
-behind_all : (ps : List NoticeAt) → AllByRecursion IsBehind ps → behind_first ps ≡ ps
-behind_all [] all = refl
-behind_all (p ∷ ps) all = left_if (p.settled == 0) (behind_first ps) (p ∷ ps) all.0
-
--- a connection whose link is up is fit where the link is
-pub fit_by : (c : MultiplexedConnection) (size bound : ℕ) (link : LinkState) → c.size ≡ size → c.boundary ≡ bound → c.life ≡ Ready link → (serves c.life c.again ≡ false → c.admitted ≡ []) → ((x : LinkState) → Ready link ≡ Ready x → IsFit size bound x) → IsFitIn c
-fit_by c size bound link size_is bound_is life nobody h = record {
-  wanting = λ x same. (let no : Ready link ≡ Wanting x = sym life ∙ same in cc);
-  setup = λ x u same. (let no : Ready link ≡ SettingUp x u = sym life ∙ same in cc);
-  link = λ x same. subst (λ n. IsFit n c.boundary x) (sym size_is) (subst (λ n. IsFit size n x) (sym bound_is) (h x (sym life ∙ same)));
-  none = nobody;
-}
-
--- where an opening failed, the link isn't up, and no fault changes what is so
-failed_life : (w : Work) (x : RedisError) → (opening_failed w x).conn.life ≡ Ended x ⊎ (opening_failed w x).conn.life ≡ Resting
-failed_life w x = by_test w.conn.last _ (λ t. inl (given_up_ended w x t)) (λ f. inr (ap (λ (y : Work). y.conn.life) (left_if w.conn.last (given_up w x) (record w { conn = afresh w.conn }) f)))
-
-failed_down : (w : Work) (x : RedisError) → is_ready (opening_failed w x).conn.life ≡ false
-failed_down w x = elim (failed_life w x) [ inl over ↦ ap is_ready over | inr rests ↦ ap is_ready rests ]
-
-failed_stays : (w : Work) (x : RedisError) (f : LinkFault) → (let v = opening_failed w x in failed_at v f v.conn.life ≡ v)
-failed_stays w x f =
-    let v = opening_failed w x in
-    elim (failed_life w x) [ inl over ↦ ap (failed_at v f) over | inr rests ↦ ap (failed_at v f) rests ]
-
--- which greeting it is
---
--- a setup, or MONITOR
-abbrev IsWhich : Ledger → LinkState → Greeting → Type 0
-IsWhich l link greeting = ((greeter greeting ≡ owner.Setup) × IsSettingUp l link greeting) ⊎ ((greeting ≡ greet.Monitor) × IsWatching l link)
-
-which_is : (l : Ledger) (link : LinkState) (greeting : Greeting) → IsGreeting l link greeting → IsWhich l link greeting
-which_is l link greet.WithUser h = inl (refl, h)
-which_is l link greet.WithoutUser h = inl (refl, h)
-which_is l link greet.Monitor h = inr (refl, h)
-
--- a setup that is answered well
-setup_greets : (w : Work) (link : LinkState) (greeting : Greeting) → greeter greeting ≡ owner.Setup → greeted_by w link greeting ≡ greeted w link
-setup_greets w link greet.WithUser own = refl
-setup_greets w link greet.WithoutUser own = refl
-setup_greets w link greet.Monitor own = cc
-
--- what is well is
-well_ready : (r : SetupResult) → is_well (Some r) ≡ true → r ≡ result.Ready
-well_ready result.Ready e = refl
-well_ready result.RepeatWithoutUser e = cc
-well_ready (result.Failed x) e = cc
-well_ready result.NoMemory e = cc
+use Rattle.conn_laws.proofs.Links.ReadSetup.{IsWhich, behind_all, failed_down, failed_stays, fit_by, setup_greets, well_ready, which_is}
 
 -- tests
 --

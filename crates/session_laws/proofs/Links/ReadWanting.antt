@@ -24,23 +24,27 @@ use Rattle.shared_session.specs.Turn.{with_work, is_bad}
 use Rattle.legal_trace.specs.Ledger.{Ledger, by_opening, bytes_came, ending, is_set_up, is_unreadable}
 use Rattle.legal_trace.specs.Book.{Book, book, hearing_in}
 use Rattle.legal_trace.proofs.Came.{Came, bytes_are}
-use Rattle.session_laws.proofs.Requests.Rounded.{rounds_down, early_on}
-use Rattle.session_laws.proofs.Links.Server.{TiedCreds, TiedSetup, on_link}
-use Rattle.session_laws.proofs.Ties.Tied.{AreQueued, TiedLife, TiedLines, TiedWaits, has_ended, inner, link_in, HasCourse, Inner, Tied}
-use Rattle.session_laws.proofs.Links.Creds.{asked_sourced}
+use Rattle.conn_laws.proofs.Requests.Rounded.{rounds_down, early_on}
+use Rattle.conn_laws.proofs.Links.Server.{TiedCreds, TiedSetup, on_link}
+use Rattle.conn_laws.proofs.Ties.Tied.{AreQueued, TiedLife, TiedLines, TiedWaits, has_ended, link_in}
+use Rattle.session_laws.proofs.Ties.Tied.{inner, HasCourse, Inner, Tied}
+use Rattle.conn_laws.proofs.Links.Creds.{asked_sourced}
 use Rattle.session_laws.proofs.Ties.States.{Between, HasEffect}
-use Rattle.session_laws.proofs.Links.Said.{PushesOf, ending_wanting}
-use Rattle.session_laws.proofs.Links.Failing.{Fails}
+use Rattle.conn_laws.proofs.Links.Said.{PushesOf, ending_wanting}
+use Rattle.conn_laws.proofs.Links.Failing.{Fails}
 use Rattle.session_laws.proofs.Links.Retire.{setup_failed}
-use Rattle.session_laws.proofs.Turn.Announce.{IsNewsKind, turn_of, turned, asked_hear}
-use Rattle.session_laws.proofs.Turn.Heard.{heard_by, quiet_applied, tame_between, wanting_fit, wanting_waits, none_hears, hushed_there}
-use Rattle.session_laws.proofs.Links.End.{IsWanting, bare_error_is, wanting_tied, wanting_unready, notices_there}
-use Rattle.session_laws.proofs.Links.Greeted.{IsReadUnset, unset_of}
-use Rattle.session_laws.proofs.Links.HeardBytes.{quiet_notices, unset_unreadable}
-use Rattle.session_laws.proofs.Ties.More.{after_came, after_is}
-use Rattle.session_laws.proofs.Internal.Renewals.{early_renewal}
-use Rattle.session_laws.proofs.Links.SetUp.{lacking_unset}
-use Rattle.session_laws.proofs.Internal.Serving.{unready_serves}
+use Rattle.conn_laws.proofs.Turn.Announce.{asked_hear}
+use Rattle.session_laws.proofs.Turn.Announce.{IsNewsKind, turn_of, turned}
+use Rattle.conn_laws.proofs.Turn.Heard.{wanting_fit, wanting_waits, none_hears}
+use Rattle.session_laws.proofs.Turn.Heard.{heard_by, quiet_applied, tame_between, hushed_there}
+use Rattle.conn_laws.proofs.Links.End.{IsWanting, bare_error_is}
+use Rattle.session_laws.proofs.Links.End.{wanting_tied, wanting_unready, notices_there}
+use Rattle.conn_laws.proofs.Links.Greeted.{IsReadUnset, unset_of}
+use Rattle.conn_laws.proofs.Links.HeardBytes.{quiet_notices, unset_unreadable}
+use Rattle.conn_laws.proofs.Ties.More.{after_came, after_is}
+use Rattle.conn_laws.proofs.Internal.Renewals.{early_renewal}
+use Rattle.conn_laws.proofs.Links.SetUp.{lacking_unset}
+use Rattle.conn_laws.proofs.Internal.Serving.{unready_serves}
 use Rattle.session_laws.proofs.Internal.Held.{held_hears}
 
 -- the course of its link

@@ -26,26 +26,29 @@ use Rattle.legal_trace.specs.Ledger.{Ledger, by_attempt, by_opening, ending, end
 use Rattle.legal_trace.specs.Legal.{AllStand, IsShown, is_attempt, is_by_attempt}
 use Rattle.legal_trace.specs.Owed.{owed_unstarted, owed_by}
 use Rattle.legal_trace.specs.Story.{Story}
-use Rattle.session_laws.proofs.Turn.Announce.{turn_of, turned, IsNewsKind, aims_on, heard_book, uses_on, asked_hear, heard_starts, first_book, heard_is, others_heard, uses_hear}
-use Rattle.session_laws.proofs.Ties.Aside.{aside_ends, not_up_ends, over_not_asked}
+use Rattle.conn_laws.proofs.Turn.Announce.{asked_hear, heard_starts, uses_hear}
+use Rattle.session_laws.proofs.Turn.Announce.{turn_of, turned, IsNewsKind, aims_on, heard_book, uses_on, first_book, heard_is, others_heard}
+use Rattle.conn_laws.proofs.Ties.Aside.{aside_ends, not_up_ends, over_not_asked}
 use Rattle.session_laws.proofs.Internal.Served.{numbers_is}
 use Rattle.session_laws.proofs.Managers.Comes.{tied_live}
-use Rattle.session_laws.proofs.Links.Creds.{down_sourced}
-use Rattle.session_laws.proofs.Links.Failing.{IsUnready, waiters_owed, Fails, failing_applied, setup_fails, setup_stands}
-use Rattle.session_laws.proofs.Requests.Going.{undue_asked}
-use Rattle.session_laws.proofs.Ties.Numbers.{IsIn}
-use Rattle.session_laws.proofs.Internal.Renewals.{down_renewed_due, early_renewal}
+use Rattle.conn_laws.proofs.Links.Creds.{down_sourced}
+use Rattle.conn_laws.proofs.Links.Failing.{IsUnready, Fails}
+use Rattle.session_laws.proofs.Links.Failing.{waiters_owed, failing_applied, setup_fails, setup_stands}
+use Rattle.conn_laws.proofs.Requests.Going.{undue_asked}
+use Rattle.conn_laws.proofs.Ties.Numbers.{IsIn}
+use Rattle.conn_laws.proofs.Internal.Renewals.{down_renewed_due, early_renewal}
 use Rattle.session_laws.proofs.Requests.Settle.{trace_of_acts, book_of_more}
 use Rattle.session_laws.proofs.Ties.States.{Between, HasRetired, HasEffect}
-use Rattle.session_laws.proofs.Ties.Tied.{AreAside, AreUses, IsAside, IsRetiring, Tied, TiedLines, inner, link_in, no_link, AreAimed}
+use Rattle.conn_laws.proofs.Ties.Tied.{AreAside, AreUses, IsAside, TiedLines, link_in, no_link}
+use Rattle.session_laws.proofs.Ties.Tied.{IsRetiring, Tied, inner, AreAimed}
 use Rattle.legal_trace.specs.Managers.{is_lazy}
 use Rattle.connection_info.specs.declared.address.RedisConnectionInfo.{RedisConnectionInfo}
 use Rattle.session_laws.proofs.Turn.Heard.{going_awake, heard_by, book_news, book_kind}
-use Rattle.session_laws.proofs.Ties.Owes.{get_behind, is_asked}
-use Rattle.session_laws.proofs.Links.Said.{PushesOf}
+use Rattle.conn_laws.proofs.Ties.Owes.{get_behind, is_asked}
+use Rattle.conn_laws.proofs.Links.Said.{PushesOf}
 use Rattle.session_laws.proofs.Ties.Kept.{mine_noted, others_kept}
-use Rattle.session_laws.proofs.Internal.Serving.{unready_serves}
-use Rattle.session_laws.proofs.Requests.Rounded.{unbegun_waits}
+use Rattle.conn_laws.proofs.Internal.Serving.{unready_serves}
+use Rattle.conn_laws.proofs.Changes.Requests.{unbegun_waits}
 
 -- the ledger of a link whose opening has failed, where another attempt follows: nothing of it is still to be told
 pub record IsAttempted (l : Ledger) (heard : Hearing) : Type 0 where

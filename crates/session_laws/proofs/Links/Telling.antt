@@ -1,9 +1,8 @@
 -- The notices that came are told, each behind as many of the messages that were settled as it came behind.
-use Rattle.std.proofs.Common.{◌≡◌, inl, inr, ℕ, zero, suc, ◌+◌, ◌<◌, ◌≤◌, ◌==◌, nat_le, nat_lt, Bool, true, false, if◌then◌else◌, List, [], ◌∷◌, ◌++◌, length, drop, Option, Some, None, slice_get, refl, sym, ap, ◌∙◌, subst, arith}
+use Rattle.std.proofs.Common.{◌≡◌, inl, inr, ℕ, suc, ◌+◌, ◌<◌, ◌≤◌, ◌==◌, nat_le, nat_lt, Bool, true, false, if◌then◌else◌, List, [], ◌∷◌, ◌++◌, length, Option, Some, None, refl, sym, ap, ◌∙◌, subst, arith}
 use Rattle.std.specs.List.{AllByRecursion}
-use Rattle.containers.proofs.Choices.{by_test, chosen, le_from, le_test, lt_from, not_both, not_le_from, not_lt_from, left_if}
+use Rattle.containers.proofs.Choices.{by_test, chosen, le_from, not_both, not_le_from, not_lt_from, left_if}
 use Rattle.driver_model.specs.declared.action.Action.{Action}
-use Rattle.driver_model.specs.declared.action.Owner.{Owner}
 use Rattle.driver_model.specs.declared.action.Owner.TheVariants as owner
 use Rattle.driver_model.specs.declared.outcome.Outcome.{Outcome}
 use Rattle.driver_model.specs.declared.outcome.Shape.{Shape}
@@ -17,7 +16,6 @@ use Rattle.link_laws.specs.Settles.{StandsAs, settled_ids, wanted, awaited_ids}
 use Rattle.link_laws.proofs.Started.{row_open}
 use Rattle.mux_conn.specs.declared.act.LinkAct.TheVariants as act
 use Rattle.mux_conn.specs.declared.request.Progress.TheVariants as progress
-use Rattle.mux_conn.specs.declared.request.Request.{Request}
 use Rattle.mux_conn.specs.Connection.{Work}
 use Rattle.mux_conn.specs.Effects.{notice_act, noticed, settled_each, told_each, settled_one}
 use Rattle.mux_conn.specs.Requests.{answered, closed, is_open, is_open_at, name_at}
@@ -26,44 +24,36 @@ use Rattle.redis_error.specs.declared.fault_kind.FaultKind.TheVariants as kinds
 use Rattle.redis_error.specs.declared.redis_error.RedisError.TheVariants as error
 use Rattle.driver_model.specs.declared.action.Action.TheVariants as action
 use Rattle.driver_model.specs.declared.outcome.Outcome.TheVariants as outcome
-use Rattle.legal_trace.specs.Ledger.{Ledger, Heard, Line, is_full, is_full_by, noted, noted_each, parts, reached, tells}
+use Rattle.legal_trace.specs.Ledger.{Ledger, Heard, Line, is_full_by, noted, noted_each, parts, tells}
 use Rattle.legal_trace.specs.Story.{Story, Try, bytes_of, last_of, shape}
 use Rattle.legal_trace.specs.Book.{Book, book, entered, if_mine, push_line, blank_book}
 use Rattle.legal_trace.specs.Owed.{owed, owed_to_message, owed_to_try, owed_waiting}
 use Rattle.legal_trace.specs.Legal.{AllStand, IsBefore, IsOpen, MayNotify, MayPushBy, MayStand}
-use Rattle.session_laws.proofs.Ties.Numbers.{IsIn, Rising, in_either, in_left, in_right, requests_in, request_of, is_own, requests_behind, requests_first}
-use Rattle.session_laws.proofs.Ties.Tied.{Inner, Tied, has_ended, link_in, owner_of, queue_ids, Sound, own_owner}
-use Rattle.session_laws.proofs.Links.Said.{ready_shown, sources_asked, readied}
-use Rattle.session_laws.proofs.Ties.Names.{length_with, name_with, open_within, with_then}
-use Rattle.session_laws.proofs.Ties.InLine.{IsInLine, awaited_in, kept_ids, kept_in, line_of, wanted_in}
-use Rattle.session_laws.proofs.Ties.Owes.{lives, open_request, row_link, stands_started, wanted_entry, open_on}
+use Rattle.conn_laws.proofs.Ties.Numbers.{IsIn, Rising, in_either, in_left, in_right, requests_in, request_of, is_own, requests_behind, requests_first}
+use Rattle.conn_laws.proofs.Ties.Tied.{has_ended, link_in, owner_of, queue_ids, own_owner}
+use Rattle.session_laws.proofs.Ties.Tied.{Inner, Tied, Sound}
+use Rattle.session_laws.proofs.Links.Said.{ready_shown, sources_asked}
+use Rattle.conn_laws.proofs.Changes.Requests.{progress_count as length_with}
+use Rattle.conn_laws.proofs.Ties.Names.{name_with, open_within, with_then}
+use Rattle.conn_laws.proofs.Ties.InLine.{IsInLine, awaited_in, kept_ids, kept_in, line_of, wanted_in}
+use Rattle.conn_laws.proofs.Ties.Owes.{lives, row_link, wanted_entry}
+use Rattle.session_laws.proofs.Ties.Owes.{open_request, stands_started, open_on}
 use Rattle.session_laws.proofs.Ties.Ahead.{later_untried}
 use Rattle.session_laws.proofs.Requests.Answer.{answer_tied, owed_still, skip_tied}
-use Rattle.session_laws.proofs.Links.Told.{current_is, lined, notice_action, notice_tied, retells}
+use Rattle.conn_laws.proofs.Links.Told.{retells}
+use Rattle.session_laws.proofs.Links.Told.{current_is, lined, notice_action, notice_tied}
 use Rattle.session_laws.proofs.Ties.Kept.{mine_noted}
-use Rattle.session_laws.proofs.Requests.Settle.{IsDue, Tells, book_of_more, first_may, leaves_all, leaves_on, Leaves, rest_in_line, seen, settled_holds, settled_leaves, sound_told, trace_of_acts, one_leaves, shown_now, answered_owns, own_each, own_one, own_settled, request_settled, AnswersNone, some_pending}
+use Rattle.conn_laws.proofs.Requests.Settle.{IsDue, rest_in_line, one_leaves, answered_owns, own_each, own_one, own_settled, request_settled, AnswersNone}
+use Rattle.session_laws.proofs.Requests.Settle.{Tells, book_of_more, first_may, seen, settled_holds, sound_told, trace_of_acts, shown_now, some_pending}
 use Rattle.driver_model.specs.declared.hearing.Notice.{Notice}
 use Rattle.driver_model.specs.declared.hearing.Notice.TheVariants as notice
 use Rattle.link_laws.proofs.Notices.{IsNoEnd}
 use Rattle.driver_model.specs.Hearing.{hears_something}
 use Rattle.mux_conn.specs.declared.act.LinkAct.{LinkAct}
 use Rattle.mux_conn.specs.declared.connection.MultiplexedConnection.{MultiplexedConnection}
-use Rattle.session_laws.proofs.Internal.Own.{acted_own, own_leaves}
-
--- the first of what is behind so many
---
--- is the next, and the others are behind it
-pub record IsNextOf (n : ℕ) (hs : List Heard) (h : Heard) (rest : List Heard) : Type 0 where
-  pub within : n + 1 ≤ length hs
-  pub behind : drop (n + 1) hs ≡ rest
-  pub next : slice_get hs n ≡ Some h
-
--- so it is
-next_of : (n : ℕ) (hs : List Heard) (h : Heard) (rest : List Heard) → drop n hs ≡ h ∷ rest → IsNextOf n hs h rest
-next_of zero [] h rest e = cc
-next_of zero (x ∷ xs) h rest e = record { within = omega arith; behind = cc; next = cc }
-next_of (suc n) [] h rest e = cc
-next_of (suc n) (x ∷ xs) h rest e = let r = next_of n xs h rest e in record { within = (let w = r.within in omega arith); behind = (let e : suc n + 1 ≡ suc (n + 1) = omega arith in ap (λ m. drop m (x ∷ xs)) e ∙ r.behind); next = r.next }
+use Rattle.conn_laws.proofs.Internal.Own.{acted_own, own_leaves}
+use Rattle.conn_laws.proofs.Links.Telling.{IsHeard, IsLate, IsOnTime, LeavesOwed, apart_rest, behind_in, late_now, next_of, of_requests, push_leaves_owed, same_push, takes_late, try_of}
+use Rattle.conn_laws.proofs.Changes.Values.{none_told}
 
 -- whose message was full before a notice came
 --
@@ -95,19 +85,6 @@ none_started b p push name none before = no_try before.try (sym (ap last_of none
 
 -- those whose message was not full before a notice came
 --
--- what started as this number
-pub record IsLate (l : Ledger) (name : ℕ → Owner) (push : Heard) (p : ℕ) : Type 0 where
-  pub number : ℕ
-  pub of_shape : Shape
-  pub stands : StandsAs l.starts (name p) of_shape number
-  pub late : is_full_by l push.after number ≡ false
-
--- what takes items still
-takes_late : (l : Ledger) (push : Heard) (k : ℕ) → push.after ≤ length l.dealt → is_full l k ≡ false → is_full_by l push.after k ≡ false
-takes_late l push k within open_is = by_test (is_full_by l push.after k) _
-    (λ t. absurd (not_both (is_full l k) open_is (let far = le_from (reached l (k + 1)) push.after t in le_test (reached l (k + 1)) (length l.dealt) (omega arith))))
-    (λ f. f)
-
 -- so nobody who is open was before it, where those that are to be answered weren't
 none_was : (b : Book) (t : Inner) (push : Heard) → Tied b t → has_ended t.life ≡ false → push.after ≤ length (b.link t.link).dealt → ((p : ℕ) → IsIn p t.pending → p < length t.requests → IsLate (b.link t.link) (owner_of t.requests) push p)
     → (m : ℕ) → IsOpen b m → IsBefore b m push → ⊥
@@ -140,17 +117,6 @@ none_was b t push h alive within pending m asked before =
         let place = subst (λ m. StandsAs ledger.starts (name m) w.entry.shape w.number) w.is w.open_as.place in
         not_both (is_full_by ledger push.after w.number) (takes_late ledger push w.number within w.open_as.takes_more) (before_full b t p w.number w.entry.shape push h l place was)
 
--- one whose message was full before it
-pub record IsOnTime (l : Ledger) (name : ℕ → Owner) (push : Heard) (p : ℕ) : Type 0 where
-  pub number : ℕ
-  pub of_shape : Shape
-  pub stands : StandsAs l.starts (name p) of_shape number
-  pub full : is_full_by l push.after number ≡ true
-
--- the same notice
-same_push : (x y : Heard) → ◌≡◌ {A = Option Heard} (Some x) (Some y) → x ≡ y
-same_push x y e = cc
-
 -- telling
 --
 -- some requests are to be answered, in line, and these notices are still to be told; of the ledger of their link but this has
@@ -169,28 +135,8 @@ pub record IsTelling (before : List Action) (f : Core) (ledger : Ledger) (owes :
 lt_test : (a b : ℕ) → a < b → nat_lt a b ≡ true
 lt_test a b less = by_test (nat_lt a b) _ (λ t. t) (λ f. absurd (let no_less = not_lt_from a b f in omega arith))
 
--- whose message that of a number is, where requests have these names
-abbrev pub try_of : (ℕ → ℕ) → ℕ → Owner
-try_of name p = if is_own p then own_owner p else owner.Try (name p) 0
-
--- what stands so in the ledger does so now
-late_now : (l now : Ledger) (told : ℕ) (name : ℕ → ℕ) (requests : List Request) (push : Heard) (p : ℕ) → now ≡ retells l told l.parted → name_at requests p ≡ name p → IsLate l (try_of name) push p → IsLate now (owner_of requests) push p
-late_now l now told name requests push p is named d =
-    subst (λ (x : Ledger). IsLate x (owner_of requests) push p) (sym is)
-    (record { number = d.number; of_shape = d.of_shape; stands = subst (λ n. StandsAs l.starts (if is_own p then own_owner p else owner.Try n 0) d.of_shape d.number) (sym named) d.stands; late = d.late })
-
 -- a notice that came
 --
--- tells no end, and came behind no more items than there are
-pub record IsHeard (l : Ledger) (h : Heard) : Type 0 where
-  pub kind_is : IsNoEnd h.what
-  pub within : h.after ≤ length l.dealt
-
--- also where one source more is known
-pub heard_readied : (more : Bool) (l : Ledger) (hs : List Heard) → AllByRecursion (IsHeard l) hs → AllByRecursion (IsHeard (readied more l)) hs
-heard_readied more l [] all = tt
-heard_readied more l (h ∷ hs) all = (record { kind_is = all.0.kind_is; within = all.0.within }, heard_readied more l hs all.1)
-
 -- what shows it is the action that tells it
 shown_notice : (f : Core) (acts : List LinkAct) (n : Notice) → shown_now f acts (notice_act n) ≡ notice_action f.single.link n
 shown_notice f acts (notice.Push info) = refl
@@ -236,11 +182,6 @@ notice_may b t (notice.Push info) come here may = subst (λ (x : Bool). MayPushB
 notice_may b t (notice.Message m) come here may = subst (λ k. MayNotify b k (notice.Message m)) (sym here) may
 notice_may b t (notice.Monitor v) come here may = subst (λ k. MayNotify b k (notice.Monitor v)) (sym here) may
 
--- a line that leaves what messages are owed
-pub record LeavesOwed (line : Line) : Type 0 where
-  pub message : (x : Ledger) (n : ℕ) (of_shape : Shape) → owed_to_message (noted x line) n of_shape ≡ owed_to_message x n of_shape
-  pub unstarted : (shut : Bool) (x : Ledger) → owed_waiting shut (noted x line) ≡ owed_waiting shut x
-
 -- what is owed stays
 lined_owed : (b : Book) (l : ℕ) (line : Line) (m : ℕ) → LeavesOwed line → owed (lined b l line) m ≡ owed b m
 lined_owed b l line m leaves = λ i.
@@ -262,11 +203,6 @@ lined_owed b l line m leaves = λ i.
     by_try : (x : Option Try) → owed_to_try (lined b l line) s x ≡ owed_to_try b s x
     by_try None = end_same (b.link s.link) s.link
     by_try (Some t) = message_same (b.link t.link) t.message t.link (shape s)
-
--- as a notice does
-push_leaves_owed : (is : Bool) → LeavesOwed (if is then parts else tells)
-push_leaves_owed true = record { message = λ x n of_shape. refl; unstarted = λ shut x. refl }
-push_leaves_owed false = record { message = λ x n of_shape. refl; unstarted = λ shut x. refl }
 
 pub push_owed : (b : Book) (l : ℕ) (info : PushInfo) (m : ℕ) → owed (entered b (action.Push l info)) m ≡ owed b m
 push_owed b l info m = lined_owed b l (push_line info.kind) m (push_leaves_owed (is_disconnection info.kind))
@@ -388,54 +324,8 @@ settled_between before f ledger owes name was w h rest s ss started hears due ea
     telling_so : Work → List ℕ → Type 0
     telling_so x ns = IsTelling before f ledger owes name was x (h ∷ rest) (ns ++ []) started
 
--- a request's number among these
-of_requests : (q : ℕ) (ids : List ℕ) → IsIn q (requests_in ids ++ []) → IsIn q (ids ++ [])
-of_requests q ids i = elim (in_either q (requests_in ids) [] i) [ inl j ↦ in_left q ids [] (request_of q ids j) | inr none ↦ absurd none ]
-
 -- all of them
 --
--- where no notice came they are answered
-none_told : (w : Work) (n : ℕ) (ss : List Settled) → told_each w n [] ss ≡ settled_each w ss
-none_told w n [] = refl
-none_told w n (s ∷ ss) = refl
-
--- each that stands from this place on was not full before a notice that came at or before it
-behind_in : (name : ℕ → ℕ) (l : Ledger) (p : NoticeAt) (ps : List NoticeAt) (h : Heard) (hs : List Heard) (n j : ℕ) (ss : List Settled) → p.settled ≤ n → n ≤ j → AreApart (try_of name) l (p ∷ ps) (h ∷ hs) j ss → (q : ℕ) → IsIn q (settled_ids ss ++ []) → IsLate l (try_of name) h q
-behind_in name l p ps h hs n j [] early behind all q i = absurd i
-behind_in name l p ps h hs n j (s ∷ ss) early behind all q (inl same) = record {
-  number = all.0.number;
-  of_shape = all.0.of_shape;
-  stands = subst (λ m. StandsAs l.starts (try_of name m) all.0.of_shape all.0.number) same all.0.stands;
-  late = sym (all.0.apart 0 p h refl refl) ∙ not_below j p.settled (omega arith);
-}
-  where
-    not_below : (a b : ℕ) → b ≤ a → nat_lt a b ≡ false
-    not_below a b within = by_test (nat_lt a b) _ (λ t. absurd (let less = lt_from a b t in omega arith)) (λ f. f)
-behind_in name l p ps h hs n j (s ∷ ss) early behind all q (inr i) = behind_in name l p ps h hs n (suc j) ss early (omega arith) all.1 q i
-
--- behind the first notice they stand as they did
-apart_rest : (name : ℕ → Owner) (l : Ledger) (p : NoticeAt) (ps : List NoticeAt) (h : Heard) (hs : List Heard) (j : ℕ) (ss : List Settled) → AreApart name l (p ∷ ps) (h ∷ hs) j ss → AreApart name l ps hs j ss
-apart_rest name l p ps h hs j [] all = tt
-apart_rest name l p ps h hs j (s ∷ ss) all = (
-  record { number = all.0.number; of_shape = all.0.of_shape; stands = all.0.stands; owes = all.0.owes; apart = λ i x y at there. all.0.apart (suc i) x y at there },
-  apart_rest name l p ps h hs (suc j) ss all.1,
-)
-
--- a notice leaves the connection
-notice_leaves : (w : Work) (n : Notice) → Leaves w (noticed w n)
-notice_leaves w n = record { size = refl; boundary = refl; life = refl; waiting = refl; admitted = refl; moved = refl; hears = refl; answered = λ e. e }
-
--- what telling leaves
-pub told_leaves : (w : Work) (n : ℕ) (ps : List NoticeAt) (ss : List Settled) → Leaves w (told_each w n ps ss)
-told_leaves w n [] [] = leaves_all w
-told_leaves w n [] (s ∷ ss) = settled_leaves w (s ∷ ss)
-told_leaves w n (p ∷ ps) [] = leaves_on w (noticed w p.notice) (told_each (noticed w p.notice) n ps []) (notice_leaves w p.notice) (told_leaves (noticed w p.notice) n ps [])
-told_leaves w n (p ∷ ps) (s ∷ ss) =
-    let v = settled_one w s in
-    chosen (Leaves w) (nat_le p.settled n) (told_each (noticed w p.notice) n ps (s ∷ ss)) (told_each v (n + 1) (p ∷ ps) ss)
-    (λ t. leaves_on w (noticed w p.notice) (told_each (noticed w p.notice) n ps (s ∷ ss)) (notice_leaves w p.notice) (told_leaves (noticed w p.notice) n ps (s ∷ ss)))
-    (λ f. leaves_on w v (told_each v (n + 1) (p ∷ ps) ss) (one_leaves w s) (told_leaves v (n + 1) (p ∷ ps) ss))
-
 -- each notice is told in its place, and all else is answered
 pub told_holds : (before : List Action) (f : Core) (ledger : Ledger) (owes : ℕ → Option Outcome) (name : ℕ → ℕ) (was : ℕ → Bool) (w : Work) (n : ℕ) (ps : List NoticeAt) (hs : List Heard) (ss : List Settled) (started : List ℕ) → hears_something w.conn.hears ≡ true → has_ended w.conn.life ≡ false → SayTheSame ps hs
     → AreApart (try_of name) ledger ps hs n ss → AllByRecursion (IsHeard ledger) hs → AllByRecursion (IsDue owes name was) ss → IsTelling before f ledger owes name was (own_each w ss) hs (requests_in (settled_ids ss) ++ []) started → IsTelling before f ledger owes name was (told_each w n ps ss) [] [] started

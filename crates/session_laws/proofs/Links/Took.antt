@@ -1,115 +1,33 @@
 -- Offered bytes were taken.
-use Rattle.std.proofs.Common.{◌≡◌, ℕ, ◌≤◌, Bool, false, List, [], ◌∷◌, ◌++◌, None, ap, refl, subst, take, ◌∙◌, inl}
-use Rattle.containers.proofs.Choices.{chosen}
+use Rattle.std.proofs.Common.{◌≡◌, ℕ, ◌≤◌, false, List, [], ◌∷◌, ◌++◌, ap, refl, subst, ◌∙◌, inl}
 use Rattle.driver_model.specs.declared.action.Action.{Action}
 use Rattle.driver_model.specs.declared.action.Owner.TheVariants as owner
 use Rattle.driver_model.specs.declared.event.EventKind.{EventKind}
 use Rattle.driver_model.specs.News.{took, news_of}
-use Rattle.link_core.specs.Link.{LinkState, wrote_of}
+use Rattle.link_core.specs.Link.{wrote_of}
 use Rattle.link_laws.proofs.TiedLink.{TiedLink, wrote_tied}
-use Rattle.link_laws.specs.Settles.{awaited_ids}
-use Rattle.mux_conn.specs.declared.life.Greeting.{Greeting}
 use Rattle.mux_conn.specs.declared.life.Life.{Life}
 use Rattle.mux_conn.specs.declared.life.Life.TheVariants.{Resting, Dialing, Wanting, SettingUp, Ready, Ended}
-use Rattle.mux_conn.specs.declared.request.Request.{Request}
-use Rattle.mux_conn.specs.declared.request.Waiting.{Waiting}
 use Rattle.mux_conn.specs.Effects.{taken_at, CanTake}
 use Rattle.shared_session.specs.declared.core_state.Core.{Core}
 use Rattle.shared_session.specs.Turn.{with_work, is_bad}
-use Rattle.legal_trace.specs.Ledger.{Ledger, hears, noted, ending}
-use Rattle.legal_trace.specs.Story.{Story}
+use Rattle.legal_trace.specs.Ledger.{hears, noted}
 use Rattle.legal_trace.specs.Book.{book, has_generations, hearing_in}
-use Rattle.mux_conn.specs.declared.renewal.Renewal.{Renewal}
-use Rattle.session_laws.proofs.Requests.Rounded.{rounds_down, early_on}
-use Rattle.session_laws.proofs.Internal.Renewals.{renewal_alike}
-use Rattle.session_laws.proofs.Ties.Numbers.{IsIn}
-use Rattle.session_laws.proofs.Links.Server.{TiedSetup, TiedCreds, TiedRenewal}
-use Rattle.session_laws.proofs.Ties.Tied.{carried, link_in, owner_of, whole_link, TiedLife, TiedLines, AreQueued, TiedWaits, has_ended, greeter, TiedRounds, AreEarly, HasCourse}
-use Rattle.session_laws.proofs.Ties.States.{IsFit, Between, HasApplied}
-use Rattle.session_laws.proofs.Turn.Announce.{turn_of, turned, IsNewsKind, asked_hear}
-use Rattle.session_laws.proofs.Turn.Heard.{quiet_applied, ended_quiet, dialing_quiet, setting_waits, still_none, pushes_still, wanting_waits, resting_quiet, hushed_there, heard_by, repeat_still}
-use Rattle.session_laws.proofs.Links.Said.{mild_end, setup_hears, setup_link, setup_ready, wanting_link, pushes_there}
+use Rattle.conn_laws.proofs.Requests.Rounded.{rounds_down, early_on}
+use Rattle.conn_laws.proofs.Links.Server.{TiedSetup, TiedCreds, TiedRenewal}
+use Rattle.conn_laws.proofs.Ties.Tied.{carried, link_in, owner_of, whole_link, TiedLife, TiedLines, AreQueued, TiedWaits, has_ended, greeter, TiedRounds, AreEarly}
+use Rattle.session_laws.proofs.Ties.Tied.{HasCourse}
+use Rattle.session_laws.proofs.Ties.States.{Between, HasApplied}
+use Rattle.conn_laws.proofs.Turn.Announce.{asked_hear}
+use Rattle.session_laws.proofs.Turn.Announce.{turn_of, turned, IsNewsKind}
+use Rattle.conn_laws.proofs.Turn.Heard.{setting_waits, wanting_waits}
+use Rattle.session_laws.proofs.Turn.Heard.{quiet_applied, ended_quiet, dialing_quiet, still_none, pushes_still, resting_quiet, hushed_there, heard_by, repeat_still}
+use Rattle.conn_laws.proofs.Links.Said.{setup_hears, setup_link, setup_ready, wanting_link, pushes_there}
 use Rattle.mux_conn.specs.Connection.{is_ready, is_resting}
-use Rattle.session_laws.proofs.Internal.Repeats.{serves, TiedRepeat}
-use Rattle.session_laws.proofs.Internal.Serving.{unready_serves}
-use Rattle.mux_conn.specs.declared.again.Again.{Again}
+use Rattle.conn_laws.proofs.Internal.Repeats.{serves, TiedRepeat}
+use Rattle.conn_laws.proofs.Internal.Serving.{unready_serves}
 use Rattle.session_laws.proofs.Internal.Held.{held_hears}
-
--- it need not end
-took_no_end : (l : Ledger) (turn count : ℕ) → ending l ≡ None → ending (noted l (hears turn (took count))) ≡ None
-took_no_end l turn count none =
-    chosen (λ (x : Ledger). ending (record x { heard = took count }) ≡ None) l.up (record l { taken = l.taken ++ take count l.offer; offer = [] }) l
-    (λ t. mild_end l (l.taken ++ take count l.offer) [] (took count) tt none)
-    (λ f. mild_end l l.taken l.offer (took count) tt none)
-
--- and is as far as it was
-took_life : (l : Ledger) (created turn count : ℕ) (link after : LinkState) → TiedLife l created (Ready link) → TiedLife (noted l (hears turn (took count))) created (Ready after)
-took_life l created turn count link after h = chosen (λ (x : Ledger). TiedLife (record x { heard = took count }) created (Ready after)) l.up _ l (λ t. h) (λ f. h)
-
--- also while it waits for credentials
-took_wanting : (l : Ledger) (created turn count : ℕ) (link after : LinkState) → TiedLife l created (Wanting link) → TiedLife (noted l (hears turn (took count))) created (Wanting after)
-took_wanting l created turn count link after h = chosen (λ (x : Ledger). TiedLife (record x { heard = took count }) created (Wanting after)) l.up _ l (λ t. h) (λ f. h)
-
--- and while it is set up
-took_setting : (l : Ledger) (created turn count : ℕ) (link after : LinkState) (greeting : Greeting) → TiedLife l created (SettingUp link greeting) → TiedLife (noted l (hears turn (took count))) created (SettingUp after greeting)
-took_setting l created turn count link after greeting h = chosen (λ (x : Ledger). TiedLife (record x { heard = took count }) created (SettingUp after greeting)) l.up _ l (λ t. h) (λ f. h)
-
--- its credentials have come as far
-took_creds : (l : Ledger) (wants : Bool) (turn count : ℕ) (life : Life) → TiedCreds l.creds wants life → TiedCreds (noted l (hears turn (took count))).creds wants life
-took_creds l wants turn count life h = chosen (λ (x : Ledger). TiedCreds x.creds wants life) l.up (record l { taken = l.taken ++ take count l.offer; offer = [] }) l (λ t. h) (λ f. h)
-
--- and so have new ones
-took_renewal : (l : Ledger) (r : Renewal) (turn count : ℕ) (life : Life) → TiedRenewal l r life → TiedRenewal (noted l (hears turn (took count))) r life
-took_renewal l r turn count life h =
-    let more : Ledger = record l { taken = l.taken ++ take count l.offer; offer = [] } in
-    renewal_alike l (noted l (hears turn (took count))) r life
-    (chosen (λ (x : Ledger). x.creds ≡ l.creds) l.up more l (λ t. refl) (λ f. refl))
-    (chosen (λ (x : Ledger). x.starts ≡ l.starts) l.up more l (λ t. refl) (λ f. refl))
-    (chosen (λ (x : Ledger). x.dealt ≡ l.dealt) l.up more l (λ t. refl) (λ f. refl)) h
-
--- the lines stay
-wrote_lines : (story : ℕ → Story) (requests : List Request) (link : LinkState) (count : ℕ) (waiting admitted : List Waiting) (pending started : List ℕ) → TiedLines story requests link waiting admitted pending started
-    → TiedLines story requests (wrote_of link count) waiting admitted pending started
-wrote_lines story requests link count waiting admitted pending started h = record { line = h.line; queued = h.queued; entries = h.entries; packs = h.packs; packed_in = h.packed_in; there = h.there }
-
--- and so do the waits, on a link with the same queue
-pub queue_waits : (story : ℕ → Story) (requests : List Request) (a : Again) (link after : LinkState) (fresh moved : List ℕ) → ((p : ℕ) → IsIn p (awaited_ids after.queue) → IsIn p (awaited_ids link.queue)) → TiedWaits story requests a (Ready link) fresh moved
-    → TiedWaits story requests a (Ready after) fresh moved
-queue_waits story requests a link after fresh moved same h = record {
-  early = h.early;
-  backoff = λ p w d. cc;
-  connect = λ p w d. cc;
-  creds = λ p x w d. cc;
-  setup = λ p x u w d. cc;
-  resubscribe = λ p x w r goes. h.resubscribe p link w refl goes;
-  permit = λ p x w r none. h.permit p link w refl none;
-  place = h.place;
-  room = λ p i. h.room p (same p i);
-  newer = h.newer;
-  rising = h.rising;
-  no_backoff = λ p i w d. cc;
-  no_connect = λ p i w d. cc;
-  no_creds = λ p x i w d. cc;
-  no_setup = λ p x u i w d. cc;
-  no_resubscribe = λ p x i w r goes. h.no_resubscribe p link i w refl goes;
-  unpermitted = λ p x w r goes. h.unpermitted p link w refl goes;
-  no_permit = λ p x i w r none. h.no_permit p link i w refl none;
-  no_place = h.no_place;
-  seatless = h.seatless;
-  no_room = λ p i r. h.no_room p i (same p r);
-}
-
--- the link is fit
-wrote_fit : (size bound : ℕ) (link : LinkState) (count : ℕ) → IsFit size bound link → (x : LinkState) → Ready (wrote_of link count) ≡ Ready x → IsFit size bound x
-wrote_fit size bound link count h x e = let same : wrote_of link count ≡ x = cc in subst (IsFit size bound) same (record { sound = h.sound; size_is = h.size_is; bound_is = h.bound_is; within = h.within })
-
--- also while it waits for credentials
-wrote_fit_want : (size bound : ℕ) (link : LinkState) (count : ℕ) → IsFit size bound link → (x : LinkState) → Wanting (wrote_of link count) ≡ Wanting x → IsFit size bound x
-wrote_fit_want size bound link count h x e = let same : wrote_of link count ≡ x = cc in subst (IsFit size bound) same (record { sound = h.sound; size_is = h.size_is; bound_is = h.bound_is; within = h.within })
-
--- and while it is set up
-wrote_fit_set : (size bound : ℕ) (link : LinkState) (count : ℕ) (greeting : Greeting) → IsFit size bound link → (x : LinkState) (u : Greeting) → SettingUp (wrote_of link count) greeting ≡ SettingUp x u → IsFit size bound x
-wrote_fit_set size bound link count greeting h x u e = let same : wrote_of link count ≡ x = cc in subst (IsFit size bound) same (record { sound = h.sound; size_is = h.size_is; bound_is = h.bound_is; within = h.within })
+use Rattle.conn_laws.proofs.Links.Took.{queue_waits, took_creds, took_life, took_no_end, took_renewal, took_setting, took_wanting, wrote_fit, wrote_fit_set, wrote_fit_want, wrote_lines}
 
 -- so much was taken of what was offered
 pub took_applied : (before : List Action) (c : Core) (started : List ℕ) (word count : ℕ) (kind : EventKind) → Between before c started → is_bad c kind ≡ false → IsNewsKind c.timers kind → news_of c.timers c.sources c.single.link kind ≡ took count → CanTake c.single.connection.life count

@@ -1,18 +1,14 @@
 -- MONITOR starts on a link whose server is put into monitor mode.
-use Rattle.std.proofs.Common.{List, Some, [], ap, arith, false, inl, inr, length, refl, subst, sym, true, ℕ, ◌+◌, ◌++◌, ◌≤◌, ◌∙◌, ◌∷◌, ◌≡◌, ◌⊎◌, ◌&&◌, slice_get}
-use Rattle.std.proofs.lemmas.List.{length_push}
-use Rattle.std.specs.Prelude.{is_none}
+use Rattle.std.proofs.Common.{List, [], ap, arith, false, inl, inr, length, refl, subst, sym, true, ℕ, ◌++◌, ◌∙◌, ◌∷◌, ◌≡◌, ◌⊎◌}
 use Rattle.containers.proofs.Choices.{by_test, left_if, not_both, taken_if}
-use Rattle.driver_model.specs.Hearing.{is_watching}
 use Rattle.driver_model.specs.Shape.{need_of}
 use Rattle.driver_model.specs.declared.action.Action.{Action}
 use Rattle.driver_model.specs.declared.action.Action.TheVariants as action
 use Rattle.driver_model.specs.declared.action.Owner.{Owner}
 use Rattle.driver_model.specs.declared.action.Owner.TheVariants as owner
-use Rattle.link_core.specs.Link.{LinkState, entry_of, holds_back, start_of, started_each, started_one}
-use Rattle.link_core.specs.declared.message.Entry.{Entry}
+use Rattle.link_core.specs.Link.{LinkState, holds_back, start_of, started_each, started_one}
 use Rattle.link_core.specs.declared.message.Queued.{Queued}
-use Rattle.link_laws.proofs.TiedLink.{TiedLink, all_push, begun_tied, queue_tied}
+use Rattle.link_laws.proofs.TiedLink.{TiedLink, begun_tied, queue_tied}
 use Rattle.link_laws.specs.Starts.{begun}
 use Rattle.mux_conn.specs.Connection.{Work, acted, with_setup}
 use Rattle.mux_conn.specs.Passes.{greeting_act, greets_with, started_at}
@@ -20,79 +16,29 @@ use Rattle.mux_conn.specs.declared.life.Greeting.{Greeting}
 use Rattle.mux_conn.specs.declared.life.Greeting.TheVariants as greet
 use Rattle.mux_conn.specs.declared.life.Life.{Life}
 use Rattle.mux_conn.specs.declared.life.Life.TheVariants.{SettingUp}
-use Rattle.mux_conn.specs.declared.request.Request.{Request}
 use Rattle.shared_session.specs.declared.core_state.Core.{Core}
 use Rattle.legal_trace.specs.Book.{Book, book, entered}
-use Rattle.legal_trace.specs.Ledger.{Ledger, Start, begins, monitor_due, monitor_message, noted, reach, setup_count, setup_due}
+use Rattle.legal_trace.specs.Ledger.{begins, monitor_message, noted, setup_due}
 use Rattle.legal_trace.specs.Legal.{MayWatch, NoneEnds}
-use Rattle.legal_trace.specs.Story.{Story}
-use Rattle.legal_trace.proofs.Monitors.{monitor_begun}
-use Rattle.legal_trace.proofs.Setups.{count_more, greeted_begins, greeted_is_undue}
+use Rattle.legal_trace.proofs.Setups.{greeted_is_undue}
 use Rattle.legal_trace.proofs.Watching.{monitor_has_bytes, watch_is_up, watch_stays}
 use Rattle.session_laws.proofs.Ties.Ahead.{held_by}
 use Rattle.session_laws.proofs.Ties.Entered.{shown_more}
-use Rattle.session_laws.proofs.Requests.Going.{IsGoing, applied_up, going_more, none_ends_mine, none_given, setups_started}
-use Rattle.session_laws.proofs.Turn.Heard.{setting_waits}
+use Rattle.conn_laws.proofs.Requests.Going.{none_given}
+use Rattle.session_laws.proofs.Requests.Going.{IsGoing, applied_up, going_more, none_ends_mine, setups_started}
+use Rattle.conn_laws.proofs.Turn.Heard.{setting_waits}
 use Rattle.session_laws.proofs.Ties.Kept.{mine_noted, others_kept, tied_by}
-use Rattle.session_laws.proofs.Internal.Renewals.{full_begins, none_begins}
-use Rattle.session_laws.proofs.Links.SetUp.{alone_unwatched, begun_open, count_length, setups_begins}
-use Rattle.session_laws.proofs.Links.SetsUp.{HasBegun, greeted_more, none_set_up, setting_on, setup_begun}
+use Rattle.conn_laws.proofs.Internal.Renewals.{none_begins}
+use Rattle.conn_laws.proofs.Links.SetUp.{setups_begins}
+use Rattle.conn_laws.proofs.Links.SetsUp.{none_set_up}
+use Rattle.session_laws.proofs.Links.SetsUp.{HasBegun, setting_on, setup_begun}
 use Rattle.session_laws.proofs.Requests.Settle.{quiet_asks, seen, trace_of_acts}
-use Rattle.session_laws.proofs.Requests.Start.{with_queue}
-use Rattle.session_laws.proofs.Ties.States.{IsFit}
-use Rattle.session_laws.proofs.Links.Server.{IsWatchDue, IsWatching, watch_queued}
-use Rattle.session_laws.proofs.Ties.Tied.{Inner, Tied, TiedTries, numbers_kept}
-use Rattle.session_laws.proofs.Internal.Repeats.{begins_held}
-
--- MONITOR is due
---
--- on a link that is up, and on which it is to start
-pub watch_due : (l : Ledger) (link : LinkState) → l.up ≡ true → IsWatching l link → IsWatchDue l link → monitor_due l ≡ true
-watch_due l link up h due = λ i. up i && h.watches i && h.greeted i && is_none (alone_unwatched l.starts (setup_count l.starts) 0 due.alone i)
-
--- no request's message has started when it has
-tries_watched : (l : Ledger) (story : ℕ → Story) (requests : List Request) (link : ℕ) (started : List ℕ) → is_watching l.hearing ≡ true → started ≡ [] → TiedTries l story requests link started → TiedTries (noted l (begins monitor_message)) story requests link started
-tries_watched l story requests link [] watches none h = record {
-  owners = λ plain. absurd (not_both (is_watching l.hearing) plain watches);
-  greeted = λ w. greeted_more l.starts monitor_message refl (h.greeted w);
-  shapes = λ k p x w i j. cc;
-  tried = λ k p w i. cc;
-  untried = h.untried;
-}
-tries_watched l story requests link (p ∷ ps) watches none h = cc
-
--- the link with MONITOR in its queue, and once it has started
-abbrev queued : LinkState → LinkState
-queued link = with_queue link (watch_queued ∷ [])
-
-abbrev watched : LinkState → LinkState
-watched link = with_queue (begun link watch_queued) []
-
--- the last that started
-last_there : (ss : List Start) (s x : Start) → slice_get (ss ++ s ∷ []) (length ss) ≡ Some x → x ≡ s
-last_there [] s x at = cc
-last_there (y ∷ ss) s x at = last_there ss s x at
-
--- what is known of it once it has started
-watching_next : (l : Ledger) (link : LinkState) → length l.dealt ≤ reach l.starts l.dealt → IsWatchDue l (queued link) → IsWatching l (queued link) → IsWatching (noted l (begins monitor_message)) (watched link)
-watching_next l link within due h =
-    let s = monitor_message in
-    let long = count_length l.starts (setup_count l.starts) due.alone in
-    record {
-      watches = h.watches;
-      greeted = greeted_begins l s refl h.greeted;
-      none = λ t. count_more l.starts s refl ∙ h.none t;
-      stage = inr (record {
-        k = length l.starts;
-        sent = monitor_begun l.starts s 0 (alone_unwatched l.starts (setup_count l.starts) 0 due.alone) refl ∙ ap Some (let same : 0 + length l.starts ≡ length l.starts = omega arith in same);
-        shaped = λ x at. ap (λ (y : Start). y.shape) (last_there l.starts s x at);
-        long = (let more = length_push l.starts s in omega arith);
-        queue = refl;
-        earlier = λ j less. full_begins l s j less ∙ due.answered j (omega arith);
-        open_is = begun_open l s (length l.starts) refl within;
-      });
-      awaited = all_push (λ (e : Entry). e.awaited ≡ true) link.row (entry_of watch_queued) h.awaited refl;
-    }
+use Rattle.conn_laws.proofs.Requests.Start.{with_queue}
+use Rattle.conn_laws.proofs.Ties.States.{IsFit}
+use Rattle.conn_laws.proofs.Links.Server.{IsWatchDue, IsWatching, watch_queued}
+use Rattle.session_laws.proofs.Ties.Tied.{Inner, Tied, numbers_kept}
+use Rattle.conn_laws.proofs.Internal.Repeats.{begins_held}
+use Rattle.conn_laws.proofs.Links.Watches.{queued, tries_watched, watch_due, watched, watching_next}
 
 -- the session
 --

@@ -1,14 +1,13 @@
 -- All bytes of a link are offered.
-use Rattle.std.proofs.Common.{Bool, List, [], ap, arith, false, length, not, refl, subst, sym, true, ℕ, ◌++◌, ◌∙◌, ◌∷◌, ◌≡◌, ◌≢◌, ◌⊎◌, Option, None, Some, is_some}
-use Rattle.std.specs.Prelude.{◌&&◌, ◌==◌}
+use Rattle.std.proofs.Common.{Bool, List, [], ap, arith, false, refl, subst, sym, true, ℕ, ◌∙◌, ◌≡◌, ◌≢◌, ◌⊎◌, Option, None, Some, is_some}
+use Rattle.std.specs.Prelude.{◌==◌}
 use Rattle.containers.proofs.Choices.{by_test, chosen, eq_from, ne_from, not_both}
 use Rattle.driver_model.specs.declared.action.Action.{Action}
 use Rattle.driver_model.specs.declared.action.Action.TheVariants as action
 use Rattle.driver_model.specs.declared.action.Owner.{Owner}
 use Rattle.driver_model.specs.declared.action.Owner.TheVariants as owner
 use Rattle.link_core.specs.Link.{LinkState, holds_back, is_full_beside, offered_of}
-use Rattle.link_core.specs.Outbox.{all_offered, can_offer}
-use Rattle.link_core.specs.declared.outbox.Outbox.{Outbox}
+use Rattle.link_core.specs.Outbox.{can_offer}
 use Rattle.link_laws.proofs.TiedLink.{TiedLink, is_offered, offer_stands, offered_tied}
 use Rattle.mux_conn.specs.Connection.{is_ready, Work, acted, with_link, with_setup, in_front, is_resting}
 use Rattle.mux_conn.specs.Turn.{written, written_at}
@@ -18,28 +17,29 @@ use Rattle.mux_conn.specs.declared.life.Life.{Life}
 use Rattle.mux_conn.specs.declared.life.Life.TheVariants.{Resting, Dialing, Ended, Ready, Wanting, SettingUp}
 use Rattle.shared_session.specs.declared.core_state.Core.{Core}
 use Rattle.legal_trace.specs.Book.{Book, book, entered}
-use Rattle.legal_trace.specs.Ledger.{IsOffered, Ledger, joined, noted, offers}
+use Rattle.legal_trace.specs.Ledger.{IsOffered, noted, offers}
 use Rattle.legal_trace.specs.Legal.{IsMoved, IsWritten, MayWrite, NoneEnds}
 use Rattle.session_laws.proofs.Requests.Going.{is_moved, none_ends_kept, StaysPut}
 use Rattle.session_laws.proofs.Ties.Kept.{mine_noted, others_kept, tied_by}
 use Rattle.session_laws.proofs.Requests.Moved.{HasMoved}
-use Rattle.session_laws.proofs.Turn.Heard.{setting_waits}
-use Rattle.session_laws.proofs.Links.Said.{setup_link, setup_on}
+use Rattle.conn_laws.proofs.Turn.Heard.{setting_waits}
+use Rattle.conn_laws.proofs.Links.Said.{setup_link, setup_on}
 use Rattle.session_laws.proofs.Links.SetsUp.{setting_on}
-use Rattle.session_laws.proofs.Ties.Ahead.{HasSeats}
-use Rattle.session_laws.proofs.Internal.Renewals.{renewal_alike}
+use Rattle.conn_laws.proofs.Ties.Ahead.{HasSeats}
+use Rattle.conn_laws.proofs.Internal.Renewals.{renewal_alike}
 use Rattle.session_laws.proofs.Requests.Settle.{book_of_more, holds_more, seen, trace_of_acts, shown_now}
 use Rattle.session_laws.proofs.Requests.Start.{on_link}
-use Rattle.session_laws.proofs.Links.Took.{queue_waits}
-use Rattle.session_laws.proofs.Ties.States.{IsFit, IsStopped}
-use Rattle.session_laws.proofs.Links.Server.{HasSaid}
-use Rattle.session_laws.proofs.Ties.Tied.{Inner, Tied, TiedLife, carried, has_ended, numbers_kept, owner_of, whole_link, link_in, greeter, IsHeeded}
+use Rattle.conn_laws.proofs.Links.Took.{queue_waits}
+use Rattle.conn_laws.proofs.Ties.States.{IsFit, IsStopped}
+use Rattle.conn_laws.proofs.Links.Server.{HasSaid}
+use Rattle.conn_laws.proofs.Ties.Tied.{TiedLife, carried, has_ended, owner_of, whole_link, link_in, greeter}
+use Rattle.session_laws.proofs.Ties.Tied.{Inner, Tied, numbers_kept, IsHeeded}
 use Rattle.session_laws.proofs.Managers.Comes.{plain_put}
-use Rattle.mux_conn.specs.declared.request.Waiting.{Waiting}
 use Rattle.shared_session.specs.declared.generations.Generations.{Generations}
-use Rattle.session_laws.proofs.Internal.Repeats.{repeat_alike, serves}
-use Rattle.session_laws.proofs.Internal.Serving.{unready_serves}
+use Rattle.conn_laws.proofs.Internal.Repeats.{repeat_alike, serves}
+use Rattle.conn_laws.proofs.Internal.Serving.{unready_serves}
 use Rattle.session_laws.proofs.Internal.Informed.{IsInformed, alike_still, write_alike}
+use Rattle.conn_laws.proofs.Links.Write.{IsOfferedIn, all_offered_can, hushed_in, none_offered, same_link, same_set}
 
 -- an offer
 --
@@ -120,17 +120,6 @@ write_may b t name link others alive tied moved can =
 
 -- what may be offered is
 --
-all_offered_can : (o : Outbox) → can_offer (all_offered o) ≡ false
-all_offered_can o = none_of (length o.unwritten == 0)
-  where
-    none_of : (x : Bool) → (not x && x) ≡ false
-    none_of true = refl
-    none_of false = refl
-
--- a link that is up can't offer, nor can one that is set up
-abbrev pub IsOfferedIn : Life → Type 0
-IsOfferedIn life = can_offer (whole_link life).outbox ≡ false
-
 -- behind that nothing more is done of its own: no generation begins, no link is asked for, and what was shown of generations is heeded
 pub record HasReturned (before : List Action) (f : Core) (w : Work) : Type 0 where
   pub moved : HasMoved before f w
@@ -157,15 +146,6 @@ plain_returned before f w plain h =
     none_informed None none = tt
     none_informed (Some g) none = cc
 
--- where everything was shut down, nobody waits for a link
-pub hushed_in : (life : Life) (waiting : List Waiting) → IsStopped life waiting → is_resting life ≡ true → waiting ≡ []
-hushed_in Resting waiting stopped rests = stopped
-hushed_in Dialing waiting stopped rests = cc
-hushed_in (Wanting link) waiting stopped rests = cc
-hushed_in (SettingUp link greeting) waiting stopped rests = cc
-hushed_in (Ready link) waiting stopped rests = cc
-hushed_in (Ended e) waiting stopped rests = cc
-
 -- another link of the same connection leaves what is heeded
 heeded_alike : (rest : Option ℕ) (failed : Bool) (life now : Life) (m : Option Generations) → is_resting life ≡ false → IsHeeded rest failed life m → IsHeeded rest failed now m
 heeded_alike rest failed life now None there h = tt
@@ -181,10 +161,6 @@ pub moved_book : (before : List Action) (f : Core) (w : Work) → HasReturned be
 moved_book before f w r =
     let h = r.moved in
     is_moved (book (trace_of_acts before f w.acts)) (seen f w.acts w.conn [] h.started) h.holds.tied refl (refl, refl) refl h.ended h.fit.link h.fit.none h.still.held h.still.full h.still.waiting h.still.none_waits (λ over. hushed_in w.conn.life w.conn.waiting (h.hushed over)) r.put h.fit.setup h.still.setup h.seats h.still.repeated h.still.renewed h.still.begun
-
--- the link of a life
-same_link : (link other : LinkState) → Ready link ≡ Ready other → link ≡ other
-same_link link other e = cc
 
 -- all unwritten bytes are offered
 write_shown : (before : List Action) (f : Core) (w : Work) (link : LinkState) → w.conn.life ≡ Ready link → can_offer link.outbox ≡ true → HasReturned before f w → HasWritten before f (acted (with_link w (offered_of link)) (act.Write link.outbox.unwritten))
@@ -227,10 +203,6 @@ write_shown before f w link life can r =
       };
       offered = all_offered_can link.outbox;
     }
-
--- the link of a life that is set up
-same_set : (link other : LinkState) (u v : Greeting) → SettingUp link u ≡ SettingUp other v → link ≡ other
-same_set link other u v e = cc
 
 -- while the link is set up
 write_set_shown : (before : List Action) (f : Core) (w : Work) (link : LinkState) (greeting : Greeting) → w.conn.life ≡ SettingUp link greeting → can_offer link.outbox ≡ true → HasReturned before f w
@@ -277,16 +249,6 @@ write_set_shown before f w link greeting life can r =
   where
     setting_not_ready : (life : Life) (link other : LinkState) (u : Greeting) → life ≡ SettingUp link u → life ≡ Ready other → ⊥
     setting_not_ready life link other u e r = let no : SettingUp link u ≡ Ready other = sym e ∙ r in cc
-
--- what follows a front of nothing is nothing
-none_behind : (xs ys : List ℕ) → xs ++ ys ≡ [] → ys ≡ []
-none_behind [] ys e = e
-none_behind (x ∷ xs) ys e = cc
-
--- a link on which nothing has started has nothing to offer
-none_offered : (l : Ledger) (link : LinkState) → TiedLink (λ (p : ℕ). owner.Setup) l link → l.starts ≡ [] → can_offer link.outbox ≡ false
-none_offered l link tied none =
-    ap (λ (bs : List ℕ). not (length bs == 0) && (link.outbox.offered == 0)) (none_behind l.taken link.outbox.unwritten (tied.sent ∙ ap joined none))
 
 -- the link's one write
 pub written_holds : (before : List Action) (f : Core) (w : Work) → HasReturned before f w → HasWritten before f (written w)

@@ -14,8 +14,6 @@ use Rattle.driver_model.specs.declared.config.Config.TheVariants as variant
 use Rattle.driver_model.specs.Config.{address, buffer_size, connect_timeout, manager_of, manager_settings, permits, is_lazy as waits_for_use}
 use Rattle.driver_model.proofs.Sound.{has_address, is_roomy}
 use Rattle.link_laws.proofs.TiedLink.{fresh_tied}
-use Rattle.mux_conn.specs.Effects.{afresh}
-use Rattle.mux_conn.specs.declared.connection.MultiplexedConnection.{MultiplexedConnection}
 use Rattle.mux_conn.specs.declared.life.Life.TheVariants.{Resting}
 use Rattle.shared_session.specs.Generations.{connect_purposes, connect_timed, dialling, generations_at}
 use Rattle.shared_session.specs.Replay.{IsSound, as_managed, begun_as, connect_asked, connect_timers, first_dialled, first_link, opening_actions, opening_core, single_core, timer_asked}
@@ -23,15 +21,18 @@ use Rattle.shared_session.specs.declared.core_state.Core.{Core}
 use Rattle.legal_trace.specs.Book.{Book, blank_book, book, entered, has_generations}
 use Rattle.legal_trace.specs.Ledger.{blank_ledger}
 use Rattle.legal_trace.specs.Legal.{AllStand, IsSettled, NoneEnds}
-use Rattle.legal_trace.specs.Managers.{is_lazy, settings_in}
+use Rattle.legal_trace.specs.Managers.{is_lazy}
 use Rattle.session_laws.proofs.Managers.Comes.{NoneComes}
 use Rattle.session_laws.proofs.Requests.Going.{is_moved}
-use Rattle.session_laws.proofs.Turn.Opening.{IsSized, opening_between, opening_lines, opening_names, opening_permits, opening_tries, opening_waits, room_sized, turn_shown, unwanted_where_watched}
-use Rattle.session_laws.proofs.Managers.Regenerate.{IsResting, IsHarmless}
+use Rattle.conn_laws.proofs.Turn.Opening.{opening_lines, opening_names, opening_waits}
+use Rattle.session_laws.proofs.Turn.Opening.{IsSized, opening_between, opening_permits, opening_tries, room_sized, turn_shown, unwanted_where_watched}
+use Rattle.conn_laws.proofs.Managers.Regenerate.{IsHarmless}
+use Rattle.session_laws.proofs.Managers.Regenerate.{IsResting}
 use Rattle.session_laws.proofs.Managers.Return.{dials_returned}
 use Rattle.session_laws.proofs.Requests.Settled.{IsBetween, is_settled}
-use Rattle.session_laws.proofs.Ties.States.{IsFitIn, IsStill}
-use Rattle.session_laws.proofs.Ties.Tied.{Tied, TiedCreation, TiedNumbers, inner, owner_of, shown_creation, HasHeeded}
+use Rattle.conn_laws.proofs.Ties.States.{IsFitIn, IsStill}
+use Rattle.conn_laws.proofs.Ties.Tied.{TiedCreation, owner_of, shown_creation}
+use Rattle.session_laws.proofs.Ties.Tied.{Tied, TiedNumbers, inner, HasHeeded}
 use Rattle.session_laws.proofs.Requests.Waits.{IsQuiet}
 use Rattle.session_laws.proofs.Managers.Whole.{flushed_between}
 use Rattle.session_laws.proofs.Links.Write.{is_written}
@@ -40,19 +41,10 @@ use Rattle.session_laws.proofs.Internal.Informed.{HasInformed}
 use Rattle.shared_session.specs.Subscriptions.{no_subscriptions}
 use Rattle.session_laws.proofs.Internal.Subscribes.{nothing_first}
 use Rattle.mux_conn.specs.declared.again.Again.{Again}
+use Rattle.conn_laws.proofs.Managers.Begins.{idle_conn, set_so, waits_so}
 
 -- what a configuration says
 --
--- how the session comes back
-set_so : (config : Config) (settings : ConnectionManagerConfig) → manager_of config ≡ Some settings → settings_in (Some config) ≡ Some settings
-unfolding settings_in
-set_so config settings e = e
-
--- and whether it waits for its first submission
-waits_so : (config : Config) → is_lazy (Some config) ≡ waits_for_use config
-unfolding is_lazy
-waits_so config = refl
-
 -- how long a connect may take, it says of its connection
 bounded_so : (config : Config) (settings : ConnectionManagerConfig) → manager_of config ≡ Some settings → connect_timeout config ≡ settings.connection.connection_timeout
 bounded_so (variant.Single address connection) settings e = cc e
@@ -65,10 +57,6 @@ bounded_so (variant.Monitor address) settings e = cc e
 
 -- before its first link is asked for
 --
--- the connection, which was told that it was created, or wasn't
-abbrev idle_conn : MultiplexedConnection → Bool → MultiplexedConnection
-idle_conn c told = record (afresh c) { rounds = true; told = told }
-
 -- the session, of which so many generations began
 abbrev idle : Config → ConnectionManagerConfig → ConnectionInfo → ℕ → Bool → Core
 idle config settings info number told = record (single_core config) {

@@ -17,10 +17,12 @@ use Rattle.legal_trace.specs.Ledger.{Ledger, cut, is_full}
 use Rattle.legal_trace.specs.Legal.{is_cause}
 use Rattle.legal_trace.specs.Owed.{cut_off_if, owed, owed_to_message, owed_to_try, owed_unstarted, owed_waiting}
 use Rattle.legal_trace.specs.Story.{Story, Try, bytes_of, last_of, shape}
-use Rattle.session_laws.proofs.Ties.Names.{get_some, name_of_some, open_within}
-use Rattle.session_laws.proofs.Ties.Numbers.{IsIn}
-use Rattle.session_laws.proofs.Ties.Owes.{lives, not_empty, request_story}
-use Rattle.session_laws.proofs.Ties.Tied.{AreCalm, Inner, IsRequest, StaysCalm, Tied, has_ended}
+use Rattle.conn_laws.proofs.Ties.Names.{get_some, name_of_some, open_within}
+use Rattle.conn_laws.proofs.Ties.Numbers.{IsIn}
+use Rattle.conn_laws.proofs.Ties.Owes.{lives}
+use Rattle.session_laws.proofs.Ties.Owes.{not_empty, request_story}
+use Rattle.conn_laws.proofs.Ties.Tied.{IsRequest, has_ended}
+use Rattle.session_laws.proofs.Ties.Tied.{AreCalm, Inner, StaysCalm, Tied}
 
 -- lists
 --

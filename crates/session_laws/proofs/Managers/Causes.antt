@@ -18,7 +18,8 @@ use Rattle.legal_trace.specs.Ledger.{End, failure_in, is_fault, is_over}
 use Rattle.legal_trace.specs.Book.{Book, entered, entered_each, faults_in, info_in}
 use Rattle.legal_trace.specs.Legal.{AllStand, current_link, is_cause, is_caused, is_lost_in}
 use Rattle.legal_trace.proofs.Causes.{needs_link}
-use Rattle.session_laws.proofs.Links.Lost.{IsNewEnd, IsOldEnd, heard_kept, new_kept, old_kept}
+use Rattle.conn_laws.proofs.Links.Lost.{IsNewEnd, IsOldEnd}
+use Rattle.session_laws.proofs.Links.Lost.{heard_kept, new_kept, old_kept}
 use Rattle.session_laws.proofs.Ties.Tied.{AreCalm}
 
 -- the errors of a turn

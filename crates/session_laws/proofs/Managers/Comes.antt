@@ -2,7 +2,7 @@
 use Rattle.std.proofs.Common.{◌≡◌, ◌≢◌, ℕ, ◌+◌, ◌-◌, ◌==◌, nat_lt, if◌then◌else◌, Bool, true, false, not, ◌&&◌, ◌||◌, Option, Some, None, is_none, is_some, refl, sym, ap, ◌∙◌, subst, arith}
 use Rattle.std.proofs.Math.Bool.{and-false}
 use Rattle.std.specs.List.{list_any}
-use Rattle.containers.proofs.Choices.{by_test, chosen, left_if, ne_test, not_both, taken_if}
+use Rattle.containers.proofs.Choices.{chosen, left_if, ne_test, not_both, taken_if}
 use Rattle.redis_error.specs.declared.redis_error.RedisError.{RedisError}
 use Rattle.connection_info.specs.declared.address.RedisConnectionInfo.{RedisConnectionInfo}
 use Rattle.connection_info.specs.Protocol.{is_resp3}
@@ -15,14 +15,14 @@ use Rattle.mux_conn.specs.declared.life.Life.{Life}
 use Rattle.mux_conn.specs.declared.life.Life.TheVariants.{Resting, Dialing, Wanting, SettingUp, Ready, Ended}
 use Rattle.shared_session.specs.declared.generations.Generations.{Generations}
 use Rattle.legal_trace.specs.Book.{Book, entered, has_generations, info_in}
-use Rattle.legal_trace.specs.Ledger.{End, Ending, Ledger, ending, is_over, by_shutdown, by_fault, by_opening, by_attempt}
+use Rattle.legal_trace.specs.Ledger.{End, Ending, Ledger, by_shutdown, by_fault, by_opening, by_attempt}
 use Rattle.legal_trace.specs.Legal.{begins_first, current_link, generation_due, is_attempt, is_by_attempt, is_cause, is_caused, is_lost, is_lost_in, link_due, rest_due}
 use Rattle.legal_trace.specs.Managers.{is_lazy}
 use Rattle.legal_trace.specs.Owed.{owed_by, owed_unstarted}
 use Rattle.legal_trace.specs.Story.{Story, is_open, waits}
-use Rattle.session_laws.proofs.Ties.Aside.{not_up_ends}
-use Rattle.session_laws.proofs.Ties.Owes.{is_asked, lives}
-use Rattle.session_laws.proofs.Ties.Tied.{AreCalm, HasCourse, Inner, IsOver, Tied, TiedLife, TiedManager, has_ended, is_begun}
+use Rattle.conn_laws.proofs.Ties.Owes.{is_asked, lives}
+use Rattle.conn_laws.proofs.Ties.Tied.{IsOver, TiedLife, has_ended}
+use Rattle.session_laws.proofs.Ties.Tied.{AreCalm, HasCourse, Inner, Tied, TiedManager, is_begun}
 use Rattle.link_core.specs.Link.{LinkState}
 
 -- no generation begins, and no link is asked for
@@ -84,28 +84,6 @@ course_alike (Wanting state) is_last same end after links link shut manager last
 course_alike (SettingUp state greeting) is_last same end after links link shut manager last opened info address e over h = (h.0, h.1, h.2, e ∙ h.3)
 course_alike (Ready state) is_last same end after links link shut manager last opened info address e over h = (h.0, h.1, h.2, e ∙ h.3)
 course_alike (Ended x) is_last same end after links link shut manager last opened info address e over h = (h.0, h.1, subst (λ (y : Option End). IsOver y shut opened) (sym (over refl)) h.2)
-
--- where there is none, none must end
-pub resting_ends : (l : Ledger) (created : ℕ) (life : Life) → is_resting life ≡ true → TiedLife l created life → ending l ≡ None
-resting_ends l created Resting rests h = not_up_ends l h.1 (ap (λ a. a && not (is_over l)) h.0)
-resting_ends l created Dialing rests h = cc
-resting_ends l created (Wanting link) rests h = cc
-resting_ends l created (SettingUp link greeting) rests h = cc
-resting_ends l created (Ready link) rests h = cc
-resting_ends l created (Ended e) rests h = cc
-
--- nor is it up, or waited for
-pub resting_down : (l : Ledger) (created : ℕ) (life : Life) → is_resting life ≡ true → TiedLife l created life → (l.up ≡ false) × ((l.asked && not (is_over l)) ≡ false)
-resting_down l created Resting rests h = (h.1, ap (λ a. a && not (is_over l)) h.0)
-resting_down l created Dialing rests h = cc
-resting_down l created (Wanting link) rests h = cc
-resting_down l created (SettingUp link greeting) rests h = cc
-resting_down l created (Ready link) rests h = cc
-resting_down l created (Ended e) rests h = cc
-
--- so what must end is there
-pub ends_there : (l : Ledger) (created : ℕ) (life : Life) (why : Ending) → ending l ≡ Some why → TiedLife l created life → is_resting life ≡ false
-ends_there l created life why must h = by_test (is_resting life) _ (λ rests. absurd (let no : ◌≡◌ {A = Option Ending} None (Some why) = sym (resting_ends l created life rests h) ∙ must in cc)) (λ there. there)
 
 -- what is known of a connection whose link goes on: it is the last of all, in a generation, and it says of other attempts what the ledger
 -- does

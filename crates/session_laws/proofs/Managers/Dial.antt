@@ -17,14 +17,15 @@ use Rattle.legal_trace.specs.Book.{Book, entered, hearing_in, info_in, wanted_in
 use Rattle.legal_trace.specs.Ledger.{Line, Start, asks, noted, noted_each, setup_count, again_among}
 use Rattle.legal_trace.specs.Legal.{IsTimed}
 use Rattle.legal_trace.specs.Managers.{is_last, settings_in}
-use Rattle.session_laws.proofs.Ties.Ahead.{waiting_open}
+use Rattle.conn_laws.proofs.Changes.Requests.{waiting_open}
 use Rattle.session_laws.proofs.Ties.Kept.{mine_noted, tied_by}
-use Rattle.session_laws.proofs.Ties.Numbers.{IsIn, Rising, requests_in, rising_right}
-use Rattle.session_laws.proofs.Requests.Rounded.{rounds_down}
-use Rattle.session_laws.proofs.Links.Server.{AreSought, HasSaid, NoneRenewed, TiedRenewal, owners_of, setup_owners}
-use Rattle.session_laws.proofs.Ties.Tied.{AreAimed, AreQueued, HasCourse, IsAside, IsUse, Inner, Tied, TiedLife, TiedLines, carried, has_ended, is_begun, link_in, no_link, owner_of, owners_each, waiting_ids, whole_link}
-use Rattle.session_laws.proofs.Internal.Serving.{unready_serves}
-use Rattle.session_laws.proofs.Internal.Subscribes.{RepeatsNext, asked_repeat}
+use Rattle.conn_laws.proofs.Ties.Numbers.{IsIn, Rising, requests_in, rising_right}
+use Rattle.conn_laws.proofs.Requests.Rounded.{rounds_down}
+use Rattle.conn_laws.proofs.Links.Server.{AreSought, HasSaid, NoneRenewed, TiedRenewal, owners_of, setup_owners}
+use Rattle.conn_laws.proofs.Ties.Tied.{AreQueued, IsAside, IsUse, TiedLife, TiedLines, carried, has_ended, link_in, no_link, owner_of, owners_each, waiting_ids, whole_link}
+use Rattle.session_laws.proofs.Ties.Tied.{AreAimed, HasCourse, Inner, Tied, is_begun}
+use Rattle.conn_laws.proofs.Internal.Serving.{unready_serves}
+use Rattle.conn_laws.proofs.Internal.Subscribes.{RepeatsNext, asked_repeat}
 use Rattle.mux_conn.specs.declared.again.Again.{Again}
 use Rattle.driver_model.specs.Hearing.{is_watching}
 

@@ -1,5 +1,5 @@
 -- A generation begins: of the link before it nothing stays, and the session goes to its next one.
-use Rattle.std.proofs.Common.{◌≡◌, ◌≢◌, inl, inr, ℕ, ◌+◌, ◌^◌, ◌<◌, ◌==◌, true, false, [], length, Option, Some, None, is_some, slice_get, refl, sym, ap, ◌∙◌, subst, arith, List}
+use Rattle.std.proofs.Common.{◌≡◌, ◌≢◌, inl, inr, ℕ, ◌+◌, ◌^◌, ◌<◌, ◌==◌, true, false, [], length, Option, Some, None, is_some, slice_get, refl, sym, ap, ◌∙◌, subst, arith}
 use Rattle.std.specs.List.{AllByRecursion}
 use Rattle.std.specs.Prelude.{option_map, unwrap_or}
 use Rattle.containers.proofs.Choices.{by_test, eq_from, left_if, ne_from, ne_test, not_both}
@@ -9,7 +9,6 @@ use Rattle.driver_model.specs.declared.config.Config.{Config}
 use Rattle.driver_model.specs.declared.outcome.Outcome.TheVariants as outcome
 use Rattle.driver_model.specs.Hearing.{hears_pushes, hears_something}
 use Rattle.link_laws.proofs.TiedLink.{TiedLink}
-use Rattle.mux_conn.specs.declared.again.Again.{Again}
 use Rattle.mux_conn.specs.declared.again.Again.TheVariants as again
 use Rattle.mux_conn.specs.Connection.{is_ready}
 use Rattle.mux_conn.specs.Renewals.{no_renewal}
@@ -22,19 +21,21 @@ use Rattle.shared_session.specs.Generations.{begun_with}
 use Rattle.legal_trace.specs.Ledger.{End, renewals_asked, renewal_count}
 use Rattle.legal_trace.specs.Book.{Book, entered, has_generations}
 use Rattle.legal_trace.specs.Owed.{owed_unstarted}
-use Rattle.session_laws.proofs.Ties.Ahead.{admitted_open, placed_open, waiting_open}
-use Rattle.session_laws.proofs.Requests.Going.{undue_asked}
-use Rattle.session_laws.proofs.Ties.Numbers.{Rising}
+use Rattle.conn_laws.proofs.Ties.Ahead.{admitted_open, placed_open}
+use Rattle.conn_laws.proofs.Changes.Requests.{waiting_open, unbegun_waits}
+use Rattle.conn_laws.proofs.Requests.Going.{undue_asked}
+use Rattle.conn_laws.proofs.Ties.Numbers.{Rising}
 use Rattle.session_laws.proofs.Ties.Owes.{ends_told, notices_told}
-use Rattle.session_laws.proofs.Internal.Renewals.{down_renewed_due}
-use Rattle.session_laws.proofs.Managers.Reopen.{ArePast, HasNoLink, aim_later, at_rest, none_held, use_later}
-use Rattle.session_laws.proofs.Requests.Rounded.{unbegun_waits, early_on}
-use Rattle.session_laws.proofs.Links.Server.{AreSought, HasSaid, NoneRenewed, TiedRenewal}
-use Rattle.session_laws.proofs.Ties.Tied.{AreLate, AreQueued, HasCourse, IsAside, IsPacked, Inner, TiedTries, carried, has_ended, whole_link, Tied, TiedLife, TiedLines, TiedManager, TiedPermits, TiedRounds, TiedStory, TiedWaits, no_link, link_in, waiting_ids}
-use Rattle.session_laws.proofs.Internal.Repeats.{serves}
-use Rattle.session_laws.proofs.Internal.Serving.{unready_serves}
-use Rattle.legal_trace.specs.Story.{Story}
-use Rattle.mux_conn.specs.declared.request.Request.{Request}
+use Rattle.conn_laws.proofs.Internal.Renewals.{down_renewed_due}
+use Rattle.conn_laws.proofs.Managers.Reopen.{none_held}
+use Rattle.session_laws.proofs.Managers.Reopen.{ArePast, HasNoLink, aim_later, at_rest, use_later}
+use Rattle.conn_laws.proofs.Requests.Rounded.{early_on}
+use Rattle.conn_laws.proofs.Links.Server.{AreSought, HasSaid, NoneRenewed, TiedRenewal}
+use Rattle.conn_laws.proofs.Ties.Tied.{AreLate, AreQueued, IsAside, IsPacked, TiedTries, carried, has_ended, whole_link, TiedLife, TiedLines, TiedPermits, TiedRounds, TiedStory, TiedWaits, no_link, link_in, waiting_ids}
+use Rattle.session_laws.proofs.Ties.Tied.{HasCourse, Inner, Tied, TiedManager}
+use Rattle.conn_laws.proofs.Internal.Repeats.{serves}
+use Rattle.conn_laws.proofs.Internal.Serving.{unready_serves}
+use Rattle.conn_laws.proofs.Managers.Generate.{resting_waits}
 
 -- that one begins of these generations
 manager_begins : (config : Option Config) (generation attempts number : ℕ) (m : Option Generations) → number ≢ 0 → TiedManager config generation attempts m → TiedManager config number 0 (option_map (λ g. begun_with g number) m)
@@ -187,32 +188,6 @@ over_begins b t e number h over untold parting few comes one nobody closed some 
 
 -- behind none
 --
--- while the connection has no link, what is subscribed again is of no account for waits
-resting_waits : (story : ℕ → Story) (requests : List Request) (a next : Again) (fresh moved : List ℕ) → TiedWaits story requests a Resting fresh moved → TiedWaits story requests next Resting fresh moved
-resting_waits story requests a next fresh moved h = record {
-  early = h.early;
-  backoff = h.backoff;
-  connect = λ p w e. cc;
-  creds = λ p link w e. cc;
-  setup = λ p link u w e. cc;
-  resubscribe = λ p link w e goes. cc;
-  permit = λ p link w e answered. cc;
-  place = h.place;
-  room = h.room;
-  newer = h.newer;
-  rising = h.rising;
-  no_backoff = h.no_backoff;
-  no_connect = λ p i w e. cc;
-  no_creds = λ p link i w e. cc;
-  no_setup = λ p link u i w e. cc;
-  no_resubscribe = λ p link i w e goes. cc;
-  unpermitted = λ p link w e goes. cc;
-  no_permit = λ p link i w e answered. cc;
-  no_place = h.no_place;
-  seatless = h.seatless;
-  no_room = h.no_room;
-}
-
 -- the first begins of a session that waits for its first submission, where all its permits are free, and all that wait came in this turn
 pub first_begins : (b : Book) (t : Inner) (number : ℕ) → Tied b t → t.life ≡ Resting → t.pending ≡ [] → t.letting ≡ [] → t.moved ≡ [] → t.admitted ≡ [] → t.untold ≡ [] → t.parting ≡ false → t.free ≡ unwrap_or t.limit 0 → t.fresh ≡ waiting_ids t.waiting → (b.link t.link).creds.over ≡ false → number ≢ 0
     → Tied (entered b (action.Generation number)) (at_rest (begun_in t number))

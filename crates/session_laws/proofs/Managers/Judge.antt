@@ -1,9 +1,8 @@
 -- Behind the passes of a turn the session and the book of its trace see the same causes for the next generation.
-use Rattle.std.proofs.Common.{◌≡◌, ◌≢◌, ℕ, ◌+◌, ◌-◌, ◌==◌, Bool, true, false, ◌&&◌, ◌||◌, not, List, [], ◌∷◌, ◌++◌, length, take, Option, Some, None, is_some, slice_get, refl, sym, ap, ◌∙◌, subst, arith}
-use Rattle.containers.proofs.Choices.{by_test, chosen, eq_test, ne_test, not_both, or_right}
+use Rattle.std.proofs.Common.{◌≡◌, ◌≢◌, ℕ, ◌+◌, ◌-◌, ◌==◌, Bool, true, false, ◌&&◌, ◌||◌, not, List, [], ◌∷◌, ◌++◌, length, Option, Some, None, is_some, slice_get, refl, sym, ap, ◌∙◌, subst, arith}
+use Rattle.containers.proofs.Choices.{chosen, eq_test, ne_test, or_right}
 use Rattle.connection_info.specs.Protocol.{is_resp3}
 use Rattle.redis_error.specs.declared.redis_error.RedisError.{RedisError}
-use Rattle.redis_error.specs.declared.redis_error.RedisError.TheVariants as error
 use Rattle.driver_model.specs.declared.action.Action.{Action}
 use Rattle.driver_model.specs.declared.action.Purpose.{Purpose}
 use Rattle.driver_model.specs.declared.action.Purpose.TheVariants as purpose
@@ -11,7 +10,7 @@ use Rattle.driver_model.specs.declared.action.SourceUse.{SourceUse}
 use Rattle.driver_model.specs.declared.event.EventKind.{EventKind}
 use Rattle.driver_model.specs.declared.event.EventKind.TheVariants as event
 use Rattle.driver_model.specs.declared.outcome.Outcome.TheVariants as outcome
-use Rattle.driver_model.specs.News.{News, authorized, came, connected, denied, deserted, dropped, failed, late, overdue, refused, renewed, took, unrenewed, unrepeated, for_link, is_source_of, news_of, of_source, of_timer, renews, silence, shut as down}
+use Rattle.driver_model.specs.News.{News, for_link, is_source_of, news_of, of_source, of_timer, renews, silence, shut as down}
 use Rattle.mux_conn.specs.declared.act.LinkAct.{LinkAct}
 use Rattle.mux_conn.specs.declared.life.Life.{Life}
 use Rattle.mux_conn.specs.declared.life.Life.TheVariants.{Resting, Dialing, Wanting, SettingUp, Ready, Ended}
@@ -19,24 +18,24 @@ use Rattle.shared_session.specs.declared.core_state.Core.{Core}
 use Rattle.shared_session.specs.Generations as machine
 use Rattle.shared_session.specs.Turn.{shown_each}
 use Rattle.legal_trace.specs.Book.{Book, blank_book, book, entered, entered_each, shuts}
-use Rattle.legal_trace.specs.Ledger.{End, Ending, Ledger, authorized_by, awaits_credentials, bytes_came, dials, is_renewal_open, is_repeating, lost_by, may_renew, refused_in, renewed_by, unrenewed_by, unrepeated_by, with_news, by_attempt, by_fault, by_opening, by_shutdown, failure_in, failure_of, hears, is_fault, is_over, noted}
+use Rattle.legal_trace.specs.Ledger.{End, Ledger, is_fault, is_over}
 use Rattle.legal_trace.specs.Legal.{AllStand, current_link, is_caused}
-use Rattle.legal_trace.specs.Owed.{owed_by, owed_unstarted}
-use Rattle.legal_trace.proofs.Ledgers.{dials_from}
+use Rattle.legal_trace.specs.Owed.{owed_unstarted}
 use Rattle.legal_trace.proofs.Plain.{same_some}
 use Rattle.session_laws.proofs.Turn.Announce.{turn_of}
 use Rattle.session_laws.proofs.Managers.Causes.{AreAdded, acts_add, acts_end, acts_stay, caused_is}
 use Rattle.session_laws.proofs.Ties.Entered.{all_stand_behind, book-append, book_more}
-use Rattle.session_laws.proofs.Links.Lost.{IsEndOf, IsNewEnd, IsOldEnd, is_shut_down, new_heard}
-use Rattle.session_laws.proofs.Ties.Owes.{lives}
+use Rattle.conn_laws.proofs.Links.Lost.{IsNewEnd, IsOldEnd, new_heard}
+use Rattle.conn_laws.proofs.Ties.Owes.{lives}
 use Rattle.session_laws.proofs.Ties.Past.{ends_before}
 use Rattle.session_laws.proofs.Ties.States.{Between}
-use Rattle.session_laws.proofs.Ties.Tied.{HasCourse, Inner, IsOver, Tied, TiedLife, has_ended}
-use Rattle.session_laws.proofs.Internal.Repeats.{HasServed, TiedRepeat}
-use Rattle.mux_conn.specs.declared.again.Again.{Again}
+use Rattle.conn_laws.proofs.Ties.Tied.{IsOver, TiedLife, has_ended}
+use Rattle.session_laws.proofs.Ties.Tied.{HasCourse, Inner, Tied}
+use Rattle.conn_laws.proofs.Internal.Repeats.{HasServed, TiedRepeat}
 use Rattle.mux_conn.specs.Connection.{is_outstanding}
 use Rattle.session_laws.proofs.Internal.Informed.{HasInformed, IsInformed, event_informed}
 use Rattle.shared_session.specs.declared.generations.Generations.{Generations}
+use Rattle.conn_laws.proofs.Managers.Judge.{by_fault_alone, failed_so, old_heard, over_life}
 
 -- no shutdown is heard
 --
@@ -75,37 +74,6 @@ news_not_shut timers sources m event.Shutdown other = cc
 
 -- how a link ended
 --
--- one that was set up ended by a fault, while it took requests where it did, where its opening didn't fail and nothing was shut down
-by_fault_alone : (turn : ℕ) (end : End) (e : RedisError) (opened stopped : Bool) (a : Again) → stopped ≡ false → IsEndOf turn end → HasServed (Some end) a → owed_unstarted (Some end) ≡ Some (outcome.Fault e) → IsOver (Some end) stopped opened → (is_fault end.why && end.served) ≡ (opened && not (is_outstanding a))
-by_fault_alone turn end e opened stopped a runs ends serving owes over = by_why end.why refl
-  where
-    failed : (x : RedisError) → end.why ≡ by_opening x → opened ≡ false
-    failed x is = by_test opened _ (λ t. (let no : ◌≡◌ {A = Option RedisError} (Some x) None = sym (ap failure_of is) ∙ over.unfailed t in cc)) (λ f. f)
-
-    well : failure_of end.why ≡ None → opened ≡ true
-    well none = by_test opened _ (λ t. t) (λ f. absurd (over.failed f runs none))
-
-    served : Bool
-    served = not (is_outstanding a)
-
-    by_why : (why : Ending) → end.why ≡ why → (is_fault end.why && end.served) ≡ (opened && served)
-    by_why by_shutdown is = absurd (not_both (is_shut_down end.why) ends.well (ap is_shut_down is))
-    by_why (by_fault f) is = (λ i. is_fault (is i) && serving end refl (ap is_fault is) i) ∙ sym (ap (λ x. x && served) (well (ap failure_of is)))
-    by_why (by_opening x) is = ap (λ why. is_fault why && end.served) is ∙ sym (ap (λ y. y && served) (failed x is))
-    by_why (by_attempt x) is = absurd (none_owed (sym (ap owed_by is) ∙ owes))
-      where
-        none_owed : ◌≡◌ {A = Option outcome.the_data} None (Some (outcome.Fault e)) → ⊥
-        none_owed none = cc
-
--- whether its opening failed is what the session says of it
-failed_so : (end : End) (opened stopped : Bool) → stopped ≡ false → IsOver (Some end) stopped opened → is_some (failure_in (Some end)) ≡ not opened
-failed_so end true stopped runs over = ap is_some (over.unfailed refl)
-failed_so end false stopped runs over = some (failure_of end.why) (over.failed refl runs)
-  where
-    some : (x : Option RedisError) → x ≢ None → is_some x ≡ true
-    some None other = absurd (other refl)
-    some (Some x) other = refl
-
 -- it has ended for both
 ended_so : (l : Ledger) (created : ℕ) (life : Life) → TiedLife l created life → is_over l ≡ machine.has_ended life
 ended_so l created Resting h = ap is_some h.2
@@ -165,40 +133,6 @@ acted_informed before c word kind b acts g h is informed =
 pub runs_on : (before : List Action) (c : Core) (word : ℕ) (kind : EventKind) (b : Book) (acts : List LinkAct) → HasActed before c word kind b acts → b.shut ≡ false → shuts kind ≡ false
 runs_on before c word kind b acts h runs = or_right (book before).shut (shuts kind) (sym (acted_adds before c word kind b acts h).shut ∙ runs)
 
--- a link that has ended hears nothing more
-old_heard : (l : Ledger) (turn : ℕ) (n : News) (end : End) → l.up ≡ false → l.end ≡ Some end → IsOldEnd end (noted l (hears turn n))
-old_heard l turn n end low was = keeps (with_news l turn n) (by_news n)
-  where
-    over : is_over l ≡ true
-    over = ap is_some was
-
-    keeps : (x : Ledger) → IsOldEnd end x → IsOldEnd end (record x { heard = n })
-    keeps x h = record { down = h.down; was = h.was }
-
-    same : IsOldEnd end l
-    same = record { down = low; was = was }
-
-    still : (x : Ledger) → l.up ≡ true → IsOldEnd end x
-    still x up = absurd (not_both l.up low up)
-
-    by_news : (m : News) → IsOldEnd end (with_news l turn m)
-    by_news silence = same
-    by_news connected = chosen (IsOldEnd end) (is_over l) l (record l { up = true }) (λ t. same) (λ f. absurd (not_both (is_over l) f over))
-    by_news (refused f) = chosen (IsOldEnd end) (dials l) (refused_in l turn (error.Io f)) l (λ t. absurd (not_both (is_over l) (dials_from l t).2 over)) (λ d. same)
-    by_news overdue = same
-    by_news (took count) = chosen (IsOldEnd end) l.up (record l { taken = l.taken ++ take count l.offer; offer = [] }) l (λ t. still _ t) (λ f. same)
-    by_news (came piece) = chosen (IsOldEnd end) l.up (bytes_came l piece) l (λ t. still _ t) (λ f. same)
-    by_news (failed f) = same
-    by_news (authorized c) = chosen (IsOldEnd end) (awaits_credentials l) (authorized_by l c) l (λ t. record { down = low; was = was }) (λ f. same)
-    by_news (denied text) = same
-    by_news deserted = same
-    by_news (renewed c) = chosen (IsOldEnd end) (may_renew l) (renewed_by l c) l (λ t. record { down = low; was = was }) (λ f. same)
-    by_news unrenewed = chosen (IsOldEnd end) l.up (unrenewed_by l) l (λ t. still _ t) (λ f. same)
-    by_news (late k) = chosen (IsOldEnd end) (l.up && is_renewal_open l k) (lost_by l) l (λ t. record { down = low; was = was }) (λ f. same)
-    by_news unrepeated = chosen (IsOldEnd end) (is_repeating l) (unrepeated_by l) l (λ t. record { down = low; was = was }) (λ f. same)
-    by_news dropped = same
-    by_news down = same
-
 -- the end of a life
 life_end : (l : Ledger) (created : ℕ) (life : Life) → machine.has_ended life ≡ true → TiedLife l created life → (l.up ≡ false) × ((end : End) × (l.end ≡ Some end))
 life_end l created Resting over h = cc
@@ -211,15 +145,6 @@ life_end l created (Ended e) over h = (h.0, by_end l.end refl h.1)
     by_end : (x : Option End) → l.end ≡ x → owed_unstarted x ≡ Some (outcome.Fault e) → (end : End) × (l.end ≡ Some end)
     by_end None same owes = cc
     by_end (Some end) same owes = (end, same)
-
--- a link that has ended has a life that has
-over_life : (l : Ledger) (created : ℕ) (life : Life) → TiedLife l created life → (l.end ≡ None → ⊥) → (e : RedisError) × (life ≡ Ended e)
-over_life l created Resting h over = absurd (over h.2)
-over_life l created Dialing h over = absurd (over h.2)
-over_life l created (Wanting link) h over = absurd (over h.2)
-over_life l created (SettingUp link greeting) h over = absurd (over h.2)
-over_life l created (Ready link) h over = absurd (over h.2)
-over_life l created (Ended e) h over = (e, refl)
 
 -- a session behind the acts of a turn in which everything wasn't shut down
 pub record IsActed (before : List Action) (c : Core) (started : List ℕ) (word : ℕ) (kind : EventKind) (b : Book) (acts : List LinkAct) (t : Inner) : Type 0 where

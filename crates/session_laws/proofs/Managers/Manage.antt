@@ -33,23 +33,27 @@ use Rattle.legal_trace.specs.Story.{is_open}
 use Rattle.legal_trace.proofs.Moves.{lt_test}
 use Rattle.legal_trace.specs.Ledger.{End}
 use Rattle.legal_trace.specs.Legal.{NoneEnds, begins_first, current_link, generation_due, is_caused, link_due}
-use Rattle.session_laws.proofs.Ties.Ahead.{HasSeats}
+use Rattle.conn_laws.proofs.Ties.Ahead.{HasSeats}
 use Rattle.session_laws.proofs.Managers.Causes.{acts_hear}
 use Rattle.session_laws.proofs.Managers.Comes.{NoneComes, has_begun, has_links}
 use Rattle.session_laws.proofs.Managers.Generate.{begun_in, first_begins, over_begins}
 use Rattle.session_laws.proofs.Requests.Going.{shown_over, shown_resting}
-use Rattle.session_laws.proofs.Ties.InLine.{kept_ids}
+use Rattle.conn_laws.proofs.Ties.InLine.{kept_ids}
 use Rattle.session_laws.proofs.Managers.Judge.{HasActed, IsActed, acted_adds, judged, runs_on, turn_book, acted_informed}
-use Rattle.session_laws.proofs.Ties.Numbers.{IsIn}
-use Rattle.session_laws.proofs.Ties.Owes.{is_asked, open_request}
+use Rattle.conn_laws.proofs.Ties.Numbers.{IsIn}
+use Rattle.conn_laws.proofs.Ties.Owes.{is_asked}
+use Rattle.session_laws.proofs.Ties.Owes.{open_request}
 use Rattle.session_laws.proofs.Ties.Past.{is_past, rest_timed, unended_over}
-use Rattle.session_laws.proofs.Managers.Regenerate.{IsHarmless, manager_is}
+use Rattle.conn_laws.proofs.Managers.Regenerate.{IsHarmless}
+use Rattle.session_laws.proofs.Managers.Regenerate.{manager_is}
 use Rattle.session_laws.proofs.Managers.Reopen.{rest_tied}
 use Rattle.session_laws.proofs.Managers.Return.{HasReturned, at_next, begins_returned, dials_returned}
-use Rattle.session_laws.proofs.Ties.States.{Between, IsFitIn, IsHushed, IsStill}
-use Rattle.session_laws.proofs.Links.Server.{HasSaid}
-use Rattle.session_laws.proofs.Ties.Tied.{ComesBack, HasCourse, HasHeeded, Inner, IsAim, IsHeeded, IsUse, Sound, Tied, TiedLife, TiedLines, has_ended, inner, is_begun, link_in, waiting_ids}
-use Rattle.session_laws.proofs.Internal.Serving.{unready_serves}
+use Rattle.conn_laws.proofs.Ties.States.{IsFitIn, IsStill}
+use Rattle.session_laws.proofs.Ties.States.{Between, IsHushed}
+use Rattle.conn_laws.proofs.Links.Server.{HasSaid}
+use Rattle.conn_laws.proofs.Ties.Tied.{IsUse, TiedLife, TiedLines, has_ended, link_in, waiting_ids}
+use Rattle.session_laws.proofs.Ties.Tied.{ComesBack, HasCourse, HasHeeded, Inner, IsAim, IsHeeded, Sound, Tied, inner, is_begun}
+use Rattle.conn_laws.proofs.Internal.Serving.{unready_serves}
 use Rattle.session_laws.proofs.Internal.Informed.{HasInformed, IsInformed}
 
 -- what a link hears that isn't asked for yet

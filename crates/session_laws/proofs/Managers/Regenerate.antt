@@ -1,14 +1,10 @@
 -- What a manager does of its own may stand, and the session stays tied to its book.
-use Rattle.std.proofs.Common.{◌≡◌, ◌≢◌, ◌⊎◌, inl, inr, ℕ, ◌+◌, ◌==◌, nat_lt, Bool, true, false, ◌&&◌, not, List, [], ◌∷◌, ◌++◌, length, Option, Some, None, is_none, is_some, if◌then◌else◌, refl, sym, ap, ◌∙◌, subst, append_assoc, arith}
+use Rattle.std.proofs.Common.{◌≡◌, ◌≢◌, inl, inr, ℕ, ◌+◌, ◌==◌, nat_lt, Bool, true, false, ◌&&◌, not, List, [], ◌∷◌, ◌++◌, length, Option, Some, None, is_none, is_some, if◌then◌else◌, refl, sym, ap, ◌∙◌, subst, append_assoc, arith}
 use Rattle.std.specs.Prelude.{unwrap_or}
 use Rattle.std.proofs.lemmas.List.{append-nil}
 use Rattle.std.proofs.Math.Nat.{le_refl}
 use Rattle.containers.proofs.Choices.{chosen, eq_from, left_if, ne_test, not_both, taken_if}
-use Rattle.connection_info.specs.declared.address.RedisConnectionInfo.{RedisConnectionInfo}
-use Rattle.redis_error.specs.declared.redis_error.RedisError.TheVariants as error
-use Rattle.driver_model.specs.News.{News, silence, dropped}
 use Rattle.driver_model.specs.Hearing.{hears_messages, is_watching}
-use Rattle.driver_model.specs.declared.hearing.Hearing.{Hearing}
 use Rattle.manager_config.specs.declared.config.ConnectionManagerConfig.{ConnectionManagerConfig}
 use Rattle.manager_config.specs.Backoff.{backoff}
 use Rattle.driver_model.specs.declared.action.Action.{Action}
@@ -24,7 +20,7 @@ use Rattle.shared_session.specs.declared.generations.Generations.{Generations}
 use Rattle.shared_session.specs.Generations.{connect_purposes, connect_timed, is_last, repeat_for}
 use Rattle.legal_trace.specs.Again.{repeats_in}
 use Rattle.legal_trace.specs.Book.{Book, blank_book, book, entered, has_generations, hearing_in, info_in, wanted_in}
-use Rattle.legal_trace.specs.Ledger.{Ending, Ledger, Line, asks, by_opening, ending, ending_alive, ending_asked, is_over, noted, noted_each}
+use Rattle.legal_trace.specs.Ledger.{Line, ending, noted, noted_each}
 use Rattle.legal_trace.specs.Legal.{AllStand, IsApplied, IsShown, IsTimed, MayConnect, MayGenerate, MayRest, MayStand, MayTimeConnect, NoneEnds, begins_first, current_link, generation_due, is_attempt, is_caused, link_due, word_of}
 use Rattle.legal_trace.specs.Managers.{settings_in, is_last as last_in}
 use Rattle.legal_trace.proofs.Moves.{lt_test}
@@ -34,12 +30,15 @@ use Rattle.session_laws.proofs.Managers.Dial.{CanDial, asks_line, dialled_book, 
 use Rattle.session_laws.proofs.Ties.Entered.{all_stand-append, book_more, sound_more}
 use Rattle.session_laws.proofs.Managers.Generate.{begun_in}
 use Rattle.session_laws.proofs.Requests.Going.{applied_up, shown_resting}
-use Rattle.session_laws.proofs.Ties.Names.{get_more}
+use Rattle.conn_laws.proofs.Ties.Names.{get_more}
 use Rattle.session_laws.proofs.Ties.Past.{is_past, unended_over}
 use Rattle.session_laws.proofs.Managers.Reopen.{at_rest, rest_tied, rested_in, rests_tied}
-use Rattle.session_laws.proofs.Ties.Tied.{AreAimed, ComesBack, HasCourse, Inner, IsAim, IsRetiring, IsToldIn, Sound, Tied, TiedLife, TiedManager, has_ended, is_begun}
+use Rattle.conn_laws.proofs.Ties.Tied.{TiedLife, has_ended}
+use Rattle.session_laws.proofs.Ties.Tied.{AreAimed, ComesBack, HasCourse, Inner, IsAim, IsRetiring, IsToldIn, Sound, Tied, TiedManager, is_begun}
 use Rattle.session_laws.proofs.Internal.Informed.{HasInformed}
-use Rattle.session_laws.proofs.Internal.Subscribes.{RepeatsNext, repeats_next}
+use Rattle.conn_laws.proofs.Internal.Subscribes.{RepeatsNext}
+use Rattle.session_laws.proofs.Internal.Subscribes.{repeats_next}
+use Rattle.conn_laws.proofs.Managers.Regenerate.{IsHarmless, asked_ends_not}
 
 -- a session whose generations are these
 --
@@ -174,10 +173,6 @@ link_is_due b t h rests has some awake runs =
     above : (n : ℕ) → n ≢ 0 → nat_lt 0 n ≡ true
     above n other = lt_test 0 n (omega (arith, other))
 
--- a link that goes on hears nothing, or that the stream of messages is dropped
-abbrev pub IsHarmless : News → Type 0
-IsHarmless n = (n ≡ silence) ⊎ (n ≡ dropped)
-
 -- no session that comes back hears messages, or has its server put into monitor mode
 none_messages : (config : Config) (s : ConnectionManagerConfig) → manager_of config ≡ Some s → (hears_messages (hearing_of config) ≡ false) × (is_watching (hearing_of config) ≡ false)
 none_messages (variant.Single address connection) s e = cc
@@ -193,17 +188,6 @@ comes_unheard : (config : Option Config) (s : ConnectionManagerConfig) → setti
 unfolding settings_in
 comes_unheard None s e = cc
 comes_unheard (Some config) s e = none_messages config s e
-
--- so a link that is asked for doesn't end by it
-asked_ends_not : (l : Ledger) (info : RedisConnectionInfo) (wanted : Bool) (hears : Hearing) (last again : Bool) → l.up ≡ false → hears_messages hears ≡ false → IsHarmless l.heard → ending (noted l (asks info wanted hears last again)) ≡ None
-asked_ends_not l info wanted hears last again down deaf harmless =
-    let x = noted l (asks info wanted hears last again) in
-    let none : ending_asked x l.heard ≡ None = elim harmless [
-      | inl e ↦ ap (ending_asked x) e
-      | inr e ↦ ap (ending_asked x) e ∙ left_if (hears_messages hears) (Some (by_opening error.Closed)) None deaf
-    ] in
-    left_if l.up (ending_alive x) (if true && not (is_over x) then ending_asked x l.heard else None) down
-    ∙ chosen (λ (y : Option Ending). y ≡ None) (true && not (is_over x)) (ending_asked x l.heard) None (λ t. none) (λ f. refl)
 
 -- it may be, and is
 pub dials_on : (trace : List Action) (t : Inner) (g : Generations) (timer : ℕ) → IsResting trace t → t.manager ≡ Some g → g.number ≢ 0 → (book trace).rest ≡ None → HasInformed (book trace) g.subscribed → t.shut ≡ false → timer ≡ length t.timers → IsHarmless ((book trace).link t.link).heard

@@ -1,11 +1,10 @@
 -- A session goes to its next link, which isn't asked for yet: of the link before it nothing stays but those that wait.
-use Rattle.std.proofs.Common.{◌≡◌, inl, inr, ℕ, zero, suc, ◌+◌, ◌<◌, ◌≤◌, ◌==◌, Bool, true, false, List, [], ◌∷◌, ◌++◌, length, Option, Some, None, is_some, slice_get, if◌then◌else◌, refl, sym, ap, ◌∙◌, subst, arith}
-use Rattle.std.specs.Prelude.{option_map, unwrap_or, not, ◌&&◌}
-use Rattle.containers.proofs.Choices.{both_right, by_test, chosen, eq_from, left_if, ne_from, ne_test, not_both}
+use Rattle.std.proofs.Common.{◌≡◌, inl, inr, ℕ, ◌+◌, ◌<◌, ◌≤◌, ◌==◌, Bool, true, false, List, [], ◌∷◌, ◌++◌, length, Option, Some, None, is_some, slice_get, if◌then◌else◌, refl, sym, ap, ◌∙◌, subst, arith}
+use Rattle.std.specs.Prelude.{option_map, unwrap_or}
+use Rattle.containers.proofs.Choices.{by_test, chosen, eq_from, left_if, ne_from, ne_test, not_both}
 use Rattle.driver_model.specs.declared.action.Action.TheVariants as action
 use Rattle.driver_model.specs.declared.action.Owner.TheVariants as owner
 use Rattle.driver_model.specs.declared.config.Config.{Config}
-use Rattle.driver_model.specs.declared.outcome.Outcome.{Outcome}
 use Rattle.driver_model.specs.declared.outcome.Outcome.TheVariants as outcome
 use Rattle.driver_model.specs.declared.action.Purpose.{Purpose}
 use Rattle.driver_model.specs.declared.action.Purpose.TheVariants as purpose
@@ -20,17 +19,20 @@ use Rattle.mux_conn.specs.declared.request.Request.{Request}
 use Rattle.shared_session.specs.declared.generations.Generations.{Generations}
 use Rattle.shared_session.specs.Generations.{failed_behind}
 use Rattle.legal_trace.specs.Ledger.{Ledger, blank_ledger}
-use Rattle.legal_trace.specs.Story.{Story, carried, is_awaited, is_no_error, is_open, is_told, packed_in}
+use Rattle.legal_trace.specs.Story.{Story, carried, is_open, is_told, packed_in}
 use Rattle.legal_trace.specs.Book.{Book, entered, has_generations, hearing_in, if_own}
-use Rattle.legal_trace.specs.Steps.{permits_held, permits_on}
-use Rattle.session_laws.proofs.Ties.Ahead.{admitted_open, placed_open, waiting_open}
-use Rattle.session_laws.proofs.Ties.Kept.{packed_same}
-use Rattle.session_laws.proofs.Ties.Names.{get_more, name_placed, open_within}
-use Rattle.session_laws.proofs.Ties.Numbers.{IsIn, Rising}
-use Rattle.session_laws.proofs.Ties.Owes.{answered_closed}
-use Rattle.session_laws.proofs.Requests.Rounded.{admitted_begun, placed_begun, unbegun_waits}
-use Rattle.session_laws.proofs.Links.Server.{NoneRenewed, TiedCreds, TiedSetup}
-use Rattle.session_laws.proofs.Ties.Tied.{AreAside, AreCalm, AreLate, AreUses, Inner, IsAim, IsAside, IsRefused, IsRequest, IsRetiring, IsUnknown, IsUse, Tied, TiedCreation, TiedLines, TiedLife, TiedManager, TiedNames, TiedNotices, TiedNumbers, TiedTries, TiedPermits, TiedRounds, TiedStory, TiedWaits, no_link, owner_of, is_reading, waiting_ids}
+use Rattle.legal_trace.specs.Steps.{permits_on}
+use Rattle.conn_laws.proofs.Ties.Ahead.{admitted_open, placed_open}
+use Rattle.conn_laws.proofs.Changes.Requests.{waiting_open, unbegun_waits}
+use Rattle.conn_laws.proofs.Ties.Kept.{packed_same}
+use Rattle.conn_laws.proofs.Ties.Names.{get_more, name_placed, open_within}
+use Rattle.conn_laws.proofs.Ties.Numbers.{IsIn, Rising}
+use Rattle.conn_laws.proofs.Ties.Owes.{answered_closed}
+use Rattle.conn_laws.proofs.Requests.Rounded.{admitted_begun, placed_begun}
+use Rattle.conn_laws.proofs.Links.Server.{NoneRenewed, TiedCreds, TiedSetup}
+use Rattle.conn_laws.proofs.Ties.Tied.{AreAside, AreLate, AreUses, IsAside, IsRefused, IsRequest, IsUnknown, IsUse, TiedCreation, TiedLines, TiedLife, TiedNames, TiedNotices, TiedTries, TiedPermits, TiedRounds, TiedStory, TiedWaits, no_link, owner_of, is_reading, waiting_ids}
+use Rattle.session_laws.proofs.Ties.Tied.{AreCalm, Inner, IsAim, IsRetiring, Tied, TiedManager, TiedNumbers}
+use Rattle.conn_laws.proofs.Managers.Reopen.{IsMovedTo, none_held, on_blank, told_closed}
 
 -- a session without a link
 --
@@ -63,10 +65,6 @@ pub record HasNoLink (b : Book) (t : Inner) : Type 0 where
 -- such a session, as it goes on
 abbrev pub at_rest : Inner → Inner
 at_rest t = record t { life = Resting; untold = []; parting = false; admitted = []; moved = []; letting = []; pending = []; started = [] }
-
--- what holds of a link that was never asked for holds of this
-on_blank : (P : Ledger → Type 0) (l : Ledger) → IsUnknown l → P (record blank_ledger { heard = l.heard }) → P l
-on_blank P l unknown h = subst P (sym unknown) h
 
 -- it is tied to its book
 pub rest_tied : (b : Book) (t : Inner) → HasNoLink b t → Tied b (at_rest t)
@@ -131,36 +129,11 @@ rest_tied b t h =
 abbrev pub moved_to : ℕ → Story → Story
 moved_to link s = if_own (is_open s) (carried s link) s
 
--- so much stays, and where it is open it begins anew there
-pub record IsMovedTo (link : ℕ) (s r : Story) : Type 0 where
-  pub submission : r.submission ≡ s.submission
-  pub timeout : r.timeout ≡ s.timeout
-  pub tries : r.tries ≡ s.tries
-  pub clock : r.clock ≡ s.clock
-  pub overdue : r.overdue ≡ s.overdue
-  pub late : r.late ≡ s.late
-  pub unspoken : r.unspoken ≡ s.unspoken
-  pub opens : is_open r ≡ is_open s
-  pub goes : is_open s ≡ true → (r.link ≡ link) × (r.permits ≡ 0) × (r.waiting ≡ None) × (r.rounded ≡ false)
-  pub stays : is_open s ≡ false → r ≡ s
-
 moved_is : (link : ℕ) (s : Story) → IsMovedTo link s (moved_to link s)
 moved_is link s =
     chosen (IsMovedTo link s) (is_open s) (carried s link) s
     (λ t. record { submission = refl; timeout = refl; tries = refl; clock = refl; overdue = refl; late = refl; unspoken = refl; opens = refl; goes = λ o. (refl, refl, refl, refl); stays = λ f. absurd (not_both (is_open s) f t) })
     (λ f. record { submission = refl; timeout = refl; tries = refl; clock = refl; overdue = refl; late = refl; unspoken = refl; opens = refl; goes = λ o. absurd (not_both (is_open s) f o); stays = λ g. refl })
-
--- one that was told at its place isn't open
-told_closed : (s : Story) → is_told s ≡ true → is_open s ≡ false
-told_closed s told = (λ i. is_some s.submission && some s.outcomes (both_right (not (is_awaited s)) (is_no_error s.outcomes) told) i && not s.cancelled) ∙ both_false (is_some s.submission) (not s.cancelled)
-  where
-    some : (os : List Outcome) → is_no_error os ≡ true → (length os == 0) ≡ false
-    some [] e = cc
-    some (o ∷ os) e = ne_test (length (o ∷ os)) 0 (λ none. absurd (omega (arith, none)))
-
-    both_false : (a c : Bool) → (a && false && c) ≡ false
-    both_false true c = refl
-    both_false false c = refl
 
 -- a timer is for a later link or one before it
 pub aim_later : (what : Purpose) (link links count : ℕ) → link ≤ links → IsAim what link count → IsAim what links count
@@ -178,11 +151,6 @@ aim_later (purpose.Response (owner.Try n round)) link links count le h = h
 pub use_later : (what : SourceUse) (link links : ℕ) (asked renews : Bool) → link < links → IsUse what link asked renews → IsUse what links false false
 use_later (source.Setup l) link links asked renews less h = (let le = h.0 in omega (arith, less, le), λ e. absurd (let le = h.0 in omega (arith, less, le, e)))
 use_later (source.Renewal l) link links asked renews less h = (let le = h.0 in omega (arith, less, le), λ e. absurd (let le = h.0 in omega (arith, less, le, e)))
-
--- nobody holds a permit of a link to which nobody went who holds one
-pub none_held : (story : ℕ → Story) (link n : ℕ) → ((m : ℕ) → permits_on link (story m) ≡ 0) → permits_held story link n ≡ 0
-none_held story link zero none = refl
-none_held story link (suc n) none = let rest = none_held story link n none in let last = none n in omega (arith, rest, last)
 
 -- submissions go to the current link, or went to one before it
 abbrev pub ArePast : Book → Type 0

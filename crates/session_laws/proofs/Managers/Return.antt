@@ -13,18 +13,21 @@ use Rattle.shared_session.specs.declared.generations.Generations.{Generations}
 use Rattle.shared_session.specs.Generations.{begun, begun_with, bound_of, connect_purposes, connect_timed, dialling, failed_behind, is_last_of, rested, repeat_in}
 use Rattle.legal_trace.specs.Book.{Book, blank_book, book, entered, entered_each}
 use Rattle.legal_trace.specs.Legal.{AllStand, IsShown, NoneEnds, generation_due, word_of}
-use Rattle.session_laws.proofs.Ties.Ahead.{HasSeats}
+use Rattle.conn_laws.proofs.Ties.Ahead.{HasSeats}
 use Rattle.session_laws.proofs.Internal.Served.{numbers_is}
 use Rattle.session_laws.proofs.Managers.Comes.{NoneComes, live_comes}
 use Rattle.session_laws.proofs.Managers.Dial.{dialled_in}
 use Rattle.session_laws.proofs.Ties.Entered.{book-append, book_more}
 use Rattle.session_laws.proofs.Managers.Generate.{begun_in}
-use Rattle.session_laws.proofs.Ties.Numbers.{IsIn}
-use Rattle.session_laws.proofs.Managers.Regenerate.{IsHarmless, IsResting, dials_on, generates_on, manager_is, rests_comes, rests_on}
+use Rattle.conn_laws.proofs.Ties.Numbers.{IsIn}
+use Rattle.conn_laws.proofs.Managers.Regenerate.{IsHarmless}
+use Rattle.session_laws.proofs.Managers.Regenerate.{IsResting, dials_on, generates_on, manager_is, rests_comes, rests_on}
 use Rattle.session_laws.proofs.Managers.Reopen.{at_rest, rested_in}
-use Rattle.session_laws.proofs.Ties.States.{IsFitIn, IsHushed, IsStill}
-use Rattle.session_laws.proofs.Ties.Tied.{ComesBack, IsHeeded, IsRetiring, Sound, Tied, has_ended, inner, link_in}
-use Rattle.session_laws.proofs.Internal.Serving.{serves_ready}
+use Rattle.conn_laws.proofs.Ties.States.{IsFitIn, IsStill}
+use Rattle.session_laws.proofs.Ties.States.{IsHushed}
+use Rattle.conn_laws.proofs.Ties.Tied.{has_ended, link_in}
+use Rattle.session_laws.proofs.Ties.Tied.{ComesBack, IsHeeded, IsRetiring, Sound, Tied, inner}
+use Rattle.conn_laws.proofs.Internal.Serving.{serves_ready}
 use Rattle.session_laws.proofs.Internal.Informed.{HasInformed, IsInformed, alike_informed, connect_alike, generation_alike, timer_alike}
 
 -- all that a turn does is shown but bytes and waits

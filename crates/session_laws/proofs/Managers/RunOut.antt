@@ -19,11 +19,13 @@ use Rattle.legal_trace.specs.Events.{HasRunOut}
 use Rattle.shared_session.proofs.Replays.{state_after-more, trace_of-more, turns_after}
 use Rattle.session_laws.proofs.Turn.Legality.{turn_behind}
 use Rattle.session_laws.proofs.Turn.Opening.{opening_unasked}
-use Rattle.session_laws.proofs.Links.Server.{AreRenewed, NoneRenewed, TiedRenewal}
-use Rattle.session_laws.proofs.Ties.Tied.{Inner, Tied, TiedLife, carried, has_ended, inner, whole_link}
+use Rattle.conn_laws.proofs.Links.Server.{AreRenewed, NoneRenewed, TiedRenewal}
+use Rattle.conn_laws.proofs.Ties.Tied.{TiedLife, carried, has_ended, whole_link}
+use Rattle.session_laws.proofs.Ties.Tied.{Inner, Tied, inner}
 use Rattle.driver_model.specs.declared.action.Action.{Action}
-use Rattle.session_laws.proofs.Ties.Grown.{IsGrown, turn_grown}
-use Rattle.session_laws.proofs.Internal.Renewals.{due_is, down_renewed_due, none_renewed_due}
+use Rattle.conn_laws.proofs.Ties.Grown.{IsGrown}
+use Rattle.session_laws.proofs.Ties.Grown.{turn_grown}
+use Rattle.conn_laws.proofs.Internal.Renewals.{due_is, down_renewed_due, none_renewed_due}
 use Rattle.legal_trace.specs.Ledger.{Ledger, renewal_count, renewal_due, renewals_asked}
 use Rattle.credentials.specs.Credentials.{Credentials}
 use Rattle.mux_conn.specs.declared.connection.MultiplexedConnection.{MultiplexedConnection}

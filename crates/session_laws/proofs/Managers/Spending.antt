@@ -21,22 +21,25 @@ use Rattle.shared_session.specs.Generations.{came_back, comeback_shown, heeded, 
 use Rattle.shared_session.specs.Turn.{Turning, actions_of, counted, effect, flushed_apart, is_bad, next_turn, numbered, passed_by, shown_behind, shown_each}
 use Rattle.legal_trace.specs.Book.{Book, blank_book, book}
 use Rattle.legal_trace.specs.Legal.{AllStand}
-use Rattle.session_laws.proofs.Ties.Ahead.{admitted_open, waiting_open}
+use Rattle.conn_laws.proofs.Ties.Ahead.{admitted_open}
+use Rattle.conn_laws.proofs.Changes.Requests.{waiting_open}
 use Rattle.session_laws.proofs.Turn.Announce.{turn_of}
 use Rattle.session_laws.proofs.Managers.Comes.{live_comes}
 use Rattle.session_laws.proofs.Turn.Effects.{effect_holds}
 use Rattle.session_laws.proofs.Managers.Manage.{HasHeard, none_open_over, stays_returned}
-use Rattle.session_laws.proofs.Ties.Numbers.{IsIn}
+use Rattle.conn_laws.proofs.Ties.Numbers.{IsIn}
 use Rattle.session_laws.proofs.Managers.Return as return
-use Rattle.session_laws.proofs.Requests.Rounded.{rounds_down}
-use Rattle.session_laws.proofs.Requests.Settled.{IsBetween, applied_moved, unmoved}
+use Rattle.conn_laws.proofs.Requests.Rounded.{rounds_down}
+use Rattle.conn_laws.proofs.Requests.Settled.{unmoved}
+use Rattle.session_laws.proofs.Requests.Settled.{IsBetween, applied_moved}
 use Rattle.session_laws.proofs.Ties.States.{HasApplied, HasRetired}
-use Rattle.session_laws.proofs.Links.Server.{NoneRenewed, TiedRenewal}
-use Rattle.session_laws.proofs.Ties.Tied.{Tied, has_ended, inner, link_in, relined}
+use Rattle.conn_laws.proofs.Links.Server.{NoneRenewed, TiedRenewal}
+use Rattle.conn_laws.proofs.Ties.Tied.{has_ended, link_in}
+use Rattle.session_laws.proofs.Ties.Tied.{Tied, inner, relined}
 use Rattle.session_laws.proofs.Ties.Ordered.{IsOrderedBy}
 use Rattle.session_laws.proofs.Managers.Turns.{comes, heard_so, made, retired_same}
 use Rattle.session_laws.proofs.Managers.Whole.{managed_between, managed_core, managed_trace, what_of}
-use Rattle.session_laws.proofs.Internal.Serving.{unready_serves}
+use Rattle.conn_laws.proofs.Internal.Serving.{unready_serves}
 
 -- so the session is behind a turn, whether a number ran out in it or not
 pub record IsTied (before : List Action) (c : Core) : Type 0 where

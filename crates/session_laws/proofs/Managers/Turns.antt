@@ -29,21 +29,24 @@ use Rattle.legal_trace.proofs.Moves.{lt_test}
 use Rattle.legal_trace.proofs.Plain.{same_some}
 use Rattle.session_laws.proofs.Turn.Announce.{turn_of}
 use Rattle.session_laws.proofs.Turn.Effects.{effect_holds}
-use Rattle.session_laws.proofs.Managers.First.{HasFirst, IsIdle, StaysIdle, effect_idle, first_opens}
+use Rattle.conn_laws.proofs.Managers.First.{IsIdle}
+use Rattle.session_laws.proofs.Managers.First.{HasFirst, StaysIdle, effect_idle, first_opens}
 use Rattle.session_laws.proofs.Managers.Judge.{HasActed, acted_adds, has_acted, runs_on, acted_informed}
 use Rattle.session_laws.proofs.Managers.Manage.{HasCome, HasHeard, NoneCame, rests_links, returned, woken_by}
 use Rattle.session_laws.proofs.Ties.Ordered.{IsOrdered, IsOrderedBy}
-use Rattle.session_laws.proofs.Turn.Adds.{flushed_adds}
+use Rattle.conn_laws.proofs.Turn.Adds.{flushed_adds}
 use Rattle.session_laws.proofs.Turn.Ends.{ends_ordered, ready_stays}
 use Rattle.mux_conn.proofs.Kept.{flushed_kept}
 use Rattle.session_laws.proofs.Turn.Ordered.{comes_ordered}
-use Rattle.session_laws.proofs.Requests.Moved.{ComesOrdered, HasMoved, resting_passed}
+use Rattle.conn_laws.proofs.Requests.Moved.{resting_passed}
+use Rattle.session_laws.proofs.Requests.Moved.{ComesOrdered, HasMoved}
 use Rattle.session_laws.proofs.Ties.Past.{is_founded}
 use Rattle.session_laws.proofs.Managers.Return as return
 use Rattle.session_laws.proofs.Requests.Settle.{trace_of_acts}
 use Rattle.session_laws.proofs.Requests.Settled.{IsBetween, applied_moved, applied_ready}
 use Rattle.session_laws.proofs.Ties.States.{HasApplied, HasRetired}
-use Rattle.session_laws.proofs.Ties.Tied.{ComesBack, HasHeeded, IsHeeded, IsRetiring, Sound, Tied, TiedManager, inner, waiting_ids}
+use Rattle.conn_laws.proofs.Ties.Tied.{waiting_ids}
+use Rattle.session_laws.proofs.Ties.Tied.{ComesBack, HasHeeded, IsHeeded, IsRetiring, Sound, Tied, TiedManager, inner}
 use Rattle.session_laws.proofs.Managers.Whole.{heeds_retiring, heeds_tied, managed_between, managed_core, managed_trace, own_is, what_of}
 
 -- before its first generation nothing was asked of a session's connection, unless everything was shut down, and no creation failed

@@ -1,46 +1,44 @@
 -- One outcome: where it may stand, and what it leaves.
-use Rattle.std.proofs.Common.{◌≡◌, ◌≢◌, inl, inr, ℕ, ◌<◌, ◌==◌, Bool, true, false, ◌&&◌, not, is_some, List, [], ◌∷◌, ◌++◌, length, Option, Some, None, if◌then◌else◌, refl, sym, ap, ◌∙◌, subst, arith}
-use Rattle.std.specs.List.{AllByRecursion}
-use Rattle.containers.proofs.Choices.{by_test, chosen, if_true, taken_if, eq_from, eq_test, ne_from, not_both}
+use Rattle.std.proofs.Common.{◌≡◌, inl, inr, ℕ, ◌<◌, ◌==◌, true, false, List, [], ◌∷◌, ◌++◌, length, Option, Some, None, if◌then◌else◌, refl, sym, ap, ◌∙◌, subst, arith}
+use Rattle.containers.proofs.Choices.{by_test, chosen, taken_if, eq_from, eq_test, ne_from, not_both}
 use Rattle.driver_model.specs.declared.action.Action.TheVariants as action
 use Rattle.driver_model.specs.declared.outcome.Outcome.{Outcome}
 use Rattle.driver_model.specs.declared.outcome.Outcome.TheVariants as outcome
 use Rattle.redis_error.specs.declared.fault_kind.FaultKind.TheVariants as kinds
-use Rattle.redis_error.specs.declared.redis_error.RedisError.{RedisError}
 use Rattle.redis_error.specs.declared.redis_error.RedisError.TheVariants as error
-use Rattle.link_core.specs.declared.message.Entry.{Entry}
 use Rattle.link_core.specs.Link.{LinkState}
 use Rattle.link_laws.specs.Settles.{wanted}
-use Rattle.mux_conn.specs.declared.life.Life.{Life}
-use Rattle.mux_conn.specs.declared.life.Life.TheVariants.{Resting, Dialing, Wanting, SettingUp, Ready, Ended}
 use Rattle.mux_conn.specs.declared.request.Pending.{Pending}
 use Rattle.mux_conn.specs.declared.request.Progress.TheVariants as progress
 use Rattle.mux_conn.specs.declared.request.Request.{Request}
 use Rattle.mux_conn.specs.declared.request.Waiting.{Waiting}
-use Rattle.mux_conn.specs.Requests.{is_open as is_open_progress, is_placed, is_open_at, name_at, permits_at, with_permits, given_back}
-use Rattle.legal_trace.specs.Ledger.{End, Heard, Ledger, is_over, ending, next_notice, Ending, by_shutdown, by_fault, by_opening, by_attempt}
+use Rattle.mux_conn.specs.Requests.{is_open as is_open_progress, is_open_at, name_at, permits_at, with_permits, given_back}
+use Rattle.legal_trace.specs.Ledger.{Heard, is_over, ending, next_notice}
 use Rattle.legal_trace.specs.Story.{Story, Try, last_of, is_no_error, is_open, packed_in, shape_in, bytes_of, answered}
 use Rattle.legal_trace.specs.Book.{Book, entered, faults_in}
-use Rattle.legal_trace.specs.Owed.{owed, owed_by, owed_to_try, owed_to_message, owed_unstarted, owed_waiting}
+use Rattle.legal_trace.specs.Owed.{owed, owed_to_try, owed_to_message, owed_waiting}
 use Rattle.legal_trace.specs.Legal.{NoneEnds, VerdictsAreShown, MayAnswer, FailuresAreShown, EndsAreTold, IsBefore, is_heard}
 use Rattle.session_laws.proofs.Managers.Calm.{calm_more, owed_calm}
-use Rattle.session_laws.proofs.Requests.Rounded.{rounds_closed, early_closed}
-use Rattle.session_laws.proofs.Ties.Numbers.{IsIn, in_either, in_right, in_left, Rising, rising_in, requests_in, request_in}
-use Rattle.session_laws.proofs.Ties.Tied.{AreCalm, Inner, link_in, queue_ids, TiedLife, TiedNames, IsEntry, AreQueued, TiedLines, Tied, relined, has_ended, numbers_kept}
-use Rattle.session_laws.proofs.Links.Said.{carried_tied, sources_asked}
-use Rattle.session_laws.proofs.Ties.Names.{name_within, open_within, earlier_name, owners_with, length_with, names_with, with_other, with_then, request_not}
-use Rattle.session_laws.proofs.Ties.Aside.{aside_ends, not_up_ends, over_not_asked}
-use Rattle.session_laws.proofs.Ties.InLine.{kept_ids, line_of, IsInLine, awaited_in, first_is_apart}
-use Rattle.session_laws.proofs.Ties.Behind.{open_unanswered, told_answered}
-use Rattle.session_laws.proofs.Requests.Closing.{Closes, closed_other, late_closed, with_closed, story_closed, tries_closed, packs_closed, queue_closed, waits_closed, kept_other, IsUntried, told_closed}
-use Rattle.session_laws.proofs.Ties.Permits.{permits_closed}
-use Rattle.session_laws.proofs.Ties.Owes.{request_story, open_request, answered_closed, ends_told, failures_shown, notices_told}
+use Rattle.conn_laws.proofs.Requests.Rounded.{early_closed}
+use Rattle.session_laws.proofs.Requests.Rounded.{rounds_closed}
+use Rattle.conn_laws.proofs.Ties.Numbers.{IsIn, in_either, in_right, in_left, Rising, rising_in, requests_in, request_in}
+use Rattle.conn_laws.proofs.Ties.Tied.{link_in, queue_ids, TiedNames, AreQueued, TiedLines, has_ended}
+use Rattle.session_laws.proofs.Ties.Tied.{AreCalm, Inner, Tied, relined, numbers_kept}
+use Rattle.conn_laws.proofs.Links.Said.{carried_tied}
+use Rattle.session_laws.proofs.Links.Said.{sources_asked}
+use Rattle.conn_laws.proofs.Ties.Names.{name_within, open_within, earlier_name, owners_with, names_with, with_then}
+use Rattle.conn_laws.proofs.Changes.Requests.{progress_count as length_with}
+use Rattle.session_laws.proofs.Ties.Names.{request_not}
+use Rattle.conn_laws.proofs.Ties.Aside.{aside_ends}
+use Rattle.conn_laws.proofs.Ties.InLine.{kept_ids, line_of, IsInLine, awaited_in, first_is_apart}
+use Rattle.conn_laws.proofs.Ties.Behind.{open_unanswered, told_answered}
+use Rattle.conn_laws.proofs.Requests.Closing.{Closes, kept_other, IsUntried}
+use Rattle.session_laws.proofs.Requests.Closing.{closed_other, late_closed, with_closed, story_closed, tries_closed, packs_closed, queue_closed, waits_closed, told_closed}
+use Rattle.conn_laws.proofs.Ties.Permits.{permits_closed}
+use Rattle.session_laws.proofs.Ties.Owes.{request_story, open_request, ends_told, failures_shown, notices_told}
 use Rattle.mux_conn.specs.Connection.{is_outstanding}
-use Rattle.mux_conn.specs.declared.again.Again.{Again}
-use Rattle.sub_tracker.specs.Subscribed.{Request as Call}
 use Rattle.legal_trace.specs.Again.{confirmed}
-use Rattle.session_laws.proofs.Internal.Repeats.{TiedRepeat, calls_kept}
-use Rattle.std.proofs.lemmas.List.{append-nil}
+use Rattle.conn_laws.proofs.Requests.Answer.{answer_closes, ended_ends, ended_over, entries_answered, fault_is, no_push, tracks_none, waiting_is}
 
 -- where it may stand
 --
@@ -65,29 +63,6 @@ may_answer b t p o h e owes before pushed after =
       after_sources = λ over. sources_asked b t h;
     }
 
--- an end that owes something is one
-pub some_end : (x : Option End) (o : Outcome) → owed_unstarted x ≡ Some o → is_some x ≡ true
-some_end None o owes = cc
-some_end (Some e) o owes = refl
-
--- a connection that has ended has a link that is over
-pub ended_over : (l : Ledger) (created : ℕ) (life : Life) → has_ended life ≡ true → TiedLife l created life → is_over l ≡ true
-ended_over l created Resting over h = cc
-ended_over l created Dialing over h = cc
-ended_over l created (Wanting link) over h = cc
-ended_over l created (SettingUp link greeting) over h = cc
-ended_over l created (Ready link) over h = cc
-ended_over l created (Ended e) over h = some_end l.end (outcome.Fault e) h.1
-
--- what has ended need not end
-ended_ends : (l : Ledger) (created : ℕ) (life : Life) → has_ended life ≡ true → TiedLife l created life → ending l ≡ None
-ended_ends l created Resting over h = cc
-ended_ends l created Dialing over h = cc
-ended_ends l created (Wanting link) over h = cc
-ended_ends l created (SettingUp link greeting) over h = cc
-ended_ends l created (Ready link) over h = cc
-ended_ends l created (Ended e) over h = not_up_ends l h.0 (over_not_asked l (some_end l.end (outcome.Fault e) h.1))
-
 -- on a link that has ended
 pub after_end : (b : Book) (t : Inner) → Tied b t → has_ended t.life ≡ true → NoneEnds b × VerdictsAreShown b × FailuresAreShown b
 after_end b t h over = (
@@ -105,10 +80,6 @@ after_end b t h over = (
 -- all that is told of the ends
 pub after_closes : (b : Book) (t : Inner) → Tied b t → t.parting ≡ false → has_ended t.life ≡ true → NoneEnds b × VerdictsAreShown b × FailuresAreShown b × EndsAreTold b
 after_closes b t h done over = let a = after_end b t h over in (a.0, a.1, a.2, ends_told b t h done)
-
--- none is not some
-pub no_push : (x : Option Heard) (y : Heard) → x ≡ None → x ≡ Some y → ⊥
-no_push x y e f = let no : ◌≡◌ {A = Option Heard} None (Some y) = sym e ∙ f in cc
 
 -- where no notice is still to be told none is
 pub none_before : (b : Book) (t : Inner) (n : ℕ) → Tied b t → t.untold ≡ [] → is_heard b ≡ true → (push : Heard) → next_notice (b.link t.link) ≡ Some push → IsBefore b n push
@@ -144,35 +115,6 @@ owed_still b n o m =
         else if overdue i then Some (outcome.Fault (error.Io kinds.TimedOut))
         else (by_try s (last_of s.tries) link what ∙ ap (λ ts. owed_to_try b (b.story m) (last_of ts)) tries) i)
 
--- an answered story closes
-pub answer_closes : (s : Story) (o : Outcome) → Closes s (answered s o)
-answer_closes s o = record {
-  submission = refl;
-  late = refl;
-  unspoken = refl;
-  link = refl;
-  time = refl;
-  tries = refl;
-  rounded = refl;
-  closed = answered_closed (answered s o) s.outcomes o refl;
-}
-
--- entries that are wanted are others
-pub entries_answered : (requests : List Request) (p : ℕ) (row : List Entry) → (IsIn p (wanted row) → ⊥) → AllByRecursion (IsEntry requests) row → AllByRecursion (IsEntry (with_permits requests p progress.Closed 0)) row
-entries_answered requests p [] apart all = tt
-entries_answered requests p (e ∷ es) apart all = (
-  elim all.0 [
-    | inl r ↦ inl (record {
-      below = subst (λ n. e.id < n) (sym (length_with requests p progress.Closed 0)) r.below;
-      placed_at = λ t.
-          let other : p ≢ e.id = λ same. apart (in_left p (if e.awaited then e.id ∷ [] else []) (wanted es) (if_true (IsIn p) e.awaited (e.id ∷ []) [] t (inl (sym same)))) in
-          with_other is_placed requests p e.id progress.Closed 0 other ∙ r.placed_at t;
-    })
-    | inr a ↦ inr a
-  ],
-  entries_answered requests p es (λ i. apart (in_right p (if e.awaited then e.id ∷ [] else []) (wanted es) i)) all.1,
-)
-
 -- the lines where one that is to be answered is, and is neither in the row nor in the queue
 pub lines_answered : (table : List (Option Pending)) (story : ℕ → Story) (requests : List Request) (link : LinkState) (waiting admitted : List Waiting) (p : ℕ) (pending started : List ℕ) (closed : ℕ → Story) → TiedNames table requests → p < length requests
     → ((n : ℕ) → Closes (story n) (closed n)) → (IsIn p (wanted link.row ++ queue_ids link.queue) → ⊥) → TiedLines story requests link waiting admitted (p ∷ pending) started
@@ -201,21 +143,6 @@ lines_answered table story requests link waiting admitted p pending started clos
 -- the session with this request closed, and these to be answered
 abbrev pub closed_in : Inner → ℕ → List ℕ → Inner
 closed_in t p pending = record t { requests = with_permits t.requests p progress.Closed 0; free = given_back t.limit t.free (permits_at t.requests p); pending = pending }
-
--- what the answer confirms is of no account for what is subscribed again on the link, where that is answered, or the link has ended
-tracks_none : (l : Ledger) (calls more : List Call) (within : Option ℕ) (a : Again) (life : Life) → (has_ended life ≡ false → is_outstanding a ≡ true → more ≡ []) → TiedRepeat l calls within a life → TiedRepeat l (calls ++ more) within a life
-tracks_none l calls more within a life none h = by_life life h none
-  where
-    kept : (x : Life) → TiedRepeat l calls within a x → (is_outstanding a ≡ true → more ≡ []) → TiedRepeat l (calls ++ more) within a x
-    kept x k still = calls_kept l calls (calls ++ more) within a x (λ open_is. ap (λ cs. calls ++ cs) (still open_is) ∙ append-nil calls) k
-
-    by_life : (x : Life) → TiedRepeat l calls within a x → (has_ended x ≡ false → is_outstanding a ≡ true → more ≡ []) → TiedRepeat l (calls ++ more) within a x
-    by_life Resting k still = k
-    by_life Dialing k still = kept Dialing k (still refl)
-    by_life (Wanting link) k still = kept (Wanting link) k (still refl)
-    by_life (SettingUp link greeting) k still = kept (SettingUp link greeting) k (still refl)
-    by_life (Ready link) k still = kept (Ready link) k (still refl)
-    by_life (Ended e) k still = k
 
 -- one that is to be answered is, and is neither in the row nor in the queue; who is told and has not started is there; and the answer
 -- is no cause for the next generation, until the link ends, and confirms nothing while what is subscribed again isn't answered
@@ -268,25 +195,6 @@ answer_apart b t p pending o calm tracked open_is apart told h =
 
 -- what is owed to a submission without a message is an error
 --
--- a fault is one
-fault_is : (e : RedisError) (o : Outcome) → ◌≡◌ {A = Option Outcome} (Some (outcome.Fault e)) (Some o) → is_no_error (o ∷ []) ≡ false
-fault_is e o is = let same : outcome.Fault e ≡ o = cc in subst (λ (x : Outcome). is_no_error (x ∷ []) ≡ false) same refl
-
--- by the end of its link
-end_is : (x : Option End) (o : Outcome) → owed_unstarted x ≡ Some o → is_no_error (o ∷ []) ≡ false
-end_is None o e = cc
-end_is (Some end) o e = by_why end.why e
-  where
-    by_why : (why : Ending) → owed_by why ≡ Some o → is_no_error (o ∷ []) ≡ false
-    by_why by_shutdown e = fault_is error.Closed o e
-    by_why (by_fault f) e = fault_is error.Closed o e
-    by_why (by_opening x) e = fault_is x o e
-    by_why (by_attempt x) e = cc
-
--- also where everything is shut down
-waiting_is : (shut : Bool) (l : Ledger) (o : Outcome) → owed_waiting shut l ≡ Some o → is_no_error (o ∷ []) ≡ false
-waiting_is shut l o = chosen (λ (x : Option Outcome). x ≡ Some o → is_no_error (o ∷ []) ≡ false) (shut && not l.asked) (Some (outcome.Fault error.Closed)) (owed_unstarted l.end) (λ t. fault_is error.Closed o) (λ f. end_is l.end o)
-
 -- whatever it is
 owed_fault : (b : Book) (n : ℕ) (o : Outcome) → (b.story n).tries ≡ [] → owed b n ≡ Some o → is_no_error (o ∷ []) ≡ false
 owed_fault b n o none e =

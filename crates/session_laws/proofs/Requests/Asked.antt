@@ -26,24 +26,27 @@ use Rattle.shared_session.specs.Turn.{Turning, heard, refused_with, asked_for, p
 use Rattle.legal_trace.specs.Story.{Story, is_no_error, is_told, is_awaited}
 use Rattle.legal_trace.specs.Book.{Book, blank_book, book, entered, hearing_in, info_in, is_unspoken, kind_in}
 use Rattle.legal_trace.specs.Legal.{AllStand, NoneEnds, MayAnswer}
-use Rattle.session_laws.proofs.Requests.Rounded.{rounds_longer, early_longer}
-use Rattle.session_laws.proofs.Ties.Aside.{aside_silent}
-use Rattle.session_laws.proofs.Internal.Renewals.{renewal_alike}
-use Rattle.session_laws.proofs.Ties.Numbers.{IsIn, in_left, in_right, Rising, rising_next, requests_in, request_in}
-use Rattle.session_laws.proofs.Ties.Tied.{carried, inner, link_in, queue_ids, waiting_ids, whole_link, IsOf, IsRequest, IsPacked, IsKept, TiedLines, TiedWaits, Tied}
+use Rattle.conn_laws.proofs.Requests.Rounded.{rounds_longer, early_longer}
+use Rattle.conn_laws.proofs.Ties.Aside.{aside_silent}
+use Rattle.conn_laws.proofs.Internal.Renewals.{renewal_alike}
+use Rattle.conn_laws.proofs.Ties.Numbers.{IsIn, in_left, in_right, Rising, rising_next, requests_in, request_in}
+use Rattle.conn_laws.proofs.Ties.Tied.{carried, link_in, queue_ids, waiting_ids, whole_link, IsOf, IsRequest, IsPacked, IsKept, TiedLines, TiedWaits}
+use Rattle.session_laws.proofs.Ties.Tied.{inner, Tied}
 use Rattle.session_laws.proofs.Ties.States.{Between, HasApplied}
 use Rattle.session_laws.proofs.Ties.Entered.{all_stand-append, book_more, sound_more}
-use Rattle.session_laws.proofs.Ties.Names.{there_within, names_asked, submits_unwatched}
+use Rattle.conn_laws.proofs.Ties.Names.{there_within, names_asked}
+use Rattle.session_laws.proofs.Ties.Names.{submits_unwatched}
 use Rattle.session_laws.proofs.Ties.Owes.{started_within}
 use Rattle.session_laws.proofs.Requests.Settle.{seen}
 use Rattle.session_laws.proofs.Turn.Announce.{aims_longer, aims_on, turn_of, turned, may_turn, uses_on, time_still}
-use Rattle.session_laws.proofs.Turn.Heard.{told_life, silent_no_end, silent_applied, still_none, tame_between, hushed_still}
-use Rattle.session_laws.proofs.Links.Said.{setup_on, IsTame, renoticed}
-use Rattle.session_laws.proofs.Requests.Further.{one_longer, there_longer, before_or_new, further_story, tries_longer, queue_longer, packs_longer, entries_longer, link_longer, told_longer, IsNext, waits_longer, permits_longer, late_longer}
-use Rattle.session_laws.proofs.Ties.InLine.{kept_ids, awaited_in}
+use Rattle.conn_laws.proofs.Turn.Heard.{told_life, silent_no_end}
+use Rattle.session_laws.proofs.Turn.Heard.{silent_applied, still_none, tame_between, hushed_still}
+use Rattle.conn_laws.proofs.Links.Said.{setup_on, IsTame, renoticed}
+use Rattle.conn_laws.proofs.Requests.Further.{one_longer, there_longer, before_or_new, further_story, tries_longer, queue_longer, packs_longer, entries_longer, link_longer, told_longer, IsNext, waits_longer, permits_longer, late_longer}
+use Rattle.conn_laws.proofs.Ties.InLine.{kept_ids, awaited_in}
 use Rattle.session_laws.proofs.Requests.Submit.{stories_with, new_story, story_is_new, others_before, within_line, IsErrorOf, may_refuse, core_refused, refused_tied, or_none}
 use Rattle.session_laws.proofs.Managers.Comes.{course_later}
-use Rattle.session_laws.proofs.Internal.Repeats.{repeat_alike}
+use Rattle.conn_laws.proofs.Internal.Repeats.{repeat_alike}
 
 -- a submission that isn't bad has a form
 formed : (c : Core) (what : Submission) → is_bad c (event.Submit what) ≡ false → has_no_form c.kind what ≡ false

@@ -1,42 +1,28 @@
 -- A request is closed, and with it its submission, by an outcome or by the leave of its caller.
-use Rattle.std.proofs.Common.{◌≡◌, ◌≢◌, ◌⊎◌, inl, inr, ℕ, ◌<◌, ◌==◌, Bool, false, true, List, [], ◌∷◌, length, Option, Some, None, slice_get, refl, sym, ap, ◌∙◌, subst}
+use Rattle.std.proofs.Common.{◌≡◌, ◌≢◌, inl, inr, ℕ, ◌<◌, ◌==◌, Bool, true, List, [], ◌∷◌, length, Option, Some, None, slice_get, refl, sym, ap, ◌∙◌, subst}
 use Rattle.std.specs.List.{AllByRecursion}
-use Rattle.containers.proofs.Choices.{chosen, left_if, eq_from, ne_from, ne_test, not_both}
+use Rattle.containers.proofs.Choices.{chosen, left_if, eq_from, ne_from, ne_test}
 use Rattle.containers.proofs.Places.{get_within}
-use Rattle.driver_model.specs.declared.action.WaitKind.{WaitKind}
-use Rattle.driver_model.specs.declared.action.WaitKind.TheVariants as wait
 use Rattle.driver_model.specs.declared.outcome.Shape.{Shape}
 use Rattle.link_core.specs.declared.message.Queued.{Queued}
 use Rattle.link_core.specs.Link.{LinkState}
-use Rattle.link_laws.specs.Settles.{awaited_ids}
 use Rattle.mux_conn.specs.declared.again.Again.{Again}
-use Rattle.mux_conn.specs.declared.life.Greeting.{Greeting}
 use Rattle.mux_conn.specs.declared.life.Life.{Life}
-use Rattle.mux_conn.specs.declared.life.Life.TheVariants.{Resting, Dialing, Wanting, SettingUp, Ready}
+use Rattle.mux_conn.specs.declared.life.Life.TheVariants.{Resting, Dialing}
 use Rattle.mux_conn.specs.declared.request.Pending.{Pending}
 use Rattle.mux_conn.specs.declared.request.Progress.TheVariants as progress
 use Rattle.mux_conn.specs.declared.request.Request.{Request}
 use Rattle.mux_conn.specs.declared.request.Waiting.{Waiting}
-use Rattle.mux_conn.specs.declared.request.Progress.{Progress}
-use Rattle.mux_conn.specs.Requests.{is_open as is_open_progress, is_waiting, is_admitted, is_placed, is_waiting_at, is_admitted_at, name_at, with_permits, is_open_at}
+use Rattle.mux_conn.specs.Requests.{is_open as is_open_progress, is_waiting, is_admitted, is_placed, is_waiting_at, is_admitted_at, name_at, with_permits}
 use Rattle.legal_trace.specs.Ledger.{Ledger, setup_count}
-use Rattle.legal_trace.specs.Story.{Story, is_open, is_told, shape, packed_in, shape_in, awaited_in}
+use Rattle.legal_trace.specs.Story.{Story, is_told, shape, packed_in, shape_in, awaited_in}
 use Rattle.legal_trace.specs.Book.{if_own}
-use Rattle.session_laws.proofs.Ties.Numbers.{IsIn, Rising}
-use Rattle.session_laws.proofs.Links.Server.{setup_owners}
-use Rattle.session_laws.proofs.Ties.Tied.{link_in, owners_each, queue_ids, IsRefused, IsRequest, TiedStory, TiedTries, TiedNames, IsOf, IsQueued, IsPacked, IsKept, AreQueued, shown_wait, TiedWaits, AreLate}
-use Rattle.session_laws.proofs.Ties.Names.{name_placed, permits_other, permits_with, same_name, name_of_some, name_with, owners_with, length_with, was_with, there_within, with_same, with_other, with_then}
-
--- a story that closes: what was handed in and tried stays
-pub record Closes (s c : Story) : Type 0 where
-  pub submission : c.submission ≡ s.submission
-  pub late : c.late ≡ s.late
-  pub unspoken : c.unspoken ≡ s.unspoken
-  pub link : c.link ≡ s.link
-  pub time : c.timeout ≡ s.timeout
-  pub tries : c.tries ≡ s.tries
-  pub rounded : c.rounded ≡ s.rounded
-  pub closed : is_open c ≡ false
+use Rattle.conn_laws.proofs.Ties.Numbers.{IsIn, Rising}
+use Rattle.conn_laws.proofs.Links.Server.{setup_owners}
+use Rattle.conn_laws.proofs.Ties.Tied.{queue_ids, IsRefused, IsRequest, TiedStory, TiedTries, TiedNames, IsOf, IsQueued, IsPacked, AreQueued, shown_wait, TiedWaits, AreLate}
+use Rattle.conn_laws.proofs.Ties.Names.{name_placed, same_name, name_of_some, name_with, was_with, there_within, with_then}
+use Rattle.conn_laws.proofs.Changes.Requests.{progress_count as length_with, test_other as with_other}
+use Rattle.conn_laws.proofs.Requests.Closing.{AreOthers, Closes, IsUntried, WasReady, WasSettingUp, WasWanting, one_of, owners_each_still, request_closed, request_other}
 
 -- the stories where that of request p closes
 abbrev pub with_closed : (ℕ → Story) → List Request → ℕ → (ℕ → Story) → ℕ → Story
@@ -64,32 +50,6 @@ closed_time story requests p closed n c = chosen (λ (s : Story). s.timeout ≡ 
 
 -- the stories, by the table
 --
--- the request that closes
-request_closed : (s c : Story) (requests : List Request) (link p : ℕ) → p < length requests → c.permits ≡ 0 → Closes s c → IsRequest s requests link p → IsRequest c (with_permits requests p progress.Closed 0) link p
-request_closed s c requests link p l freed k h = record {
-  what = h.what;
-  handed_in = k.submission ∙ h.handed_in;
-  in_time = k.late ∙ h.in_time;
-  spoken = k.unspoken ∙ h.spoken;
-  on = λ o. absurd (not_both (is_open_at (with_permits requests p progress.Closed 0) p) (with_same is_open_progress requests p progress.Closed 0 l) o);
-  some = λ none. h.some (ap packed_in (sym k.submission) ∙ none);
-  open_is = k.closed ∙ sym (with_same is_open_progress requests p progress.Closed 0 l);
-  permits_is = freed ∙ sym (permits_with requests p progress.Closed 0 l);
-}
-
--- any other request
-request_other : (s : Story) (requests : List Request) (link p q : ℕ) → p ≢ q → IsRequest s requests link q → IsRequest s (with_permits requests p progress.Closed 0) link q
-request_other s requests link p q other h = record {
-  what = h.what;
-  handed_in = h.handed_in;
-  in_time = h.in_time;
-  spoken = h.spoken;
-  on = λ o. h.on (sym (with_other is_open_progress requests p q progress.Closed 0 other) ∙ o);
-  some = h.some;
-  open_is = h.open_is ∙ sym (with_other is_open_progress requests p q progress.Closed 0 other);
-  permits_is = h.permits_is ∙ sym (permits_other requests p q progress.Closed 0 other);
-}
-
 -- each submission, by its entry in the table
 pub story_closed : (story : ℕ → Story) (table : List (Option Pending)) (requests : List Request) (link p : ℕ) (closed : ℕ → Story) (n : ℕ) → TiedNames table requests → p < length requests → (closed (name_at requests p)).permits ≡ 0 → Closes (story n) (closed n)
     → TiedStory (story n) requests link (slice_get table n) → TiedStory (with_closed story requests p closed n) (with_permits requests p progress.Closed 0) link (slice_get table n)
@@ -118,11 +78,6 @@ story_closed story table requests link p closed n names l freed c h = by_entry (
 
 -- the tries
 --
--- the owners of starts stay
-pub owners_each_still : (requests : List Request) (p : ℕ) (started : List ℕ) → owners_each (with_permits requests p progress.Closed 0) started ≡ owners_each requests started
-owners_each_still requests p [] = refl
-owners_each_still requests p (q ∷ qs) = (λ i. owners_with requests p progress.Closed 0 i q ∷ owners_each_still requests p qs i)
-
 -- and so do the tries
 pub tries_closed : (l : Ledger) (story : ℕ → Story) (requests : List Request) (link p : ℕ) (closed : ℕ → Story) (started : List ℕ) → ((n : ℕ) → Closes (story n) (closed n)) → TiedTries l story requests link started
     → TiedTries l (with_closed story requests p closed) (with_permits requests p progress.Closed 0) link started
@@ -193,30 +148,6 @@ shown_closed table story requests p q closed names l m other =
     ap (λ n. (with_closed story requests p closed n).waiting) (name_with requests p progress.Closed 0 q)
     ∙ ap (λ (s : Story). s.waiting) (closed_other story requests p closed (name_at requests q) (λ same. other (same_name table requests p q names l m same)))
 
--- the messages whose verdict is wanted then are others, and it was wanted before
-abbrev pub AreOthers : List Request → ℕ → Life → Life → Type 0
-AreOthers requests p life after = (q : ℕ) → IsIn q (awaited_ids (link_in after).queue) → (p ≢ q) × (q < length requests) × IsIn q (awaited_ids (link_in life).queue)
-
--- what is shown of a request that waits for the connection, or for a permit: nothing, or one of these
-abbrev pub IsOneOf : Option WaitKind → Type 0
-IsOneOf x = (x ≡ None) ⊎ ((x ≡ Some wait.Backoff) ⊎ ((x ≡ Some wait.Connect) ⊎ ((x ≡ Some wait.Creds) ⊎ ((x ≡ Some wait.Setup) ⊎ ((x ≡ Some wait.Resubscribe) ⊎ (x ≡ Some wait.Permit))))))
-
--- with another left side
-pub one_of : (x y : Option WaitKind) → x ≡ y → IsOneOf y → IsOneOf x
-one_of x y same h = subst IsOneOf (sym same) h
-
--- a link that is up was so before
-abbrev pub WasReady : Life → Life → Type 0
-WasReady life after = (link : LinkState) → after ≡ Ready link → (x : LinkState) × (life ≡ Ready x)
-
--- a link that waits for credentials did so before
-abbrev pub WasWanting : Life → Life → Type 0
-WasWanting life after = (link : LinkState) → after ≡ Wanting link → (x : LinkState) × (life ≡ Wanting x)
-
--- a link that is set up was so before
-abbrev pub WasSettingUp : Life → Life → Type 0
-WasSettingUp life after = (link : LinkState) (greeting : Greeting) → after ≡ SettingUp link greeting → (x : LinkState) × (life ≡ SettingUp x greeting)
-
 -- the waits of the others stay
 pub waits_closed : (table : List (Option Pending)) (story : ℕ → Story) (requests : List Request) (p : ℕ) (closed : ℕ → Story) (a : Again) (life after : Life) (fresh moved : List ℕ) → TiedNames table requests → p < length requests
     → (after ≡ Resting → life ≡ Resting) → (after ≡ Dialing → life ≡ Dialing) → WasWanting life after → WasSettingUp life after → WasReady life after → AreOthers requests p life after → TiedWaits story requests a life fresh moved
@@ -271,19 +202,8 @@ waits_closed table story requests p closed a life after fresh moved names l rest
       no_room = λ q i r e. let k = others q r in h.no_room q i k.2 (sym (same q k.0 k.1) ∙ e);
     }
 
--- those that have no place
---
--- another request is kept still
-pub kept_other : (requests : List Request) (p q : ℕ) (now : Progress) (count : ℕ) (waiting admitted : List Waiting) → p ≢ q → IsKept requests waiting admitted q → IsKept (with_permits requests p now count) waiting admitted q
-kept_other requests p q now count waiting admitted other (inl a) = inl (with_other is_admitted requests p q now count other ∙ a.0, a.1)
-kept_other requests p q now count waiting admitted other (inr w) = inr (with_other is_waiting requests p q now count other ∙ w.0, w.1)
-
 -- who was told at its place
 --
--- a story, and the one that it was, are told and have no message
-abbrev pub IsUntried : Story → Type 0
-IsUntried s = (is_told s ≡ true) × (s.tries ≡ [])
-
 -- who was told and has not started is in the queue still
 pub told_closed : (story : ℕ → Story) (requests : List Request) (number p : ℕ) (closed : ℕ → Story) (link after : LinkState) → (let n = name_at requests p in IsUntried (closed n) → IsUntried (story n)) → ((n : ℕ) → (closed n).link ≡ (story n).link)
     → ((q : ℕ) → is_told (story (name_at requests q)) ≡ true → IsIn q (queue_ids link.queue) → IsIn q (queue_ids after.queue)) → ((q : ℕ) → IsIn q (queue_ids after.queue) → IsIn q (queue_ids link.queue)) → AreQueued story requests number link

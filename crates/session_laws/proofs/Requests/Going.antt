@@ -1,6 +1,6 @@
 -- A session whose event has had its own effect, while requests are moved.
-use Rattle.std.proofs.Common.{◌+◌, ◌≤◌, List, None, Option, Some, [], ap, arith, false, inl, inr, length, refl, subst, sym, true, ℕ, ◌++◌, ◌<◌, ◌∙◌, ◌∷◌, ◌≡◌, ◌⊎◌}
-use Rattle.std.specs.Prelude.{if◌then◌else◌, is_some, ◌==◌, Bool, not, ◌&&◌}
+use Rattle.std.proofs.Common.{◌≤◌, List, None, Option, Some, [], ap, arith, false, inl, inr, length, refl, subst, sym, true, ℕ, ◌++◌, ◌<◌, ◌∙◌, ◌∷◌, ◌≡◌, ◌⊎◌}
+use Rattle.std.specs.Prelude.{if◌then◌else◌, is_some, ◌==◌, Bool}
 use Rattle.containers.proofs.Choices.{by_test, chosen, eq_from, left_if, ne_from, not_both}
 use Rattle.credentials.specs.Credentials.{Credentials}
 use Rattle.driver_model.specs.declared.action.Action.{Action}
@@ -8,48 +8,43 @@ use Rattle.driver_model.specs.declared.action.WaitKind.TheVariants as wait
 use Rattle.link_core.specs.Link.{LinkState, holds_back, is_full_beside}
 use Rattle.link_laws.proofs.TiedLink.{TiedLink}
 use Rattle.mux_conn.specs.Connection.{has_no_permit, in_front, is_due as is_renewal_due, is_ready, is_resting, is_outstanding}
-use Rattle.mux_conn.specs.Effects.{setup_queued, setup_id}
 use Rattle.mux_conn.specs.Requests.{is_unbegun_at, name_at}
-use Rattle.mux_conn.specs.declared.renewal.Renewal.{Renewal}
 use Rattle.mux_conn.specs.declared.life.Greeting.{Greeting}
 use Rattle.mux_conn.specs.declared.life.Life.{Life}
 use Rattle.mux_conn.specs.declared.life.Life.TheVariants.{Resting, Dialing, Ended, Ready, SettingUp, Wanting}
 use Rattle.legal_trace.specs.Book.{Book, blank_book, book, entered, if_mine}
-use Rattle.legal_trace.specs.Ledger.{Ledger, Line, dials, ending, is_set_up, lacks_credentials, noted, noted_each, renewal_count, renewal_due, renewals_asked, setup_count, setup_due, setup_steps, monitor_due, is_greeted, setup_result}
+use Rattle.legal_trace.specs.Ledger.{Ledger, Line, dials, ending, is_set_up, lacks_credentials, noted, noted_each, renewal_count, renewal_due, renewals_asked, setup_due, monitor_due, is_greeted, setup_result}
 use Rattle.legal_trace.specs.Legal.{AllStand, CanMove, IsApplied, IsBegun, IsFirstToMove, IsMoved, MayStand, NoneEnds, RenewalsAreStarted, RenewalsAreTimed, SetupsAreStarted, MonitorsAreStarted, IsShown, RepeatsAreTimed, RepeatsAreStarted}
 use Rattle.legal_trace.proofs.Ahead.{held_with_link}
 use Rattle.legal_trace.specs.Steps.{Step, is_due, is_held_back, is_renewal_held, next_step, starts_or_waits, step_down, step_ready, unready_wait, waits}
-use Rattle.session_laws.proofs.Ties.Ahead.{HasSeats, IsRunning, creds_step, full_step, held_by, permit_step, queue_step, ready_alive, running_of, setup_step, repeat_step}
+use Rattle.conn_laws.proofs.Ties.Ahead.{HasSeats, ready_alive}
+use Rattle.session_laws.proofs.Ties.Ahead.{IsRunning, creds_step, full_step, held_by, permit_step, queue_step, running_of, setup_step, repeat_step}
 use Rattle.session_laws.proofs.Ties.Behind.{alive_behind}
 use Rattle.session_laws.proofs.Managers.Comes.{NoneComes, live_comes, none_rests}
-use Rattle.session_laws.proofs.Links.Creds.{lacking_undue, wanting_lacks, lacking_undecided}
+use Rattle.conn_laws.proofs.Links.Creds.{lacking_undue, wanting_lacks, lacking_undecided}
 use Rattle.session_laws.proofs.Ties.Entered.{book_more, sound_more}
-use Rattle.session_laws.proofs.Ties.InLine.{first_is_least, kept_ids, kept_in, line_of}
-use Rattle.session_laws.proofs.Ties.Moves.{IsLater, later_of, unstarted_alive}
-use Rattle.session_laws.proofs.Ties.Names.{earlier_name}
-use Rattle.session_laws.proofs.Ties.Numbers.{IsIn, Rising, in_left, in_right, rising_in, rising_right, requests_in}
+use Rattle.conn_laws.proofs.Ties.InLine.{first_is_least, kept_ids, kept_in, line_of}
+use Rattle.conn_laws.proofs.Ties.Moves.{unstarted_alive}
+use Rattle.session_laws.proofs.Ties.Moves.{IsLater, later_of}
+use Rattle.conn_laws.proofs.Ties.Names.{earlier_name}
+use Rattle.conn_laws.proofs.Ties.Numbers.{IsIn, Rising, in_left, in_right, rising_in, rising_right, requests_in}
 use Rattle.session_laws.proofs.Ties.Owes.{created_is, ends_told, none_open, none_owed, notices_told}
-use Rattle.session_laws.proofs.Internal.Renewals.{all_timed, down_renewed_due, due_is, none_renewed_due}
+use Rattle.conn_laws.proofs.Internal.Renewals.{all_timed, down_renewed_due, due_is, none_renewed_due}
 use Rattle.session_laws.proofs.Links.Said.{sources_asked}
-use Rattle.session_laws.proofs.Links.SetUp.{down_undue, none_due, sent_undue, set_up_undue, setting_undecided}
-use Rattle.session_laws.proofs.Ties.States.{AreBegun, IsFit}
-use Rattle.session_laws.proofs.Links.Server.{AreSought, HasSaid, IsSetUp, TiedRenewal, AreRenewed, IsGreeting, watch_queued}
-use Rattle.session_laws.proofs.Ties.Tied.{Inner, Sound, Tied, TiedLife, carried, has_ended, link_in, owner_of, queue_ids, waiting_ids, whole_link, IsToldIn, greeter}
+use Rattle.conn_laws.proofs.Links.SetUp.{down_undue, none_due, set_up_undue, setting_undecided}
+use Rattle.conn_laws.proofs.Ties.States.{AreBegun, IsFit}
+use Rattle.conn_laws.proofs.Links.Server.{AreSought, HasSaid, IsSetUp, TiedRenewal, AreRenewed, watch_queued}
+use Rattle.conn_laws.proofs.Ties.Tied.{TiedLife, carried, has_ended, link_in, owner_of, queue_ids, waiting_ids, whole_link, greeter}
+use Rattle.session_laws.proofs.Ties.Tied.{Inner, Sound, Tied, IsToldIn}
 use Rattle.mux_conn.specs.declared.life.Greeting.TheVariants as greet
-use Rattle.legal_trace.proofs.Setups.{IsUndecided, greeted_is_undue}
+use Rattle.legal_trace.proofs.Setups.{IsUndecided}
 use Rattle.legal_trace.proofs.Watching.{watch_is_up, watch_is_greeted, watch_is_new, watch_is_unset}
-use Rattle.session_laws.proofs.Internal.Repeats.{serves}
-use Rattle.session_laws.proofs.Internal.Serving.{unready_serves, answered_serves}
-use Rattle.session_laws.proofs.Internal.Repeating.{HasRepeated}
-use Rattle.session_laws.proofs.Internal.RepeatsDue.{served_repeated, repeating_timed, repeating_started}
-
--- where new credentials are to be told on a link that is set up, their timer was asked for, and the link is held back
-abbrev pub HasRenewed : Renewal → Life → Type 0
-HasRenewed r life = (link : LinkState) → life ≡ Ready link → is_renewal_due r ≡ true → (r.pending ≡ true) × (holds_back link ≡ true)
-
--- its link goes on
-abbrev pub goes_on : Life → Bool
-goes_on life = not (is_resting life) && not (has_ended life)
+use Rattle.conn_laws.proofs.Internal.Repeats.{serves}
+use Rattle.conn_laws.proofs.Internal.Serving.{unready_serves, answered_serves}
+use Rattle.conn_laws.proofs.Internal.Repeating.{HasRepeated}
+use Rattle.conn_laws.proofs.Internal.RepeatsDue.{served_repeated}
+use Rattle.session_laws.proofs.Internal.RepeatsDue.{repeating_timed, repeating_started}
+use Rattle.conn_laws.proofs.Requests.Going.{HasRenewed, dialing_down, goes_on, ready_not_setting, ready_there, setup_gone, undue_asked}
 
 -- where it doesn't, no generation begins, and no link is asked for
 abbrev pub StaysPut : Book → Life → Type 0
@@ -130,18 +125,8 @@ monitors_started b t h mine m due = by_test (m == t.link) _
     by_life (Ready link) e d = let l = b.link t.link in absurd (not_both (is_set_up l) (watch_is_unset l d) (subst (HasSaid l t.started) e h.setup.said).well)
     by_life (Ended x) e d = absurd (not_both (b.link t.link).up (subst (TiedLife (b.link t.link) b.created) e h.life).0 (watch_is_up (b.link t.link) d))
 
--- what is ready isn't being set up
-ready_not_setting : (life : Life) (link : LinkState) (greeting : Greeting) → is_ready life ≡ true → life ≡ SettingUp link greeting → ⊥
-ready_not_setting life link greeting r e = not_both (is_ready life) (ap is_ready e) r
-
 -- new credentials
 --
--- so as many were to be told as were
-pub undue_asked : (l : Ledger) → renewal_due l ≡ None → renewals_asked l ≡ renewal_count l.starts
-undue_asked l none =
-    let same : renewal_count l.starts + 0 ≡ renewal_count l.starts = omega arith in
-    ap (λ (x : Option Credentials). renewal_count l.starts + (if is_some x then 1 else 0)) none ∙ same
-
 -- all new credentials have their timers that were to be told so far
 pub renewals_timed : (b : Book) (t : Inner) → Tied b t → ((link : LinkState) → t.life ≡ Ready link → is_renewal_due t.renewal ≡ true → t.renewal.pending ≡ true) → RenewalsAreTimed b
 renewals_timed b t h asked m some = by_test (m == t.link) _
@@ -203,15 +188,6 @@ renewals_started : (b : Book) (t : Inner) → Tied b t → ((link : LinkState) �
 renewals_started b t h bound renewed = renewals_held b t h (λ link e due.
     let tied : TiedLink (owner_of t.requests) (b.link t.link) link = subst (λ (x : Life). TiedLink (carried x t.requests) (b.link t.link) (whole_link x)) e (h.link (ap has_ended e)) in
     held_with_link b t.link (held_by b t (owner_of t.requests) link h.numbers (bound link e) tied ∙ (renewed link e due).1))
-
--- what is ready has a link
-pub ready_there : (life : Life) → is_ready life ≡ true → is_resting life ≡ false
-ready_there Resting r = cc
-ready_there Dialing r = refl
-ready_there (Wanting link) r = refl
-ready_there (SettingUp link greeting) r = refl
-ready_there (Ready link) r = refl
-ready_there (Ended e) r = refl
 
 -- so on a link that is up requests may be moved, where new credentials that are to be told have their timer and wait
 pub begun_with : (b : Book) (t : Inner) → Tied b t → IsRunning t → IsToldIn t → NoneEnds b → ((link : LinkState) → t.life ≡ Ready link → is_renewal_due t.renewal ≡ true → (t.renewal.pending ≡ true) × (is_renewal_held b t.link ≡ true)) → IsBegun b
@@ -347,15 +323,6 @@ first_behind b t q rest h r still first n before m =
 down_moves_none : (b : Book) (t : Inner) → Tied b t → (b.link t.link).up ≡ false → (n : ℕ) → CanMove b n → ⊥
 down_moves_none b t h down n m = not_both (b.link t.link).up down (subst (λ l. (b.link l).up ≡ true) (moves_here b t n h m) (moves_up b n m))
 
--- a link whose connect isn't answered isn't up
-dialing_down : (l : Ledger) (created : ℕ) (life : Life) → life ≡ Dialing → TiedLife l created life → l.up ≡ false
-dialing_down l created Resting e h = h.1
-dialing_down l created Dialing e h = h.1
-dialing_down l created (Wanting link) e h = cc
-dialing_down l created (SettingUp link greeting) e h = cc
-dialing_down l created (Ready link) e h = cc
-dialing_down l created (Ended x) e h = cc
-
 -- nor does one on a link that waits for credentials
 wanting_moves_none : (b : Book) (t : Inner) (link : LinkState) → Tied b t → t.life ≡ Wanting link → (n : ℕ) → CanMove b n → ⊥
 wanting_moves_none b t link h e n m =
@@ -374,29 +341,12 @@ repeating_moves_none b t link h e goes n m =
     let a = alive_behind b t n h (unstarted_alive (b.story n) m.unstarted) in
     not_both (is_due (next_step b n)) (ap (λ k. is_due (next_step b k)) (sym a.name) ∙ ap is_due (repeat_step b t a.p link h e goes (ap (λ k. (b.story k).link) a.name ∙ moves_here b t n h m))) m.due
 
--- what gives no number is nothing
-pub none_given : (o : Option ℕ) → ((k : ℕ) → o ≡ Some k → ⊥) → o ≡ None
-none_given None never = refl
-none_given (Some k) never = absurd (never k refl)
-
 -- a link is held back by what is unwritten
 setting_held : (b : Book) (t : Inner) (link : LinkState) (greeting : Greeting) → Tied b t → t.life ≡ SettingUp link greeting → IsFit t.size t.bound link → holds_back link ≡ true → is_held_back b (b.link t.link) ≡ true
 setting_held b t link greeting h e fit stuck =
     let l = b.link t.link in
     let tied : TiedLink (λ (p : ℕ). greeter greeting) l link = subst (λ (x : Life). TiedLink (carried x t.requests) l (whole_link x)) e (h.link (ap has_ended e)) in
     held_by b t (λ (p : ℕ). greeter greeting) link h.numbers fit.bound_is tied ∙ stuck
-
--- the setup of a link is to start no more, where nothing is in its queue
-setup_gone : (l : Ledger) (link : LinkState) (greeting : Greeting) → IsGreeting l link greeting → link.queue ≡ [] → setup_due l ≡ None
-setup_gone l link greet.WithUser said empty = elim said.stage [
-  | inl due ↦ absurd (let no : [] ≡ setup_queued (setup_steps l (setup_count l.starts)) (setup_id greet.WithUser) ∷ [] = sym empty ∙ due.queue in cc)
-  | inr sent ↦ none_due l (sent_undue l link greet.WithUser sent)
-]
-setup_gone l link greet.WithoutUser said empty = elim said.stage [
-  | inl due ↦ absurd (let no : [] ≡ setup_queued (setup_steps l (setup_count l.starts)) (setup_id greet.WithoutUser) ∷ [] = sym empty ∙ due.queue in cc)
-  | inr sent ↦ none_due l (sent_undue l link greet.WithoutUser sent)
-]
-setup_gone l link greet.Monitor said empty = none_given (setup_due l) (λ k due. greeted_is_undue l k said.greeted due)
 
 -- it is to start no more, or is held back
 setting_done : (b : Book) (t : Inner) (link : LinkState) (greeting : Greeting) → Tied b t → t.life ≡ SettingUp link greeting → IsFit t.size t.bound link → (link.queue ≡ []) ⊎ (holds_back link ≡ true) → (setup_due (b.link t.link) ≡ None) ⊎ (is_held_back b (b.link t.link) ≡ true)

@@ -1,7 +1,7 @@
 -- A response timer fires: where its request is open, its time is over. And the event that sets a time.
-use Rattle.std.proofs.Common.{◌≡◌, ◌≢◌, inl, inr, ℕ, ◌<◌, ◌==◌, true, false, ◌&&◌, ◌||◌, not, is_some, List, [], ◌∷◌, ◌++◌, length, Option, Some, None, slice_get, suc, if◌then◌else◌, refl, sym, ap, ◌∙◌, subst, arith}
+use Rattle.std.proofs.Common.{◌≡◌, ◌≢◌, inl, inr, ℕ, ◌<◌, ◌==◌, true, false, ◌&&◌, ◌||◌, not, is_some, List, [], ◌∷◌, ◌++◌, length, Option, Some, None, slice_get, if◌then◌else◌, refl, sym, ap, ◌∙◌, subst, arith}
 use Rattle.std.specs.List.{AllByRecursion}
-use Rattle.containers.proofs.Choices.{by_test, both_left, chosen, left_if, taken_if, eq_from, eq_test, if_false, if_true, ne_from, ne_test, not_both, or_left}
+use Rattle.containers.proofs.Choices.{by_test, chosen, left_if, taken_if, eq_from, eq_test, if_false, if_true, ne_from, ne_test, not_both, or_left}
 use Rattle.redis_error.specs.declared.fault_kind.FaultKind.TheVariants as kinds
 use Rattle.redis_error.specs.declared.redis_error.RedisError.TheVariants as error
 use Rattle.driver_model.specs.declared.action.Action.{Action}
@@ -12,11 +12,9 @@ use Rattle.driver_model.specs.declared.action.Purpose.TheVariants as purpose
 use Rattle.driver_model.specs.declared.event.EventKind.TheVariants as event
 use Rattle.driver_model.specs.declared.outcome.Outcome.TheVariants as outcome
 use Rattle.driver_model.specs.News.{News, of_timer, silence}
-use Rattle.link_core.specs.declared.message.Entry.{Entry}
-use Rattle.link_core.specs.declared.message.Queued.{Queued}
 use Rattle.link_core.specs.Link.{LinkState, cancelled}
-use Rattle.link_core.specs.Row.{silent, is_entry_of, silenced}
-use Rattle.link_core.specs.Waiting.{is_wanted, without}
+use Rattle.link_core.specs.Row.{silenced}
+use Rattle.link_core.specs.Waiting.{without}
 use Rattle.link_laws.specs.Settles.{wanted, awaited_ids}
 use Rattle.mux_conn.specs.declared.act.LinkAct.TheVariants as act
 use Rattle.mux_conn.specs.declared.connection.MultiplexedConnection.{MultiplexedConnection}
@@ -37,48 +35,41 @@ use Rattle.legal_trace.specs.Owed.{owed, owed_to_try}
 use Rattle.legal_trace.specs.Story.{Story, answered, awaited_in, bytes_of, fires, is_no_error, is_open, is_told, last_of}
 use Rattle.legal_trace.specs.Book.{Book, after_event, book, entered, if_own, is_clock_of, kind_in, timeout_after, has_generations}
 use Rattle.legal_trace.specs.Legal.{NoneEnds}
-use Rattle.session_laws.proofs.Requests.Rounded.{rounds_same}
-use Rattle.session_laws.proofs.Internal.Renewals.{renewal_alike}
-use Rattle.session_laws.proofs.Ties.Numbers.{IsIn, in_left, in_right, in_either, Rising, rising_in, rising_right, rising_tail, requests_in, request_in, request_of, request_other, is_own}
-use Rattle.session_laws.proofs.Ties.Tied.{Inner, inner, no_link, link_in, queue_ids, IsEntry, IsQueued, IsRequest, AreQueued, TiedLines, TiedPermits, TiedStory, TiedWaits, Tied, has_ended, shown_wait, TiedRounds}
-use Rattle.session_laws.proofs.Ties.States.{Between, HasApplied, IsStopped}
-use Rattle.session_laws.proofs.Ties.Behind.{open_untold}
-use Rattle.session_laws.proofs.Ties.Names.{name_of_some, open_within, same_name, request_not}
-use Rattle.session_laws.proofs.Ties.InLine.{row_ids, chosen_in, kept_ids, line_of, open_in_line}
-use Rattle.session_laws.proofs.Ties.Owes.{answered_closed, in_time, line_unowed, lives, none_open, not_empty, request_story, row_in_line, IsAwake}
-use Rattle.session_laws.proofs.Ties.Permits.{IsHolding, permits_same}
-use Rattle.session_laws.proofs.Ties.Kept.{one_changed, packed_same, queued_same, tied_by, tries_same}
-use Rattle.session_laws.proofs.Requests.Closing.{one_of, told_closed}
+use Rattle.conn_laws.proofs.Requests.Rounded.{rounds_same}
+use Rattle.conn_laws.proofs.Internal.Renewals.{renewal_alike}
+use Rattle.conn_laws.proofs.Ties.Numbers.{IsIn, in_left, in_right, in_either, Rising, rising_right, rising_tail, requests_in, request_in, request_of, request_other, is_own}
+use Rattle.conn_laws.proofs.Ties.Tied.{no_link, link_in, queue_ids, IsQueued, AreQueued, TiedLines, TiedPermits, TiedStory, TiedWaits, has_ended, shown_wait, TiedRounds}
+use Rattle.session_laws.proofs.Ties.Tied.{Inner, inner, Tied}
+use Rattle.conn_laws.proofs.Ties.States.{IsStopped}
+use Rattle.session_laws.proofs.Ties.States.{Between, HasApplied}
+use Rattle.conn_laws.proofs.Ties.Behind.{open_untold}
+use Rattle.conn_laws.proofs.Ties.Names.{name_of_some, open_within, same_name}
+use Rattle.session_laws.proofs.Ties.Names.{request_not}
+use Rattle.conn_laws.proofs.Ties.InLine.{row_ids, kept_ids, line_of, open_in_line}
+use Rattle.conn_laws.proofs.Ties.Owes.{answered_closed, lives}
+use Rattle.session_laws.proofs.Ties.Owes.{in_time, line_unowed, none_open, not_empty, request_story, row_in_line, IsAwake}
+use Rattle.conn_laws.proofs.Ties.Permits.{permits_same}
+use Rattle.conn_laws.proofs.Ties.Kept.{packed_same, queued_same, tries_same}
+use Rattle.session_laws.proofs.Ties.Kept.{one_changed, tied_by}
+use Rattle.conn_laws.proofs.Requests.Closing.{one_of}
+use Rattle.session_laws.proofs.Requests.Closing.{told_closed}
 use Rattle.session_laws.proofs.Requests.Answer.{answer_apart, may_answer, owed_untold, none_before}
 use Rattle.session_laws.proofs.Requests.Settle.{book_of_more, holds_more, seen, trace_of_acts}
 use Rattle.session_laws.proofs.Turn.Announce.{announced_sound, first_book, holds_first, turn_of, turned, uses_on, time_still}
 use Rattle.session_laws.proofs.Turn.Heard.{silent_applied, still_none, tame_between, hushed_still}
-use Rattle.session_laws.proofs.Requests.Cancel.{IsSilent, left_creds, left_fit, left_life, left_link, left_others, left_setup, none_more, queued_apart, silenced_wanted, silent_core, silent_ends, silent_numbers, silent_others, still_dials, still_tied, was_ready, was_setting, was_wanting, without_awaited, without_in, without_others, without_rises, apart_behind, rising_behind, left_renewal, left_course, left_notices, early_cancelled, left_stopped, resting_cancelled, still_rests, left_repeat, serves_cancelled}
+use Rattle.conn_laws.proofs.Requests.Cancel.{left_creds, left_fit, left_life, left_link, left_others, left_setup, silenced_wanted, still_dials, was_ready, was_setting, was_wanting, without_awaited, without_in, without_others, without_rises, left_renewal, early_cancelled, left_stopped, resting_cancelled, still_rests, left_repeat, serves_cancelled}
+use Rattle.session_laws.proofs.Requests.Cancel.{IsSilent, none_more, silent_core, silent_ends, silent_numbers, silent_others, still_tied, left_course, left_notices}
 use Rattle.driver_model.specs.declared.kind.SessionKind.{SessionKind}
 use Rattle.driver_model.specs.declared.kind.SessionKind.TheVariants as session
 use Rattle.driver_model.specs.Kind.{has_timeouts}
-use Rattle.session_laws.proofs.Links.Said.{IsTame, renoticed}
-use Rattle.session_laws.proofs.Internal.Serving.{resting_unready, unready_serves}
+use Rattle.conn_laws.proofs.Links.Said.{IsTame, renoticed}
+use Rattle.conn_laws.proofs.Internal.Serving.{resting_unready, unready_serves}
 use Rattle.session_laws.proofs.Requests.Submit.{or_none}
-use Rattle.session_laws.proofs.Internal.Repeats.{repeat_alike}
+use Rattle.conn_laws.proofs.Internal.Repeats.{repeat_alike}
+use Rattle.conn_laws.proofs.Requests.Late.{IsFired, all_without, fires_request, fires_same, silenced_apart, silenced_still, still_alive, without_none}
 
 -- a story whose timer fires
 --
--- the same but that its time may be over
-pub record IsFired (s t : Story) : Type 0 where
-  pub submission : s.submission ≡ t.submission
-  pub timeout : s.timeout ≡ t.timeout
-  pub tries : s.tries ≡ t.tries
-  pub waiting : t.waiting ≡ s.waiting
-  pub outcomes : s.outcomes ≡ t.outcomes
-  pub holds : IsHolding s t
-
--- so it is
-fires_same : (s : Story) → IsFired s (fires s)
-fires_same s = chosen (IsFired s) (is_open s) (record s { overdue = true }) s
-    (λ t. record { submission = refl; timeout = refl; tries = refl; waiting = refl; outcomes = refl; holds = record { link = refl; permits = refl; timeout = refl; clock = refl } })
-    (λ f. record { submission = refl; timeout = refl; tries = refl; waiting = refl; outcomes = refl; holds = record { link = refl; permits = refl; timeout = refl; clock = refl } })
-
 -- the stories where the timer of submission m fires
 abbrev fires_at : ℕ → (ℕ → Story) → ℕ → Story
 fires_at m story n = if_own (m == n) (fires (story n)) (story n)
@@ -95,61 +86,9 @@ fires_rounds m story n = chosen (λ (x : Story). x.rounded ≡ (story n).rounded
     (λ t. chosen (λ (x : Story). x.rounded ≡ (story n).rounded) (is_open (story n)) (record (story n) { overdue = true }) (story n) (λ o. refl) (λ f. refl))
     (λ f. refl)
 
--- a request is one still
-fires_request : (s : Story) (requests : List Request) (link p : ℕ) → IsRequest s requests link p → IsRequest (fires s) requests link p
-fires_request s requests link p h = chosen (λ (x : Story). IsRequest x requests link p) (is_open s) (record s { overdue = true }) s
-    (λ t. record { what = h.what; handed_in = h.handed_in; in_time = h.in_time; spoken = h.spoken; on = h.on; some = h.some; open_is = h.open_is; permits_is = h.permits_is })
-    (λ f. h)
-
 -- who was told is told
 fired_told : (m : ℕ) (story : ℕ → Story) (n : ℕ) → is_told (fires_at m story n) ≡ is_told (story n)
 fired_told m story n = let same = fired_at m story n in sym (λ i. not (awaited_in (same.submission i)) && is_no_error (same.outcomes i))
-
--- a link without its message
---
--- what holds of each of a queue
-all_without : (P : Queued → Type 0) (queue : List Queued) (p : ℕ) → AllByRecursion P queue → AllByRecursion P (without queue p)
-all_without P [] p all = tt
-all_without P (q ∷ qs) p all = chosen (AllByRecursion P) (is_wanted p q) qs (q ∷ without qs p) (λ t. all.1) (λ f. (all.0, all_without P qs p all.1))
-
--- the entries of a row
-silenced_still : (requests : List Request) (row : List Entry) (p : ℕ) → is_own p ≡ false → AllByRecursion (IsEntry requests) row → AllByRecursion (IsEntry requests) (silenced row p)
-silenced_still requests [] p other all = tt
-silenced_still requests (e ∷ es) p other all =
-    chosen (AllByRecursion (IsEntry requests)) (is_entry_of p e) (silent e ∷ es) (e ∷ silenced es p)
-    (λ t. (
-      elim all.0 [ inl x ↦ inl (record { below = x.below; placed_at = λ z. cc }) | inr a ↦ absurd (not_both (is_own e.id) (ap is_own (eq_from e.id p t) ∙ other) a.is) ],
-      all.1,
-    ))
-    (λ f. (all.0, silenced_still requests es p other all.1))
-
--- the request is not wanted in the row any more
-silenced_apart : (row : List Entry) (ys : List ℕ) (p lo hi : ℕ) → is_own p ≡ false → Rising lo (requests_in (row_ids row) ++ ys) hi → IsIn p (wanted (silenced row p)) → ⊥
-silenced_apart [] ys p lo hi other r i = i
-silenced_apart (e ∷ es) ys p lo hi other r i =
-    chosen (λ (row : List Entry). IsIn p (wanted row) → ⊥) (is_entry_of p e) (silent e ∷ es) (e ∷ silenced es p)
-    (λ t j.
-    let same = eq_from e.id p t in
-    apart_behind lo e.id es ys hi (ap is_own same ∙ other) r (subst (λ n. IsIn n (wanted es)) (sym same) j))
-    (λ f j. elim (in_either p (if e.awaited then e.id ∷ [] else []) (wanted (silenced es p)) j) [
-      | inl k ↦ ne_from e.id p f (chosen_in e.awaited p e.id k)
-      | inr k ↦ silenced_apart es ys p lo hi other (rising_behind lo e.id (row_ids es) ys hi r) k
-    ]) i
-
--- nor is it in the queue
-without_none : (story : ℕ → Story) (requests : List Request) (queue : List Queued) (ys : List ℕ) (p lo hi : ℕ) → is_open (story (name_at requests p)) ≡ true → Rising lo (queue_ids queue ++ ys) hi → AllByRecursion (IsQueued story requests) queue
-    → IsIn p (queue_ids (without queue p)) → ⊥
-without_none story requests [] ys p lo hi o r all i = i
-without_none story requests (x ∷ xs) ys p lo hi o r all i =
-    chosen (λ (qs : List Queued). IsIn p (queue_ids qs) → ⊥) (is_wanted p x) xs (x ∷ without xs p)
-    (λ t j.
-    let same = eq_from x.id p (both_left (x.id == p) x.awaited t) in
-    let k = rising_in (suc x.id) (queue_ids xs ++ ys) hi p r.1 (in_left p (queue_ids xs) ys j) in
-    omega (arith, k.0, same))
-    (λ f j. elim j [
-      | inl same ↦ queued_apart story requests p x o f all.0 (sym same)
-      | inr k ↦ without_none story requests xs ys p (suc x.id) hi o r.1 all.1 k
-    ]) i
 
 -- the session where the time of a request is over
 --
@@ -441,15 +380,6 @@ open_awake before c started p h o rests = by_test c.shut _
     bare (SettingUp link greeting) z = refl
     bare (Ready link) z = cc
     bare (Ended x) z = refl
-
--- a cancel ends no link
-still_alive : (life : Life) (p : ℕ) → has_ended life ≡ false → has_ended (cancelled_in life p) ≡ false
-still_alive Resting p e = refl
-still_alive Dialing p e = refl
-still_alive (Wanting link) p e = refl
-still_alive (SettingUp link greeting) p e = refl
-still_alive (Ready link) p e = refl
-still_alive (Ended x) p e = e
 
 -- the time of an open request is over: it is answered
 late_answered : (before : List Action) (c : Core) (started : List ℕ) (word n p : ℕ) → Between before c started → is_bad c (event.Fired n) ≡ false → IsClock c n p → is_open_at c.single.connection.requests p ≡ true

@@ -1,5 +1,5 @@
 -- The round of a request begins.
-use Rattle.std.proofs.Common.{List, None, Option, Some, [], ap, false, inl, inr, length, refl, subst, sym, true, ℕ, ◌++◌, ◌<◌, ◌∙◌, ◌∷◌, ◌≡◌, ◌≢◌}
+use Rattle.std.proofs.Common.{List, None, Some, [], ap, false, inl, inr, length, refl, subst, sym, true, ℕ, ◌++◌, ◌<◌, ◌∙◌, ◌∷◌, ◌≡◌, ◌≢◌}
 use Rattle.std.specs.Prelude.{◌==◌}
 use Rattle.containers.proofs.Choices.{by_test, chosen, eq_from, eq_test, left_if, ne_from, ne_test, not_both, taken_if}
 use Rattle.driver_model.specs.declared.action.Action.{Action}
@@ -14,22 +14,26 @@ use Rattle.mux_conn.specs.declared.request.Request.{Request}
 use Rattle.mux_conn.specs.Requests.{at_progress, is_admitted, is_admitted_at, is_open, is_placed, is_placed_at, is_unbegun, is_unbegun_at, is_waiting, is_waiting_at, name_at, permits_at}
 use Rattle.legal_trace.specs.Book.{Book, book, entered, has_generations, if_own}
 use Rattle.legal_trace.specs.Legal.{IsFirstToMove, MayRound, NoneEnds}
-use Rattle.legal_trace.specs.Steps.{is_let_in}
 use Rattle.legal_trace.specs.Story.{Story, rounds}
-use Rattle.session_laws.proofs.Ties.Ahead.{IsRunning, kept_unstarted, round_step, waiting_open}
-use Rattle.session_laws.proofs.Requests.Closing.{one_of}
-use Rattle.session_laws.proofs.Requests.Further.{no_wait}
-use Rattle.session_laws.proofs.Requests.Going.{HasRenewed, IsGoing, begun_up, going_more}
-use Rattle.session_laws.proofs.Requests.LetIn.{AreEased, eased_at, test_kept, waits_on_tied}
-use Rattle.session_laws.proofs.Ties.Names.{length_still, name_still, permits_still, same_name, there_other, there_then, there_within}
-use Rattle.session_laws.proofs.Ties.Numbers.{IsIn, Rising, in_right}
+use Rattle.conn_laws.proofs.Changes.Requests.{waiting_open, unbegun_waits}
+use Rattle.session_laws.proofs.Ties.Ahead.{IsRunning, kept_unstarted, round_step}
+use Rattle.conn_laws.proofs.Requests.Closing.{one_of}
+use Rattle.conn_laws.proofs.Requests.Further.{no_wait}
+use Rattle.conn_laws.proofs.Requests.Going.{HasRenewed}
+use Rattle.session_laws.proofs.Requests.Going.{IsGoing, begun_up, going_more}
+use Rattle.conn_laws.proofs.Requests.LetIn.{AreEased, test_kept}
+use Rattle.session_laws.proofs.Requests.LetIn.{eased_at, waits_on_tied}
+use Rattle.conn_laws.proofs.Ties.Names.{length_still, name_still, same_name, there_other, there_then, there_within}
+use Rattle.conn_laws.proofs.Ties.Numbers.{IsIn, Rising, in_right}
 use Rattle.session_laws.proofs.Ties.Owes.{open_on, request_story}
-use Rattle.session_laws.proofs.Ties.Permits.{IsHolding, holding_same, permits_same}
-use Rattle.session_laws.proofs.Requests.Rounded.{unbegun_waits}
-use Rattle.session_laws.proofs.Ties.Tied.{IsToldIn, Inner, Tied, TiedPermits, TiedRounds, TiedWaits, link_in, numbers_kept, shown_wait, waiting_ids}
-use Rattle.session_laws.proofs.Requests.Waits.{awaited_placed, waiting_apart, waiting_there}
-use Rattle.session_laws.proofs.Internal.Repeats.{serves}
-use Rattle.session_laws.proofs.Internal.Serving.{answered_serves, serves_ready, serves_answered}
+use Rattle.conn_laws.proofs.Ties.Permits.{IsHolding, holding_same, permits_same}
+use Rattle.conn_laws.proofs.Ties.Tied.{TiedRounds, TiedWaits, link_in, shown_wait, waiting_ids}
+use Rattle.session_laws.proofs.Ties.Tied.{IsToldIn, Inner, Tied, numbers_kept}
+use Rattle.conn_laws.proofs.Requests.Waits.{awaited_placed, waiting_apart}
+use Rattle.session_laws.proofs.Requests.Waits.{waiting_there}
+use Rattle.conn_laws.proofs.Internal.Repeats.{serves}
+use Rattle.conn_laws.proofs.Internal.Serving.{answered_serves, serves_ready, serves_answered}
+use Rattle.conn_laws.proofs.Requests.Rounds.{round_permits}
 
 -- the action that shows it
 abbrev pub round_action : Inner → ℕ → Action
@@ -117,23 +121,6 @@ round_waits b t p h serving u anew =
       no_place = λ m i a e. h.waits.no_place m i (admits m a) (sym (admitted_is m a) ∙ e);
       seatless = λ m a e. h.waits.seatless m (admits m a) (sym (admitted_is m a) ∙ e);
       no_room = λ m i j e. h.waits.no_room m i j (sym (queued_is m j) ∙ e);
-    }
-
--- the permits are as they were
-round_permits : (story : ℕ → Story) (submissions : ℕ) (requests : List Request) (link : ℕ) (limit : Option ℕ) (free : ℕ) (letting : List ℕ) (p : ℕ) → is_waiting_at requests p ≡ true → TiedPermits story submissions requests link limit free letting
-    → TiedPermits story submissions (at_progress requests p progress.Begun) link limit free letting
-round_permits story submissions requests link limit free letting p w h =
-    let named = name_still requests p progress.Begun in
-    let count = permits_at requests p in
-    record {
-      counted = h.counted;
-      none = λ m v out.
-          let k = h.none m (sym (test_kept is_waiting requests p count m refl w) ∙ v) out in
-          (permits_still requests p m progress.Begun (there_within is_waiting requests p w) ∙ k.0, ap (λ n. (story n).clock) (named m) ∙ k.1);
-      let_in = λ m e. ap (λ n. is_let_in limit (story n)) (named m) ∙ h.let_in m (elim e [
-        | inl a ↦ inl (sym (test_kept is_admitted requests p count m refl w) ∙ a)
-        | inr a ↦ inr (sym (test_kept is_placed requests p count m refl w) ∙ a)
-      ]);
     }
 
 -- the rounds: its own has begun

@@ -1,18 +1,17 @@
 -- The waits of a turn are shown, and the turn is settled.
-use Rattle.mux_conn.specs.Turn.{written, early_wait, waits_for, flushed, fresh_each_shown, fresh_wait, is_from, moved_each_shown, moved_wait, wait_shown, waits_shown}
-use Rattle.std.proofs.Common.{Bool, List, None, Option, Some, [], ap, false, inl, inr, length, refl, subst, suc, sym, true, ℕ, ◌++◌, ◌+◌, ◌<◌, ◌∙◌, ◌∷◌, ◌≡◌, ◌≢◌, ◌⊎◌, arith}
+use Rattle.mux_conn.specs.Turn.{written, waits_for, flushed, fresh_each_shown, fresh_wait, is_from, moved_each_shown, moved_wait, wait_shown, waits_shown}
+use Rattle.std.proofs.Common.{List, None, Option, Some, [], ap, false, inl, inr, length, refl, subst, suc, sym, true, ℕ, ◌++◌, ◌+◌, ◌<◌, ◌∙◌, ◌∷◌, ◌≡◌, ◌≢◌, ◌⊎◌, arith}
 use Rattle.std.specs.Prelude.{if◌then◌else◌, ◌&&◌, is_some}
-use Rattle.containers.proofs.Choices.{by_test, both_left, both_right, chosen, le_test, left_if, not_both, taken_if}
+use Rattle.containers.proofs.Choices.{by_test, both_left, both_right, chosen, left_if, not_both, taken_if}
 use Rattle.driver_model.specs.declared.action.Action.{Action}
 use Rattle.driver_model.specs.declared.action.WaitKind.{WaitKind}
 use Rattle.driver_model.specs.declared.action.WaitKind.TheVariants as wait
 use Rattle.link_core.specs.Link.{LinkState, first_in}
-use Rattle.link_core.specs.declared.message.Queued.{Queued}
 use Rattle.link_laws.proofs.Started.{row_open}
 use Rattle.link_laws.specs.Settles.{StandsAs, awaited_ids, wanted}
 use Rattle.mux_conn.specs.Connection.{Work, first_queued, is_ready, in_front, is_outstanding}
 use Rattle.mux_conn.specs.Passes.{passed}
-use Rattle.mux_conn.specs.Requests.{is_admitted_at, is_open_at, is_placed_at, is_waiting_at, name_at, is_unbegun_at}
+use Rattle.mux_conn.specs.Requests.{is_admitted_at, is_open_at, is_placed_at, is_waiting_at, name_at}
 use Rattle.mux_conn.specs.declared.act.LinkAct.TheVariants as act
 use Rattle.mux_conn.specs.declared.connection.MultiplexedConnection.{MultiplexedConnection}
 use Rattle.redis_error.specs.declared.redis_error.RedisError.{RedisError}
@@ -24,24 +23,32 @@ use Rattle.legal_trace.specs.Book.{Book, book, entered}
 use Rattle.legal_trace.specs.Ledger.{setup_count}
 use Rattle.legal_trace.specs.Legal.{IsMoved, IsSettled, IsStarted, IsWaiting, IsWritten, NoneEnds, WaitHolds}
 use Rattle.legal_trace.specs.Story.{last_of}
-use Rattle.session_laws.proofs.Requests.Rounded.{rounds_new}
-use Rattle.session_laws.proofs.Ties.Ahead.{dialing_step, placed_open, setup_step, waiting_open, admitted_open, creds_step, HasSeats, resting_step, repeat_step}
+use Rattle.conn_laws.proofs.Requests.Rounded.{rounds_new}
+use Rattle.conn_laws.proofs.Ties.Ahead.{placed_open, admitted_open, HasSeats}
+use Rattle.conn_laws.proofs.Changes.Requests.{waiting_open}
+use Rattle.session_laws.proofs.Ties.Ahead.{dialing_step, setup_step, creds_step, resting_step, repeat_step}
 use Rattle.session_laws.proofs.Requests.Going.{is_moved, StaysPut}
-use Rattle.session_laws.proofs.Ties.InLine.{awaited_in, first_is_least, kept_ids, wanted_in}
+use Rattle.conn_laws.proofs.Ties.InLine.{awaited_in, kept_ids, wanted_in}
 use Rattle.session_laws.proofs.Requests.Moved.{passed_moved, ComesOrdered, HasMoved, IsReady}
-use Rattle.session_laws.proofs.Ties.Names.{open_within}
-use Rattle.session_laws.proofs.Ties.Numbers.{IsIn, Rising, in_left, in_right, rising_in, rising_left, rising_right, requests_in}
-use Rattle.session_laws.proofs.Ties.Owes.{IsOpenRequest, lives, none_open, open_request, request_story, row_link, stands_started, wanted_entry, open_on}
+use Rattle.conn_laws.proofs.Ties.Names.{open_within}
+use Rattle.conn_laws.proofs.Ties.Numbers.{IsIn, Rising, in_left, in_right, rising_in, rising_left, rising_right, requests_in}
+use Rattle.conn_laws.proofs.Ties.Owes.{lives, row_link, wanted_entry}
+use Rattle.session_laws.proofs.Ties.Owes.{IsOpenRequest, none_open, open_request, request_story, stands_started, open_on}
 use Rattle.session_laws.proofs.Requests.Settle.{book_of_more, seen, sound_act, trace_of_acts, shown_now}
-use Rattle.session_laws.proofs.Ties.States.{Between, HasApplied, IsFitIn, IsStill, trace_with, AreBegun, IsStopped, HasEffect}
-use Rattle.session_laws.proofs.Ties.Tied.{Inner, Sound, Tied, TiedLife, TiedWaits, has_ended, link_in, owner_of, queue_ids, relined, shown_wait, waiting_ids, IsHeeded}
-use Rattle.session_laws.proofs.Requests.Waits.{IsEarly, IsPlacedOrKept, IsQuiet, WaitsSo, admitted_there, admitted_unplaced, awaited_placed, behind_places, down_admits, fresh_waits, located, moved_waits, passed_waits, permit_holds, place_holds, placed_there, room_holds, stale_waits, wait_may, wait_tied, waiting_apart, waiting_is, waiting_there, waits_at, with_unshown}
-use Rattle.session_laws.proofs.Links.Write.{HasWritten, IsOfferedIn, is_written, written_holds, HasReturned, hushed_in, plain_returned}
+use Rattle.conn_laws.proofs.Ties.States.{IsFitIn, IsStill, IsStopped}
+use Rattle.session_laws.proofs.Ties.States.{Between, HasApplied, trace_with, HasEffect}
+use Rattle.conn_laws.proofs.Ties.Tied.{TiedLife, TiedWaits, has_ended, link_in, owner_of, queue_ids, shown_wait, waiting_ids}
+use Rattle.session_laws.proofs.Ties.Tied.{Inner, Sound, Tied, relined, IsHeeded}
+use Rattle.conn_laws.proofs.Requests.Waits.{admitted_unplaced, awaited_placed, waiting_apart}
+use Rattle.session_laws.proofs.Requests.Waits.{IsEarly, IsPlacedOrKept, IsQuiet, WaitsSo, admitted_there, behind_places, down_admits, fresh_waits, located, moved_waits, passed_waits, permit_holds, place_holds, placed_there, room_holds, stale_waits, wait_may, wait_tied, waiting_is, waiting_there, waits_at, with_unshown}
+use Rattle.conn_laws.proofs.Links.Write.{IsOfferedIn, hushed_in}
+use Rattle.session_laws.proofs.Links.Write.{HasWritten, is_written, written_holds, HasReturned, plain_returned}
 use Rattle.session_laws.proofs.Managers.Comes.{NoneComes, wait_comes}
 use Rattle.session_laws.proofs.Internal.Informed.{IsInformed, alike_still, wait_alike}
-use Rattle.session_laws.proofs.Internal.Repeats.{serves}
-use Rattle.session_laws.proofs.Internal.Serving.{unready_serves, outstanding_serves}
+use Rattle.conn_laws.proofs.Internal.Serving.{unready_serves, outstanding_serves}
 use Rattle.mux_conn.specs.declared.again.Again.{Again}
+use Rattle.conn_laws.proofs.Requests.Settled.{from_first, none_fresh, none_moved, still_new, unmoved, wait_at}
+use Rattle.conn_laws.proofs.Changes.Rest.{fresh_conn, moved_conn, wait_conn}
 
 -- the bytes of a turn are offered, and its waits are shown but for these: of those that were moved, and of those that came
 -- in it
@@ -72,10 +79,6 @@ showing_written before f w moved fresh started h =
     let t = unshown f w moved fresh started in
     let all : IsMoved b = is_moved b t h.sound.tied refl (refl, refl) refl h.ended h.fit.link h.fit.none h.still.held h.still.full h.still.waiting h.still.none_waits (λ over. hushed_in w.conn.life w.conn.waiting (h.hushed over)) h.put h.fit.setup h.still.setup h.seats h.still.repeated h.still.renewed h.still.begun in
     is_written b t h.sound.tied all h.offered
-
--- whoever waits for its round came in this turn, since nobody does
-still_new : (w : Work) (newer : List ℕ) → AreBegun w.conn.rounds w.conn.again w.conn.life w.conn.requests → (p : ℕ) → w.conn.rounds ≡ true → serves w.conn.life w.conn.again ≡ true → is_unbegun_at w.conn.requests p ≡ true → IsIn p newer
-still_new w newer begun p shows up u = absurd (not_both (is_unbegun_at w.conn.requests p) (begun shows up p) u)
 
 -- other waits are still to be shown
 retied : (before : List Action) (f : Core) (w : Work) (moved fresh started later newer : List ℕ) → ((p : ℕ) → IsIn p later → IsIn p moved) → IsShowing before f w moved fresh started → TiedWaits (book (trace_of_acts before f w.acts)).story w.conn.requests w.conn.again w.conn.life newer later → IsShowing before f w later newer started
@@ -145,11 +148,6 @@ placed_so t p placed = record {
   moved = λ w. not_both (is_placed_at t.requests p) (waiting_apart t.requests p w).1 placed;
 }
 
--- who is in a queue is its first message, or stands behind it
-from_first : (queue : List Queued) (lo hi p : ℕ) → Rising lo (queue_ids queue) hi → IsIn p (queue_ids queue) → is_from (first_in queue) p ≡ true
-from_first [] lo hi p r i = absurd i
-from_first (q ∷ qs) lo hi p r i = le_test q.id p (first_is_least lo q.id (queue_ids qs) hi p r i)
-
 -- the numbers of a queue rise
 queue_rises : (b : Book) (t : Inner) → Tied b t → Rising 0 (queue_ids (link_in t.life).queue) (length t.requests)
 queue_rises b t h =
@@ -215,45 +213,12 @@ moved_shown_up before f w p ps fresh started link e served h =
     let behind = first_is ∙ from_first queue 0 (length w.conn.requests) p (queue_rises b t h.sound.tied) (awaited_in p queue i) in
     not_both (placed && from) n (λ j. has j && behind j)))))
 
--- a wait that is shown leaves the connection
-wait_conn : (w : Work) (p : ℕ) (kind : Option WaitKind) → (wait_shown w p kind).conn ≡ w.conn
-wait_conn w p None = refl
-wait_conn w p (Some kind) = refl
-
--- and so do all
-moved_conn : (w : Work) (ps : List ℕ) → (moved_each_shown w ps).conn ≡ w.conn
-moved_conn w [] = refl
-moved_conn w (p ∷ ps) = moved_conn (wait_shown w p (moved_wait w.conn p)) ps ∙ wait_conn w p (moved_wait w.conn p)
-
 -- all of them do
 moved_each_up : (before : List Action) (f : Core) (w : Work) (ps fresh started : List ℕ) (link : LinkState) → w.conn.life ≡ Ready link → is_outstanding w.conn.again ≡ false → IsShowing before f w ps fresh started → IsShowing before f (moved_each_shown w ps) [] fresh started
 moved_each_up before f w [] fresh started link e served h = h
 moved_each_up before f w (p ∷ ps) fresh started link e served h =
     let kind = moved_wait w.conn p in
     moved_each_up before f (wait_shown w p kind) ps fresh started link (ap (λ (c : MultiplexedConnection). c.life) (wait_conn w p kind) ∙ e) (ap (λ (c : MultiplexedConnection). is_outstanding c.again) (wait_conn w p kind) ∙ served) (moved_shown_up before f w p ps fresh started link e served h)
-
--- where nothing is in the queue, nobody waits for room there
-none_from : (life : Life) (p : ℕ) (placed : Bool) → (link_in life).queue ≡ [] → (placed && is_from (first_queued life) p) ≡ false
-none_from Resting p true none = refl
-none_from Resting p false none = refl
-none_from Dialing p true none = refl
-none_from Dialing p false none = refl
-none_from (Wanting link) p true none = refl
-none_from (Wanting link) p false none = refl
-none_from (SettingUp link greeting) p true none = refl
-none_from (SettingUp link greeting) p false none = refl
-none_from (Ready link) p true none = ap (λ qs. is_from (first_in qs) p) none
-none_from (Ready link) p false none = refl
-none_from (Ended e) p true none = refl
-none_from (Ended e) p false none = refl
-
--- so nothing is shown where nobody waits for a place
-pub unmoved : (w : Work) (ps : List ℕ) → (link_in w.conn.life).queue ≡ [] → ((p : ℕ) → is_admitted_at w.conn.requests p ≡ false) → moved_each_shown w ps ≡ w
-unmoved w [] empty none = refl
-unmoved w (p ∷ ps) empty none =
-    let room = is_placed_at w.conn.requests p && is_from (first_queued w.conn.life) p in
-    let kind_is : moved_wait w.conn p ≡ None = left_if (is_admitted_at w.conn.requests p) (Some wait.Place) (if room then Some wait.Room else None) (none p) ∙ left_if room (Some wait.Room) None (none_from w.conn.life p (is_placed_at w.conn.requests p) empty) in
-    ap (λ x. moved_each_shown (wait_shown w p x) ps) kind_is ∙ unmoved w ps empty none
 
 -- and none waits for a place or is in the queue
 down_waits : (b : Book) (t : Inner) → Tied b t → (link_in t.life).queue ≡ [] → ((p : ℕ) → is_admitted_at t.requests p ≡ false) → TiedWaits b.story t.requests t.again t.life t.fresh []
@@ -293,10 +258,6 @@ ended_admits b t p x h q e = by_test (is_admitted_at t.requests p) _ (λ a. absu
 
 -- those that came in this turn, or whose connect was answered in it
 --
--- which wait they show, by the life of the connection, and by what is subscribed again
-abbrev wait_at : Life → Again → WaitKind
-wait_at life a = if is_ready life && is_outstanding a then wait.Resubscribe else early_wait life
-
 early_kind : (b : Book) (t : Inner) → Tied b t → has_ended t.life ≡ false → IsEarly t (wait_at t.life t.again)
 early_kind b t h up = record {
   either = by_life t.life t.again up;
@@ -380,11 +341,6 @@ fresh_each : (before : List Action) (f : Core) (w : Work) (fresh started : List 
 fresh_each before f w [] started h = h
 fresh_each before f w (p ∷ ps) started h = fresh_each before f (wait_shown w p (fresh_wait w.conn p)) ps started (fresh_shown_one before f w p ps started h)
 
--- and so do all of them leave the connection
-fresh_conn : (w : Work) (ps : List ℕ) → (fresh_each_shown w ps).conn ≡ w.conn
-fresh_conn w [] = refl
-fresh_conn w (p ∷ ps) = fresh_conn (wait_shown w p (fresh_wait w.conn p)) ps ∙ wait_conn w p (fresh_wait w.conn p)
-
 -- all waits
 --
 -- what a turn ends with is shown
@@ -393,14 +349,6 @@ pub record HasShown (before : List Action) (f : Core) (w : Work) : Type 0 where
   pub showing : IsShowing before f w [] [] started
   pub fresh : w.conn.fresh ≡ []
   pub moved : w.conn.moved ≡ []
-
--- a connection with none that was moved, as the waits are shown
-abbrev none_moved : Work → Work
-none_moved w = record w { conn = record w.conn { moved = [] } }
-
--- and with none that came in this turn
-abbrev none_fresh : Work → Work
-none_fresh w = record w { conn = record w.conn { fresh = [] } }
 
 -- it is the same but for those
 showing_unmoved : (before : List Action) (f : Core) (w : Work) (moved fresh started : List ℕ) → IsShowing before f w moved fresh started → IsShowing before f (none_moved w) moved fresh started

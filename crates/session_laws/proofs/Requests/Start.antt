@@ -1,48 +1,47 @@
 -- The first message of the queue starts.
-use Rattle.std.proofs.Common.{List, None, Some, [], ap, append_assoc, arith, false, inl, inr, length, refl, slice_get, subst, suc, sym, true, zero, ℕ, ◌+◌, ◌++◌, ◌<◌, ◌∙◌, ◌∷◌, ◌≡◌, ◌≢◌, ◌⊎◌}
-use Rattle.std.proofs.lemmas.List.{append-nil}
-use Rattle.std.specs.Prelude.{Bool, if◌then◌else◌, ◌==◌}
+use Rattle.std.proofs.Common.{List, None, Some, [], ap, append_assoc, arith, false, inl, inr, length, refl, slice_get, subst, sym, true, ℕ, ◌+◌, ◌++◌, ◌<◌, ◌∙◌, ◌∷◌, ◌≡◌, ◌≢◌, ◌⊎◌}
+use Rattle.std.specs.Prelude.{if◌then◌else◌, ◌==◌}
 use Rattle.containers.proofs.Places.{get_within}
 use Rattle.containers.proofs.Choices.{by_test, chosen, eq_test, left_if, ne_from, ne_test, not_both, taken_if}
 use Rattle.resp_read.specs.Frames.{within}
 use Rattle.driver_model.specs.Shape.{need_of}
 use Rattle.driver_model.specs.declared.action.Action.{Action}
 use Rattle.driver_model.specs.declared.action.Action.TheVariants as action
-use Rattle.driver_model.specs.declared.action.Owner.{Owner}
 use Rattle.driver_model.specs.declared.action.Owner.TheVariants as owner
 use Rattle.link_core.specs.Link.{LinkState, entry_of}
-use Rattle.link_core.specs.declared.message.Entry.{Entry}
 use Rattle.link_core.specs.declared.message.Queued.{Queued}
-use Rattle.link_laws.proofs.Once.{wanted-append}
 use Rattle.link_laws.proofs.TiedLink.{all_push, begun_tied, queue_tied}
 use Rattle.link_laws.specs.Settles.{awaited_ids, wanted}
 use Rattle.link_laws.specs.Starts.{begun, start_from}
 use Rattle.mux_conn.specs.Requests.{is_admitted_at, is_open_at, is_placed_at, is_waiting_at, name_at}
-use Rattle.mux_conn.specs.declared.life.Greeting.{Greeting}
-use Rattle.mux_conn.specs.declared.life.Life.TheVariants.{Dialing, Ready, Wanting, SettingUp, Resting}
+use Rattle.mux_conn.specs.declared.life.Life.TheVariants.{Ready}
 use Rattle.mux_conn.specs.declared.request.Request.{Request}
 use Rattle.mux_conn.specs.declared.request.Waiting.{Waiting}
 use Rattle.legal_trace.specs.Book.{Book, entered, if_own, message_of}
 use Rattle.legal_trace.specs.Ledger.{Ledger, Start, begins, is_of_setup, noted, setup_count, is_of_renewal, is_of_again}
 use Rattle.legal_trace.specs.Story.{Story, is_told, shape, shape_in, tried}
-use Rattle.session_laws.proofs.Requests.Rounded.{SameRounds, rounds_same}
-use Rattle.session_laws.proofs.Ties.Ahead.{queue_within, admitted_open, early_open}
-use Rattle.session_laws.proofs.Ties.Behind.{nil_told, open_untold, some_more}
-use Rattle.session_laws.proofs.Ties.InLine.{awaited_in, first_is_apart, kept_ids}
-use Rattle.session_laws.proofs.Ties.Kept.{SameOutcomes, SameSubmissions, SameTimes, mine_noted, one_changed, others_kept, packed_same, queued_same, tied_by}
-use Rattle.session_laws.proofs.Ties.Names.{get_more, get_some, name_of_some, open_within, same_name, owner_below, request_not, asked_unwatched}
-use Rattle.session_laws.proofs.Ties.Numbers.{IsIn, Rising, in_left, in_right, rising_apart, rising_in, rising_right, requests_in, request_in, requests_in-append, requests_first, is_own}
+use Rattle.conn_laws.proofs.Requests.Rounded.{SameRounds, rounds_same}
+use Rattle.conn_laws.proofs.Ties.Ahead.{admitted_open, early_open}
+use Rattle.session_laws.proofs.Ties.Ahead.{queue_within}
+use Rattle.conn_laws.proofs.Ties.Behind.{nil_told, open_untold}
+use Rattle.session_laws.proofs.Ties.Behind.{some_more}
+use Rattle.conn_laws.proofs.Ties.InLine.{awaited_in, kept_ids}
+use Rattle.conn_laws.proofs.Ties.Kept.{SameOutcomes, SameSubmissions, SameTimes, packed_same, queued_same}
+use Rattle.session_laws.proofs.Ties.Kept.{mine_noted, one_changed, others_kept, tied_by}
+use Rattle.conn_laws.proofs.Ties.Names.{get_more, get_some, name_of_some, open_within, same_name, owner_below}
+use Rattle.session_laws.proofs.Ties.Names.{request_not, asked_unwatched}
+use Rattle.conn_laws.proofs.Ties.Numbers.{IsIn, Rising, in_left, in_right, requests_in, requests_in-append, requests_first, is_own}
 use Rattle.session_laws.proofs.Ties.Owes.{get_in, request_story}
-use Rattle.session_laws.proofs.Ties.Permits.{IsHolding, holding_same, permits_same}
+use Rattle.conn_laws.proofs.Ties.Permits.{IsHolding, holding_same, permits_same}
 use Rattle.legal_trace.proofs.Setups.{count_more}
-use Rattle.session_laws.proofs.Links.SetUp.{set_up_begins, setups_begins}
-use Rattle.session_laws.proofs.Internal.Renewals.{begins_renewed}
-use Rattle.session_laws.proofs.Links.Server.{owners_of, setup_owners}
-use Rattle.session_laws.proofs.Ties.Tied.{AreQueued, Inner, IsEntry, IsQueued, IsRequest, Tied, TiedLines, TiedTries, TiedWaits, owner_of, owners_each, queue_ids, shown_wait, numbers_kept}
+use Rattle.conn_laws.proofs.Links.SetUp.{set_up_begins, setups_begins}
+use Rattle.conn_laws.proofs.Internal.Renewals.{begins_renewed}
+use Rattle.conn_laws.proofs.Links.Server.{setup_owners}
+use Rattle.conn_laws.proofs.Ties.Tied.{AreQueued, IsEntry, IsQueued, TiedLines, TiedTries, TiedWaits, owner_of, owners_each, queue_ids, shown_wait}
+use Rattle.session_laws.proofs.Ties.Tied.{Inner, Tied, numbers_kept}
 use Rattle.driver_model.specs.Hearing.{is_watching}
-use Rattle.session_laws.proofs.Internal.Repeats.{begins_repeated}
-use Rattle.mux_conn.specs.declared.again.Again.{Again}
-use Rattle.session_laws.proofs.Requests.Closing.{one_of}
+use Rattle.conn_laws.proofs.Internal.Repeats.{begins_repeated}
+use Rattle.conn_laws.proofs.Requests.Start.{LosesWaits, first_apart, first_new, first_within, owners-append, owners_each-append, owners_length, requests_wanted, setup_owners-append, tried_request, waits_up, with_queue}
 
 -- the action that its start shows
 abbrev pub start_action : Inner → LinkState → Queued → Action
@@ -51,10 +50,6 @@ start_action t link q = action.Start t.link link.started (owner.Try (name_at t.r
 -- the session with this link, where nothing is to be answered
 abbrev pub on_link : Inner → LinkState → Inner
 on_link t link = record t { life = Ready link; pending = []; untold = []; parting = false }
-
--- a link with this queue
-abbrev pub with_queue : LinkState → List Queued → LinkState
-with_queue link qs = record link { queue = qs }
 
 -- the session once the first message of the queue has started
 abbrev pub after_start : Inner → LinkState → Queued → List Queued → Inner
@@ -89,58 +84,9 @@ tried_rounds m link k story n = chosen (λ (x : Story). x.rounded ≡ (story n).
 tried_outcomes : (m link k : ℕ) (story : ℕ → Story) → SameOutcomes story (tried_at m link k story)
 tried_outcomes m link k story n = chosen (λ (x : Story). (story n).outcomes ≡ x.outcomes) (m == n) (tried (story n) link k) (story n) (λ t. refl) (λ f. refl)
 
--- the first of a queue is within, and has not started
-pub first_within : (story : ℕ → Story) (requests : List Request) (link : LinkState) (waiting admitted : List Waiting) (started : List ℕ) (q : Queued) (qs : List Queued) → TiedLines story requests (with_queue link (q ∷ qs)) waiting admitted [] started
-    → q.id < length requests
-first_within story requests link waiting admitted started q qs h =
-    let later = q.id ∷ (queue_ids qs ++ kept_ids admitted waiting) in
-    (rising_in 0 (requests_in started ++ later) (length requests) q.id h.line (in_right q.id (requests_in started) later (inl refl))).1
-
--- nor has it started
-pub first_new : (story : ℕ → Story) (requests : List Request) (link : LinkState) (waiting admitted : List Waiting) (started : List ℕ) (q : Queued) (qs : List Queued) → TiedLines story requests (with_queue link (q ∷ qs)) waiting admitted [] started → is_own q.id ≡ false → IsIn q.id started
-    → ⊥
-first_new story requests link waiting admitted started q qs h other i =
-    let k = rising_apart 0 (requests_in started) (q.id ∷ (queue_ids qs ++ kept_ids admitted waiting)) (length requests) q.id q.id h.line (request_in q.id started other i) (inl refl) in
-    omega arith
-
--- nor is it behind itself
-first_apart : (story : ℕ → Story) (requests : List Request) (link : LinkState) (waiting admitted : List Waiting) (started : List ℕ) (q : Queued) (qs : List Queued) → TiedLines story requests (with_queue link (q ∷ qs)) waiting admitted [] started
-    → IsIn q.id (queue_ids qs) → ⊥
-first_apart story requests link waiting admitted started q qs h i =
-    let kept = kept_ids admitted waiting in
-    first_is_apart 0 q.id (queue_ids qs ++ kept) (length requests) (rising_right 0 (requests_in started) (q.id ∷ (queue_ids qs ++ kept)) (length requests) h.line) (in_left q.id (queue_ids qs) kept i)
-
 -- what is noted of the link is the message of the queue
 same_start : (b : Book) (link : ℕ) (requests : List Request) (q : Queued) → is_own q.id ≡ false → IsQueued b.story requests q → message_of b link (owner.Try (name_at requests q.id) 0) ≡ start_from (owner_of requests) q
 same_start b link requests q other h = λ i. record { owner = sym (owner_below requests q.id other) i; shape = sym h.is_of.shape_is i; bytes = sym h.is_of.packs i }
-
--- the owners of starts, and of others
-pub owners-append : (xs ys : List Start) → owners_of (xs ++ ys) ≡ owners_of xs ++ owners_of ys
-owners-append [] ys = refl
-owners-append (x ∷ xs) ys = ap (λ os. x.owner ∷ os) (owners-append xs ys)
-
--- the owners of requests, and of others
-pub owners_each-append : (requests : List Request) (xs ys : List ℕ) → owners_each requests (xs ++ ys) ≡ owners_each requests xs ++ owners_each requests ys
-owners_each-append requests [] ys = refl
-owners_each-append requests (x ∷ xs) ys = ap (λ os. owner_of requests x ∷ os) (owners_each-append requests xs ys)
-
--- and so behind setups
-pub setup_owners-append : (n : ℕ) (xs ys : List Owner) → setup_owners n xs ++ ys ≡ setup_owners n (xs ++ ys)
-setup_owners-append zero xs ys = refl
-setup_owners-append (suc n) xs ys = ap (λ os. owner.Setup ∷ os) (setup_owners-append n xs ys)
-
--- as many started as have started, where no setup has
-owners_first : (starts : List Start) (requests : List Request) (started : List ℕ) → owners_of starts ≡ owners_each requests started → length starts ≡ length started
-owners_first [] requests [] e = refl
-owners_first [] requests (p ∷ ps) e = cc
-owners_first (s ∷ ss) requests [] e = cc
-owners_first (s ∷ ss) requests (p ∷ ps) e = ap suc (owners_first ss requests ps (cc))
-
--- and behind so many setups
-pub owners_length : (starts : List Start) (requests : List Request) (started : List ℕ) (n : ℕ) → owners_of starts ≡ setup_owners n (owners_each requests started) → length starts ≡ n + length started
-owners_length starts requests started zero e = let long = owners_first starts requests started e in omega arith
-owners_length [] requests started (suc n) e = cc
-owners_length (s ∷ ss) requests started (suc n) e = let long = owners_length ss requests started n (cc) in omega arith
 
 -- the tries
 --
@@ -186,17 +132,6 @@ tries_started l story requests link k started s p other new one owned shaped cou
 
 -- the line, and what is shown of waits
 --
--- a request's number, or none, is a request's
-pub requests_own : (b : Bool) (n : ℕ) → is_own n ≡ false → requests_in (if b then n ∷ [] else []) ≡ (if b then n ∷ [] else [])
-requests_own true n other = requests_first n [] other
-requests_own false n other = refl
-
--- one more entry of a request whose verdict is wanted, or not
-pub requests_wanted : (row : List Entry) (q : Queued) → is_own q.id ≡ false → requests_in (wanted (row ++ entry_of q ∷ [])) ≡ requests_in (wanted row) ++ (if q.awaited then q.id ∷ [] else [])
-requests_wanted row q other =
-    let own = if q.awaited then q.id ∷ [] else [] in
-    ap requests_in (wanted-append row (entry_of q ∷ []) ∙ ap (λ ns. wanted row ++ ns) (append-nil own)) ∙ requests_in-append (wanted row) own ∙ ap (λ ns. requests_in (wanted row) ++ ns) (requests_own q.awaited q.id other)
-
 -- the line when the first of the queue has started
 lines_started : (story : ℕ → Story) (requests : List Request) (link : LinkState) (waiting admitted : List Waiting) (started : List ℕ) (q : Queued) (qs : List Queued) (k l : ℕ) → is_own q.id ≡ false
     → TiedLines story requests (with_queue link (q ∷ qs)) waiting admitted [] started
@@ -215,55 +150,6 @@ lines_started story requests link waiting admitted started q qs k l other h = re
     | inl i ↦ inl (subst (IsIn p) (sym (append_assoc (requests_in (wanted link.row)) (if q.awaited then q.id ∷ [] else []) (awaited_ids qs)) ∙ ap (λ ns. ns ++ awaited_ids qs) (sym (requests_wanted link.row q other))) i)
     | inr w ↦ inr w
   ];
-}
-
--- a link that is up is not dialing
-pub not_resting : (link : LinkState) → Ready link ≡ Resting → ⊥
-not_resting link e = cc
-
-pub not_dialing : (link : LinkState) → Ready link ≡ Dialing → ⊥
-not_dialing link e = cc
-
--- nor does it wait for credentials
-pub not_wanting : (link link' : LinkState) → Ready link ≡ Wanting link' → ⊥
-not_wanting link link' e = cc
-
--- nor is it being set up
-pub not_setting : (link link' : LinkState) (greeting : Greeting) → Ready link ≡ SettingUp link' greeting → ⊥
-not_setting link link' greeting e = cc
-
--- what is shown of a submission's wait is the same, or nothing is shown any more
-abbrev pub LosesWaits : (ℕ → Story) → (ℕ → Story) → Type 0
-LosesWaits f g = (n : ℕ) → ((g n).waiting ≡ None) ⊎ ((g n).waiting ≡ (f n).waiting)
-
--- what is shown of waits is true still, where it is the same of those that wait for a place and of those in the queue
-pub waits_up : (f g : ℕ → Story) (requests : List Request) (a : Again) (link link' : LinkState) (fresh moved : List ℕ) → LosesWaits f g
-    → ((p : ℕ) → is_waiting_at requests p ≡ true → shown_wait g requests p ≡ shown_wait f requests p)
-    → ((p : ℕ) → is_admitted_at requests p ≡ true → shown_wait g requests p ≡ shown_wait f requests p)
-    → ((p : ℕ) → IsIn p (awaited_ids link'.queue) → IsIn p (awaited_ids link.queue) × (shown_wait g requests p ≡ shown_wait f requests p))
-    → TiedWaits f requests a (Ready link) fresh moved → TiedWaits g requests a (Ready link') fresh moved
-waits_up f g requests a link link' fresh moved lost waiting admitted queued h = record {
-  early = λ p w. one_of (shown_wait g requests p) (shown_wait f requests p) (waiting p w) (h.early p w);
-  backoff = λ p w e. absurd (not_resting link' e);
-  connect = λ p w e. absurd (not_dialing link' e);
-  creds = λ p l w e. absurd (not_wanting link' l e);
-  setup = λ p l u w e. absurd (not_setting link' l u e);
-  resubscribe = λ p l w e goes. elim (h.resubscribe p link w refl goes) [ inl i ↦ inl i | inr k ↦ inr (waiting p w ∙ k) ];
-  permit = λ p l w e none. elim (h.permit p link w refl none) [ inl i ↦ inl i | inr k ↦ inr (waiting p w ∙ k) ];
-  place = λ p a. elim (h.place p a) [ inl i ↦ inl i | inr k ↦ inr (admitted p a ∙ k) ];
-  room = λ p i. let q = queued p i in elim (h.room p q.0) [ inl j ↦ inl j | inr k ↦ inr (q.1 ∙ k) ];
-  newer = h.newer;
-  rising = h.rising;
-  no_backoff = λ p i w e. absurd (not_resting link' e);
-  no_connect = λ p i w e. absurd (not_dialing link' e);
-  no_creds = λ p l i w e. absurd (not_wanting link' l e);
-  no_setup = λ p l u i w e. absurd (not_setting link' l u e);
-  no_resubscribe = λ p l i w e goes k. h.no_resubscribe p link i w refl goes (sym (waiting p w) ∙ k);
-  unpermitted = λ p l w e goes k. h.unpermitted p link w refl goes (sym (waiting p w) ∙ k);
-  no_permit = λ p l i w e none k. h.no_permit p link i w refl none (sym (waiting p w) ∙ k);
-  no_place = λ p i a e. h.no_place p i a (sym (admitted p a) ∙ e);
-  seatless = λ p a e. h.seatless p a (sym (admitted p a) ∙ e);
-  no_room = λ p i j e. let q = queued p j in h.no_room p i q.0 (sym q.1 ∙ e);
 }
 
 -- a start loses the wait of its own submission
@@ -314,10 +200,6 @@ told_started b t link q qs k l h =
           (i.0, i.1, i.2, elim i.3 [ inl same ↦ absurd (ne_from m n f (ap (name_at t.requests) same ∙ i.2)) | inr j ↦ j ]));
       here = λ p i. (tried_holds m k l b.story (name_at t.requests p)).link ∙ h.here p (inr i);
     }
-
--- a request is one still
-tried_request : (s : Story) (requests : List Request) (link p k l : ℕ) → IsRequest s requests link p → IsRequest (tried s k l) requests link p
-tried_request s requests link p k l h = record { what = h.what; handed_in = h.handed_in; in_time = h.in_time; spoken = h.spoken; on = h.on; some = h.some; open_is = h.open_is; permits_is = h.permits_is }
 
 -- the session and its book
 --

@@ -23,22 +23,26 @@ use Rattle.legal_trace.specs.Story.{Story, Try, blank_story, is_open, is_no_erro
 use Rattle.legal_trace.specs.Book.{Book, entered, if_own, is_unspoken, kind_in}
 use Rattle.legal_trace.specs.Owed.{owed, owed_to_try, owed_waiting}
 use Rattle.legal_trace.specs.Legal.{IsOpen, link_of, NoneIsOwed, NoneEnds, MayAnswer, FailuresAreShown}
-use Rattle.session_laws.proofs.Requests.Rounded.{rounds_longer}
-use Rattle.session_laws.proofs.Ties.Aside.{aside_silent}
-use Rattle.session_laws.proofs.Internal.Renewals.{renewal_alike}
-use Rattle.session_laws.proofs.Ties.Numbers.{IsIn, in_left, in_right, Rising, rising_in, requests_in, request_in}
-use Rattle.session_laws.proofs.Ties.Tied.{carried, inner, link_in, queue_ids, waiting_ids, whole_link, IsRefused, TiedStory, Tied, AreCalm}
-use Rattle.session_laws.proofs.Ties.Names.{there_within, names_refused, submits_unwatched}
+use Rattle.conn_laws.proofs.Requests.Rounded.{rounds_longer}
+use Rattle.conn_laws.proofs.Ties.Aside.{aside_silent}
+use Rattle.conn_laws.proofs.Internal.Renewals.{renewal_alike}
+use Rattle.conn_laws.proofs.Ties.Numbers.{IsIn, in_left, in_right, Rising, rising_in, requests_in, request_in}
+use Rattle.conn_laws.proofs.Ties.Tied.{carried, link_in, queue_ids, waiting_ids, whole_link, IsRefused, TiedStory}
+use Rattle.session_laws.proofs.Ties.Tied.{inner, Tied, AreCalm}
+use Rattle.conn_laws.proofs.Ties.Names.{there_within, names_refused}
+use Rattle.session_laws.proofs.Ties.Names.{submits_unwatched}
 use Rattle.session_laws.proofs.Ties.Owes.{started_within, ends_told, notices_told}
-use Rattle.session_laws.proofs.Requests.Answer.{owed_in, no_push}
+use Rattle.conn_laws.proofs.Requests.Answer.{no_push}
+use Rattle.session_laws.proofs.Requests.Answer.{owed_in}
 use Rattle.session_laws.proofs.Requests.Settle.{seen}
 use Rattle.session_laws.proofs.Turn.Announce.{aims_longer, aims_on, turn_of, turned, uses_on, time_still}
-use Rattle.session_laws.proofs.Turn.Heard.{told_life, silent_no_end}
-use Rattle.session_laws.proofs.Links.Said.{setup_on, sources_asked, IsTame, renoticed}
-use Rattle.session_laws.proofs.Requests.Further.{get_beyond, no_longer, SameBefore, further_story, tries_longer, queue_longer, packs_longer, told_longer, IsNext, waits_longer, permits_longer, late_longer}
-use Rattle.session_laws.proofs.Ties.InLine.{kept_ids, awaited_in}
+use Rattle.conn_laws.proofs.Turn.Heard.{told_life, silent_no_end}
+use Rattle.conn_laws.proofs.Links.Said.{setup_on, IsTame, renoticed}
+use Rattle.session_laws.proofs.Links.Said.{sources_asked}
+use Rattle.conn_laws.proofs.Requests.Further.{get_beyond, no_longer, SameBefore, further_story, tries_longer, queue_longer, packs_longer, told_longer, IsNext, waits_longer, permits_longer, late_longer}
+use Rattle.conn_laws.proofs.Ties.InLine.{kept_ids, awaited_in}
 use Rattle.session_laws.proofs.Managers.Comes.{course_later}
-use Rattle.session_laws.proofs.Internal.Repeats.{repeat_alike, TiedRepeat}
+use Rattle.conn_laws.proofs.Internal.Repeats.{repeat_alike, TiedRepeat}
 
 -- the stories once it is handed in
 abbrev pub stories_with : Book → Submission → ℕ → Story

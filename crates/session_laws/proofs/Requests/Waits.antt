@@ -1,90 +1,46 @@
 -- The waits that began, and which wait is true of a submission.
-use Rattle.std.proofs.Common.{append_assoc, Bool, List, None, Option, Some, [], ap, arith, false, inl, inr, length, refl, slice_get, subst, suc, sym, true, ℕ, ◌++◌, ◌<◌, ◌≤◌, ◌∙◌, ◌∷◌, ◌≡◌, ◌≢◌, ◌⊎◌}
-use Rattle.std.specs.List.{AllByRecursion}
-use Rattle.std.specs.Prelude.{◌==◌, ◌&&◌, not, if◌then◌else◌}
-use Rattle.containers.proofs.Choices.{by_test, chosen, eq_from, eq_test, le_from, left_if, ne_from, ne_test, not_both, taken_if}
+use Rattle.std.proofs.Common.{append_assoc, List, Option, Some, [], ap, arith, false, inl, inr, length, refl, subst, suc, sym, true, ℕ, ◌++◌, ◌<◌, ◌∙◌, ◌∷◌, ◌≡◌, ◌≢◌, ◌⊎◌}
+use Rattle.std.specs.Prelude.{◌==◌}
+use Rattle.containers.proofs.Choices.{by_test, chosen, eq_from, eq_test, left_if, ne_from, ne_test, not_both, taken_if}
 use Rattle.driver_model.specs.declared.action.Action.{Action}
 use Rattle.driver_model.specs.declared.action.Action.TheVariants as action
 use Rattle.driver_model.specs.declared.action.Owner.TheVariants as owner
 use Rattle.driver_model.specs.declared.action.WaitKind.{WaitKind}
 use Rattle.driver_model.specs.declared.action.WaitKind.TheVariants as wait
-use Rattle.link_core.specs.declared.message.Entry.{Entry}
 use Rattle.link_core.specs.Link.{LinkState, first_in, holds_back, is_full_beside}
-use Rattle.link_core.specs.declared.message.Queued.{Queued}
 use Rattle.link_laws.specs.Settles.{awaited_ids, wanted}
 use Rattle.mux_conn.specs.Connection.{has_no_permit, is_ready, in_front, is_outstanding}
-use Rattle.mux_conn.specs.Requests.{if_there, is_admitted, is_admitted_at, is_open_at, is_placed, is_placed_at, is_waiting, is_waiting_at, name_at, is_unbegun_at}
+use Rattle.mux_conn.specs.Requests.{is_admitted, is_admitted_at, is_open_at, is_placed_at, is_waiting, is_waiting_at, name_at, is_unbegun_at}
 use Rattle.mux_conn.specs.Turn.{is_from}
 use Rattle.mux_conn.specs.declared.life.Greeting.{Greeting}
 use Rattle.mux_conn.specs.declared.life.Life.{Life}
 use Rattle.mux_conn.specs.declared.life.Life.TheVariants.{Resting, Dialing, Ended, Ready, Wanting, SettingUp}
-use Rattle.mux_conn.specs.declared.request.Progress.{Progress}
-use Rattle.mux_conn.specs.declared.request.Progress.TheVariants as progress
 use Rattle.mux_conn.specs.declared.request.Request.{Request}
 use Rattle.legal_trace.specs.Book.{Book, entered, if_own}
 use Rattle.legal_trace.specs.Legal.{IsWaiting, IsWritten, MayWait, WaitHolds}
 use Rattle.legal_trace.specs.Steps.{starts_or_waits}
-use Rattle.legal_trace.specs.Story.{Story, awaited_in, is_no_error, is_told, waits as waits_now}
-use Rattle.session_laws.proofs.Requests.Rounded.{SameRounds, rounds_new, rounds_same}
-use Rattle.session_laws.proofs.Ties.Ahead.{IsRunning, dialing_step, full_step, permit_step, queue_step, queue_within, running_of, setup_step, waiting_open, admitted_open, creds_step, HasSeats, resting_step, repeat_step}
-use Rattle.session_laws.proofs.Requests.Closing.{one_of}
-use Rattle.session_laws.proofs.Ties.InLine.{awaited_in as in_queue, chosen_in, kept_ids, kept_in, row_ids, wanted_in}
-use Rattle.session_laws.proofs.Ties.Kept.{SameOutcomes, SameSubmissions, SameTimes, one_changed, packed_same, queued_same, tries_same}
-use Rattle.session_laws.proofs.Ties.Moves.{later_of, open_unstarted}
-use Rattle.session_laws.proofs.Ties.Names.{earlier_name, get_some, name_of_some, open_within, same_name, there_within, request_not}
-use Rattle.session_laws.proofs.Ties.Numbers.{IsIn, Rising, in_either, in_left, in_right, rising_apart, rising_from, rising_in, rising_right, requests_in, request_in, request_of, is_own}
+use Rattle.legal_trace.specs.Story.{Story, waits as waits_now}
+use Rattle.conn_laws.proofs.Requests.Rounded.{SameRounds, rounds_new, rounds_same}
+use Rattle.conn_laws.proofs.Changes.Requests.{waiting_open}
+use Rattle.conn_laws.proofs.Ties.Ahead.{admitted_open, HasSeats}
+use Rattle.session_laws.proofs.Ties.Ahead.{IsRunning, dialing_step, full_step, permit_step, queue_step, queue_within, running_of, setup_step, creds_step, resting_step, repeat_step}
+use Rattle.conn_laws.proofs.Requests.Closing.{one_of}
+use Rattle.conn_laws.proofs.Ties.InLine.{awaited_in as in_queue, kept_ids, kept_in, row_ids, wanted_in}
+use Rattle.conn_laws.proofs.Ties.Kept.{SameOutcomes, SameSubmissions, SameTimes, packed_same, queued_same, tries_same}
+use Rattle.session_laws.proofs.Ties.Kept.{one_changed}
+use Rattle.conn_laws.proofs.Ties.Moves.{open_unstarted}
+use Rattle.session_laws.proofs.Ties.Moves.{later_of}
+use Rattle.conn_laws.proofs.Ties.Names.{earlier_name, get_some, name_of_some, open_within, same_name, there_within}
+use Rattle.session_laws.proofs.Ties.Names.{request_not}
+use Rattle.conn_laws.proofs.Ties.Numbers.{IsIn, Rising, in_either, in_left, in_right, rising_apart, rising_from, rising_in, rising_right, requests_in, request_in, request_of}
 use Rattle.session_laws.proofs.Ties.Owes.{later_unstarted, none_open, open_request, request_story, row_in_line, open_on}
-use Rattle.session_laws.proofs.Ties.Permits.{IsHolding, permits_same}
-use Rattle.session_laws.proofs.Ties.States.{IsFit, AreBegun}
-use Rattle.session_laws.proofs.Ties.Tied.{AreQueued, Inner, IsEntry, IsKept, IsQueued, IsRequest, Tied, TiedWaits, has_ended, link_in, queue_ids, shown_wait, waiting_ids, numbers_kept}
-use Rattle.session_laws.proofs.Internal.Repeats.{serves}
-use Rattle.session_laws.proofs.Internal.Serving.{unready_serves, outstanding_serves, answered_serves}
-
--- how far a request has come
---
--- what passes one test fails another
-apart_at : (f g : Progress → Bool) (requests : List Request) (p : ℕ) → ((r : Progress) → f r ≡ true → g r ≡ false) → if_there f (slice_get requests p) ≡ true → if_there g (slice_get requests p) ≡ false
-apart_at f g requests p h = by_request (slice_get requests p)
-  where
-    by_request : (r : Option Request) → if_there f r ≡ true → if_there g r ≡ false
-    by_request None e = cc
-    by_request (Some r) e = h r.progress e
-
--- who waits for the connection doesn't wait for a place
-waiting_then : (r : Progress) → is_waiting r ≡ true → (is_admitted r ≡ false) × (is_placed r ≡ false)
-waiting_then progress.Waiting e = (refl, refl)
-waiting_then progress.Begun e = (refl, refl)
-waiting_then progress.Admitted e = cc
-waiting_then progress.Placed e = cc
-waiting_then progress.Closed e = cc
-
--- and who waits for a place has none
-admitted_then : (r : Progress) → is_admitted r ≡ true → is_placed r ≡ false
-admitted_then progress.Waiting e = cc
-admitted_then progress.Begun e = cc
-admitted_then progress.Admitted e = refl
-admitted_then progress.Placed e = cc
-admitted_then progress.Closed e = cc
-
--- of a request
-pub waiting_apart : (requests : List Request) (p : ℕ) → is_waiting_at requests p ≡ true → (is_admitted_at requests p ≡ false) × (is_placed_at requests p ≡ false)
-waiting_apart requests p w = (apart_at is_waiting is_admitted requests p (λ r e. (waiting_then r e).0) w, apart_at is_waiting is_placed requests p (λ r e. (waiting_then r e).1) w)
-
--- and of one that waits for a place
-pub admitted_unplaced : (requests : List Request) (p : ℕ) → is_admitted_at requests p ≡ true → is_placed_at requests p ≡ false
-admitted_unplaced requests p a = apart_at is_admitted is_placed requests p admitted_then a
-
--- an awaited message of a queue has its place
-pub awaited_placed : (story : ℕ → Story) (requests : List Request) (queue : List Queued) (p : ℕ) → AllByRecursion (IsQueued story requests) queue → IsIn p (awaited_ids queue) → is_placed_at requests p ≡ true
-awaited_placed story requests [] p all i = absurd i
-awaited_placed story requests (q ∷ qs) p all i = elim (in_either p (if q.awaited then q.id ∷ [] else []) (awaited_ids qs) i) [
-  | inl j ↦ subst (λ n. is_placed_at requests n ≡ true) (chosen_in q.awaited p q.id j) (all.0.placed_at (own q.awaited j))
-  | inr j ↦ awaited_placed story requests qs p all.1 j
-]
-  where
-    own : (b : Bool) → IsIn p (if b then q.id ∷ [] else []) → b ≡ true
-    own true j = refl
-    own false j = absurd j
+use Rattle.conn_laws.proofs.Ties.Permits.{IsHolding, permits_same}
+use Rattle.conn_laws.proofs.Ties.States.{IsFit, AreBegun}
+use Rattle.conn_laws.proofs.Ties.Tied.{IsKept, TiedWaits, has_ended, link_in, queue_ids, shown_wait, waiting_ids}
+use Rattle.session_laws.proofs.Ties.Tied.{Inner, Tied, numbers_kept}
+use Rattle.conn_laws.proofs.Internal.Repeats.{serves}
+use Rattle.conn_laws.proofs.Internal.Serving.{unready_serves, outstanding_serves, answered_serves}
+use Rattle.conn_laws.proofs.Requests.Waits.{admitted_unplaced, awaited_placed, first_from, queued_still, waiting_apart, waits_request, wanted_placed}
 
 -- what is shown of a wait
 --
@@ -127,21 +83,6 @@ waits_rounds m kind story n = chosen (λ (x : Story). x.rounded ≡ (story n).ro
 -- and each try
 waits_tries : (m : ℕ) (kind : WaitKind) (story : ℕ → Story) (n : ℕ) → (story n).tries ≡ (waits_at m kind story n).tries
 waits_tries m kind story n = chosen (λ (x : Story). (story n).tries ≡ x.tries) (m == n) (waits_now (story n) kind) (story n) (λ t. refl) (λ f. refl)
-
--- a request is one still
-waits_request : (s : Story) (kind : WaitKind) (requests : List Request) (link p : ℕ) → IsRequest s requests link p → IsRequest (waits_now s kind) requests link p
-waits_request s kind requests link p h = record { what = h.what; handed_in = h.handed_in; in_time = h.in_time; spoken = h.spoken; on = h.on; some = h.some; open_is = h.open_is; permits_is = h.permits_is }
-
--- who was told is told
-told_same : (f g : ℕ → Story) (n : ℕ) → SameSubmissions f g → SameOutcomes f g → is_told (f n) ≡ is_told (g n)
-told_same f g n same answers = λ i. not (awaited_in (same n i)) && is_no_error (answers n i)
-
--- and in the queue
-queued_still : (f g : ℕ → Story) (requests : List Request) (number : ℕ) (link : LinkState) → SameSubmissions f g → SameOutcomes f g → ((n : ℕ) → (f n).tries ≡ (g n).tries) → ((n : ℕ) → (f n).link ≡ (g n).link) → AreQueued f requests number link → AreQueued g requests number link
-queued_still f g requests number link same answers tried linked h = record {
-  told = λ n is none on. h.told n (told_same f g n same answers ∙ is) (tried n ∙ none) (linked n ∙ on);
-  here = λ p i. sym (linked (name_at requests p)) ∙ h.here p i;
-}
 
 -- its own wait is shown then
 shown_own : (story : ℕ → Story) (requests : List Request) (p : ℕ) (kind : WaitKind) → shown_wait (waits_at (name_at requests p) kind story) requests p ≡ Some kind
@@ -255,21 +196,6 @@ untried_there b t p h none up o untried =
       | inr at ↦ at
     ]
 
--- a message of the row that is wanted has its place
-wanted_placed : (requests : List Request) (row : List Entry) (p : ℕ) → is_own p ≡ false → AllByRecursion (IsEntry requests) row → IsIn p (wanted row) → is_placed_at requests p ≡ true
-wanted_placed requests [] p other all i = absurd i
-wanted_placed requests (e ∷ es) p other all i = elim (in_either p (if e.awaited then e.id ∷ [] else []) (wanted es) i) [
-  | inl j ↦ elim all.0 [
-    | inl r ↦ subst (λ n. is_placed_at requests n ≡ true) (chosen_in e.awaited p e.id j) (r.placed_at (own e.awaited j))
-    | inr a ↦ absurd (not_both (is_own p) other (ap is_own (sym (chosen_in e.awaited p e.id j)) ∙ a.is))
-  ]
-  | inr j ↦ wanted_placed requests es p other all.1 j
-]
-  where
-    own : (b : Bool) → IsIn p (if b then e.id ∷ [] else []) → b ≡ true
-    own true j = refl
-    own false j = absurd j
-
 -- who waits for a place, while the link is up or its connect isn't answered, is among those
 pub admitted_there : (b : Book) (t : Inner) (p : ℕ) → Tied b t → t.pending ≡ [] → is_admitted_at t.requests p ≡ true → IsIn p (waiting_ids t.admitted)
 admitted_there b t p h none a =
@@ -284,11 +210,6 @@ admitted_there b t p h none a =
         ]
       ]
     ]
-
--- the message that starts next stands before one that is from it on
-first_from : (queue : List Queued) (p : ℕ) → is_from (first_in queue) p ≡ true → (x : ℕ) × IsIn x (queue_ids queue) × (x ≤ p)
-first_from [] p e = cc
-first_from (q ∷ qs) p e = (q.id, inl refl, le_from q.id p e)
 
 -- who has its place, from the first of the queue on, is in the queue
 pub placed_there : (b : Book) (t : Inner) (p : ℕ) → Tied b t → t.pending ≡ [] → has_ended t.life ≡ false → is_open_at t.requests p ≡ true → is_placed_at t.requests p ≡ true → is_from (first_in (link_in t.life).queue) p ≡ true → IsIn p (awaited_ids (link_in t.life).queue)

@@ -1,18 +1,18 @@
 -- Which submissions are still to start.
-use Rattle.std.proofs.Common.{List, [], ap, false, inl, inr, length, refl, subst, sym, true, ℕ, ◌++◌, ◌<◌, ◌∙◌, ◌∷◌, ◌≡◌, ◌≢◌, ◌⊎◌}
-use Rattle.std.proofs.lemmas.List.{nil_from_length}
-use Rattle.std.specs.Prelude.{Bool, ◌==◌, ◌&&◌, ◌||◌}
-use Rattle.containers.proofs.Choices.{both_left, both_right, eq_from}
+use Rattle.std.proofs.Common.{List, [], ap, false, inl, inr, length, subst, sym, true, ℕ, ◌++◌, ◌<◌, ◌∙◌, ◌∷◌, ◌≡◌, ◌≢◌, ◌⊎◌}
 use Rattle.link_laws.proofs.Started.{row_open}
 use Rattle.link_laws.specs.Settles.{StandsAs, awaited_ids, wanted}
 use Rattle.mux_conn.specs.Requests.{name_at}
 use Rattle.legal_trace.specs.Book.{Book}
-use Rattle.legal_trace.specs.Story.{Story, Try, is_open, is_told, is_unstarted}
-use Rattle.session_laws.proofs.Ties.InLine.{awaited_in, row_ids, wanted_in}
-use Rattle.session_laws.proofs.Ties.Names.{open_within}
-use Rattle.session_laws.proofs.Ties.Numbers.{IsIn, in_either, requests_in, request_of}
-use Rattle.session_laws.proofs.Ties.Owes.{lives, open_request, row_link, stands_started, wanted_entry}
-use Rattle.session_laws.proofs.Ties.Tied.{Inner, IsKept, Tied, link_in, owner_of, queue_ids, has_ended}
+use Rattle.legal_trace.specs.Story.{Try, is_open, is_unstarted}
+use Rattle.conn_laws.proofs.Ties.InLine.{awaited_in, row_ids, wanted_in}
+use Rattle.conn_laws.proofs.Ties.Names.{open_within}
+use Rattle.conn_laws.proofs.Ties.Numbers.{IsIn, in_either, requests_in, request_of}
+use Rattle.conn_laws.proofs.Ties.Owes.{lives, row_link, wanted_entry}
+use Rattle.session_laws.proofs.Ties.Owes.{open_request, stands_started}
+use Rattle.conn_laws.proofs.Ties.Tied.{IsKept, link_in, owner_of, queue_ids, has_ended}
+use Rattle.session_laws.proofs.Ties.Tied.{Inner, Tied}
+use Rattle.conn_laws.proofs.Ties.Moves.{unstarted_alive, unstarted_tries}
 
 -- a submission that is still to start is in the queue, or waits
 pub record IsLater (t : Inner) (n : ℕ) : Type 0 where
@@ -20,31 +20,6 @@ pub record IsLater (t : Inner) (n : ℕ) : Type 0 where
   pub within : p < length t.requests
   pub name : name_at t.requests p ≡ n
   pub later : IsIn p (queue_ids (link_in t.life).queue) ⊎ IsKept t.requests t.waiting t.admitted p
-
--- its message has not started
-pub unstarted_tries : (s : Story) → is_unstarted s ≡ true → s.tries ≡ []
-unstarted_tries s e = nil_from_length s.tries (eq_from (length s.tries) 0 (both_left (length s.tries == 0) (is_open s || is_told s) e))
-
--- and it is open, or was told
-pub unstarted_alive : (s : Story) → is_unstarted s ≡ true → (is_open s ≡ true) ⊎ (is_told s ≡ true)
-unstarted_alive s e = either_one (is_open s) (is_told s) (both_right (length s.tries == 0) (is_open s || is_told s) e)
-  where
-    either_one : (a b : Bool) → (a || b) ≡ true → (a ≡ true) ⊎ (b ≡ true)
-    either_one true b e = inl refl
-    either_one false b e = inr e
-
--- the other way round, for one that is open
-pub open_unstarted : (s : Story) → s.tries ≡ [] → is_open s ≡ true → is_unstarted s ≡ true
-open_unstarted s none o = λ i. (length (none i) == 0) && (o i || is_told s)
-
--- what is true in any case
-pub or_true : (a : Bool) → (a || true) ≡ true
-or_true true = refl
-or_true false = refl
-
--- and for one that was told
-pub told_unstarted : (s : Story) → s.tries ≡ [] → is_told s ≡ true → is_unstarted s ≡ true
-told_unstarted s none e = (λ i. (length (none i) == 0) && (is_open s || e i)) ∙ or_true (is_open s)
 
 -- what is in the row has started
 row_started : (b : Book) (t : Inner) (p : ℕ) → Tied b t → has_ended t.life ≡ false → p < length t.requests → IsIn p (row_ids (link_in t.life).row) → (b.story (name_at t.requests p)).tries ≢ []

@@ -1,14 +1,11 @@
 -- Which requests are ahead of new credentials, by the connection and by the book.
-use Rattle.std.proofs.Common.{◌≡◌, ◌⊎◌, inl, inr, ℕ, suc, ◌-◌, ◌<◌, ◌≤◌, ◌==◌, nat_lt, nat_le, true, false, ◌&&◌, ◌||◌, List, [], ◌∷◌, ◌++◌, length, Option, Some, None, slice_get, refl, sym, ap, ◌∙◌, subst, arith}
-use Rattle.containers.proofs.Choices.{by_test, both_left, both_right, eq_from, eq_test, le_test, le_from, not_lt_from, not_le_test, not_both}
+use Rattle.std.proofs.Common.{◌≡◌, inl, inr, ℕ, suc, ◌-◌, ◌<◌, ◌≤◌, ◌==◌, nat_lt, true, false, ◌&&◌, ◌||◌, List, [], ◌∷◌, ◌++◌, length, Option, Some, slice_get, refl, sym, ap, ◌∙◌, subst, arith}
+use Rattle.containers.proofs.Choices.{by_test, both_left, both_right, eq_from, eq_test, not_lt_from, not_both}
 use Rattle.containers.proofs.Places.{get_within}
 use Rattle.driver_model.specs.declared.action.Action.{Action}
 use Rattle.driver_model.specs.declared.action.Action.TheVariants as action
 use Rattle.driver_model.specs.declared.action.Cause.TheVariants as cause
-use Rattle.driver_model.specs.declared.action.WaitKind.{WaitKind}
-use Rattle.driver_model.specs.declared.action.WaitKind.TheVariants as wait
-use Rattle.link_core.specs.declared.message.Queued.{Queued}
-use Rattle.link_core.specs.Link.{LinkState, is_first_up_to, is_up_to, last_behind, last_in}
+use Rattle.link_core.specs.Link.{LinkState, is_first_up_to, is_up_to, last_in}
 use Rattle.mux_conn.specs.declared.life.Life.{Life}
 use Rattle.mux_conn.specs.declared.life.Life.TheVariants.{Ready}
 use Rattle.mux_conn.specs.declared.renewal.Renewal.{Renewal}
@@ -25,13 +22,19 @@ use Rattle.legal_laws.proofs.Internal.Since.{SinceBegun}
 use Rattle.legal_laws.proofs.Submissions.ByPlace.{turns_each}
 use Rattle.legal_laws.proofs.Submissions.InLine.{is_to_start, stays_out}
 use Rattle.legal_laws.proofs.Submissions.Places.{Knows, turns_grow}
-use Rattle.session_laws.proofs.Ties.Ahead.{admitted_open, not_room, open_told, queue_awaited, waiting_open}
-use Rattle.session_laws.proofs.Ties.InLine.{kept_ids, kept_in}
-use Rattle.session_laws.proofs.Ties.Moves.{IsLater, later_of, or_true}
-use Rattle.session_laws.proofs.Ties.Names.{name_placed}
-use Rattle.session_laws.proofs.Ties.Numbers.{IsIn, Rising, requests_in, rising_apart, rising_in, rising_right, rising_within}
-use Rattle.session_laws.proofs.Ties.Places.{place_of_taken, places_stay, taken_still, untaken}
-use Rattle.session_laws.proofs.Ties.Tied.{Inner, IsKept, Tied, has_ended, link_in, queue_ids}
+use Rattle.conn_laws.proofs.Ties.Ahead.{admitted_open, not_room, queue_awaited}
+use Rattle.conn_laws.proofs.Changes.Requests.{waiting_open}
+use Rattle.session_laws.proofs.Ties.Ahead.{open_told}
+use Rattle.conn_laws.proofs.Ties.InLine.{kept_ids, kept_in}
+use Rattle.conn_laws.proofs.Ties.Moves.{or_true}
+use Rattle.session_laws.proofs.Ties.Moves.{IsLater, later_of}
+use Rattle.conn_laws.proofs.Ties.Names.{name_placed}
+use Rattle.conn_laws.proofs.Ties.Numbers.{IsIn, Rising, requests_in, rising_in, rising_right, rising_within}
+use Rattle.conn_laws.proofs.Ties.Places.{place_of_taken, taken_still}
+use Rattle.session_laws.proofs.Ties.Places.{places_stay, untaken}
+use Rattle.conn_laws.proofs.Ties.Tied.{IsKept, has_ended, link_in, queue_ids}
+use Rattle.session_laws.proofs.Ties.Tied.{Inner, Tied}
+use Rattle.conn_laws.proofs.Ties.Ordered.{behind_queue, early_unroomed, last_in_queue, none_up_to, number_in, queue_up_to}
 
 -- of the requests of a session that are to start on its link, those up to this one took their places before new credentials of the link
 -- became due; and that is a request
@@ -66,16 +69,6 @@ queue_placed b t p h none i =
       | inr told ↦ ap (λ x. is_room s.waiting || x) told ∙ or_true (is_room s.waiting)
     ]
 
--- who waits for the connection, or for a permit, has not shown that it waits for room
-early_unroomed : (o : Option WaitKind) → (o ≡ None) ⊎ ((o ≡ Some wait.Backoff) ⊎ ((o ≡ Some wait.Connect) ⊎ ((o ≡ Some wait.Creds) ⊎ ((o ≡ Some wait.Setup) ⊎ ((o ≡ Some wait.Resubscribe) ⊎ (o ≡ Some wait.Permit)))))) → is_room o ≡ false
-early_unroomed o (inl e) = ap is_room e
-early_unroomed o (inr (inl e)) = ap is_room e
-early_unroomed o (inr (inr (inl e))) = ap is_room e
-early_unroomed o (inr (inr (inr (inl e)))) = ap is_room e
-early_unroomed o (inr (inr (inr (inr (inl e))))) = ap is_room e
-early_unroomed o (inr (inr (inr (inr (inr (inl e)))))) = ap is_room e
-early_unroomed o (inr (inr (inr (inr (inr (inr e)))))) = ap is_room e
-
 -- and who waits so, or for a place, has none
 pub kept_unplaced : (b : Book) (t : Inner) (p : ℕ) → Tied b t → IsKept t.requests t.waiting t.admitted p → has_place (b.story (name_at t.requests p)) ≡ false
 kept_unplaced b t p h (inl a) =
@@ -92,59 +85,9 @@ start_later b t n h none up to = later_of b t n h none up
 
 -- the last of a queue
 --
--- it is one of it
-last_is_in : (id : ℕ) (qs : List Queued) → IsIn (last_behind id qs) (id ∷ queue_ids qs)
-last_is_in id [] = inl refl
-last_is_in id (q ∷ qs) = inr (last_is_in q.id qs)
-
-last_in_queue : (qs : List Queued) (k : ℕ) → last_in qs ≡ Some k → IsIn k (queue_ids qs)
-last_in_queue [] k e = cc
-last_in_queue (q ∷ qs) k e = subst (λ m. IsIn m (q.id ∷ queue_ids qs)) (let same : last_behind q.id qs ≡ k = cc in same) (last_is_in q.id qs)
-
--- none of it is above
-last_is_most : (id : ℕ) (qs : List Queued) (hi p : ℕ) → Rising id (id ∷ queue_ids qs) hi → IsIn p (id ∷ queue_ids qs) → p ≤ last_behind id qs
-last_is_most id [] hi p h (inl same) = omega (arith, same)
-last_is_most id [] hi p h (inr i) = absurd i
-last_is_most id (q ∷ qs) hi p h (inr i) =
-    let k : suc id ≤ q.id = h.1.0 in
-    last_is_most q.id qs hi p ((let le : q.id ≤ q.id = omega arith in le), h.1.1) i
-last_is_most id (q ∷ qs) hi p h (inl same) =
-    let k : suc id ≤ q.id = h.1.0 in
-    let rest : q.id ≤ last_behind q.id qs = last_is_most q.id qs hi q.id ((let le : q.id ≤ q.id = omega arith in le), h.1.1) (inl refl) in
-    omega (arith, same, k, rest)
-
--- so all of it are up to it
-pub queue_up_to : (qs : List Queued) (lo hi p : ℕ) → Rising lo (queue_ids qs) hi → IsIn p (queue_ids qs) → is_up_to (last_in qs) p ≡ true
-queue_up_to [] lo hi p h i = absurd i
-queue_up_to (q ∷ qs) lo hi p h i = le_test p (last_behind q.id qs) (last_is_most q.id qs hi p ((let le : q.id ≤ q.id = omega arith in le), h.1) i)
-
--- and none behind it
-pub behind_queue : (qs : List Queued) (lo hi p : ℕ) (kept : List ℕ) → Rising lo (queue_ids qs ++ kept) hi → IsIn p kept → is_up_to (last_in qs) p ≡ false
-behind_queue [] lo hi p kept h i = refl
-behind_queue (q ∷ qs) lo hi p kept h i =
-    let k = rising_apart lo (queue_ids (q ∷ qs)) kept hi (last_behind q.id qs) p h (last_is_in q.id qs) i in
-    not_le_test p (last_behind q.id qs) k
-
--- where the first of a queue isn't up to that one, none of it is
-pub none_up_to : (last : Option ℕ) (qs : List Queued) (lo hi p : ℕ) → Rising lo (queue_ids qs) hi → is_first_up_to last qs ≡ false → IsIn p (queue_ids qs) → is_up_to last p ≡ false
-none_up_to last [] lo hi p h none i = absurd i
-none_up_to None (q ∷ qs) lo hi p h none i = refl
-none_up_to (Some k) (q ∷ qs) lo hi p h none (inl same) = ap (λ m. nat_le m k) (sym same) ∙ none
-none_up_to (Some k) (q ∷ qs) lo hi p h none (inr i) =
-    let above = rising_in (suc q.id) (queue_ids qs) hi p h.1 i in
-    by_test (nat_le p k) (nat_le p k ≡ false)
-    (λ t. absurd (let low : p ≤ k = le_from p k t in not_both (nat_le q.id k) none (le_test q.id k (let up : suc q.id ≤ p = above.0 in omega (arith, low, up)))))
-    (λ f. f)
-
 -- the line of a session, from the queue on
 pub queue_line : (b : Book) (t : Inner) → Tied b t → Rising 0 (queue_ids (link_in t.life).queue ++ kept_ids t.admitted t.waiting) (length t.requests)
 queue_line b t h = rising_right 0 (requests_in t.started) (queue_ids (link_in t.life).queue ++ kept_ids t.admitted t.waiting) (length t.requests) h.lines.line
-
--- the number that an entry gives
-abbrev number_in : Option (Option Pending) → ℕ
-number_in None = 0
-number_in (Some None) = 0
-number_in (Some (Some p)) = p.number
 
 -- the number of a request is that of its submission
 pub number_of : (b : Book) (t : Inner) (n k : ℕ) → Tied b t → (x : IsLater t n) → slice_get t.table n ≡ Some (Some (record { number = k })) → x.p ≡ k

@@ -1,56 +1,38 @@
 -- What submissions are owed, by the requests that they are.
-use Rattle.std.proofs.Common.{◌≡◌, ◌≢◌, inl, inr, ℕ, zero, suc, ◌+◌, ◌<◌, ◌==◌, Bool, true, false, ◌&&◌, not, is_some, length-append, List, [], ◌∷◌, ◌++◌, length, Option, Some, None, slice_get, refl, sym, ap, ◌∙◌, subst, arith, drop, if◌then◌else◌, ◌||◌}
+use Rattle.std.proofs.Common.{◌≡◌, ◌≢◌, inl, inr, ℕ, zero, suc, ◌+◌, ◌<◌, ◌==◌, true, false, List, [], ◌∷◌, ◌++◌, length, Option, Some, None, slice_get, refl, sym, ap, ◌∙◌, subst, arith}
 use Rattle.std.specs.List.{AllByRecursion}
 use Rattle.std.proofs.lemmas.List.{nil_from_length}
-use Rattle.containers.proofs.Choices.{by_test, left_if, eq_from, ne_from, ne_test, not_both, taken_if, chosen}
-use Rattle.redis_error.specs.declared.redis_error.RedisError.{RedisError}
-use Rattle.redis_error.specs.declared.redis_error.RedisError.TheVariants as error
-use Rattle.driver_model.specs.declared.action.Owner.{Owner}
-use Rattle.driver_model.specs.declared.action.Owner.TheVariants as owner
-use Rattle.driver_model.specs.declared.outcome.Outcome.{Outcome}
+use Rattle.containers.proofs.Choices.{by_test, left_if, eq_from, ne_from, ne_test, not_both}
 use Rattle.driver_model.specs.declared.outcome.Outcome.TheVariants as outcome
 use Rattle.driver_model.specs.declared.outcome.Shape.{Shape}
 use Rattle.driver_model.specs.Shape.{outcome_of}
 use Rattle.link_core.specs.declared.message.Entry.{Entry}
 use Rattle.link_core.specs.declared.message.Settled.{Settled}
 use Rattle.link_laws.specs.Settles.{wanted, StandsAs, IsOwed}
-use Rattle.link_laws.proofs.TiedLink.{TiedLink}
-use Rattle.link_laws.proofs.Started.{IsOpenAs, OpenFrom, row_open, open_unowed}
+use Rattle.link_laws.proofs.Started.{OpenFrom, row_open, open_unowed}
 use Rattle.mux_conn.specs.declared.life.Life.{Life}
 use Rattle.mux_conn.specs.declared.life.Life.TheVariants.{Resting, Dialing, Wanting, SettingUp, Ready, Ended}
 use Rattle.mux_conn.specs.declared.request.Pending.{Pending}
-use Rattle.mux_conn.specs.declared.request.Request.{Request}
 use Rattle.mux_conn.specs.Connection.{is_resting}
 use Rattle.mux_conn.specs.Requests.{name_at, is_open_at}
-use Rattle.legal_trace.specs.Ledger.{full_count, Ledger, Heard, Start, End, failure_in, is_cut, is_of_setup, next_notice, setup_count}
-use Rattle.legal_trace.specs.Story.{Story, bytes_of, shape, last_of, is_open}
+use Rattle.legal_trace.specs.Ledger.{full_count, Ledger, is_cut, is_of_setup, next_notice, setup_count}
+use Rattle.legal_trace.specs.Story.{bytes_of, shape, last_of, is_open}
 use Rattle.legal_trace.specs.Book.{Book}
 use Rattle.legal_trace.specs.Owed.{owed, owed_to_message, owed_unstarted, owed_to_try, owed_waiting}
 use Rattle.legal_trace.specs.Legal.{IsOpen, NoneIsOwed, IsCreated, FailuresAreShown, NoticesAreTold, EndsAreTold}
-use Rattle.session_laws.proofs.Ties.Numbers.{Rising, IsIn, in_either, rising_in, rising_left, rising_right, rising_apart, requests_in, request_in, request_of, is_own}
+use Rattle.conn_laws.proofs.Ties.Numbers.{Rising, IsIn, in_either, rising_in, rising_left, rising_right, rising_apart, requests_in, request_in, request_of, is_own}
 use Rattle.session_laws.proofs.Links.Said.{ready_shown}
-use Rattle.session_laws.proofs.Links.Server.{setup_owners, owners_of}
-use Rattle.session_laws.proofs.Ties.Tied.{IsEntry, Inner, carried, link_in, owner_of, whole_link, owners_each, queue_ids, IsRequest, TiedStory, TiedLife, Tied, FailureIsShown, has_ended, is_of_greeting, own_owner}
-use Rattle.session_laws.proofs.Ties.Names.{get_some, open_within, name_of_some, name_placed, same_name, owner_no_setup, auth_owner, request_owner, request_not, asked_unwatched, owner_of_auth, repeat_owner, owner_of_repeat}
-use Rattle.session_laws.proofs.Ties.InLine.{AtPlaces, IsInLine, wanted_rises, places_rise, row_ids, wanted_in, kept_ids, line_of, open_in_line}
-use Rattle.mux_conn.specs.Renewals.{renewal_id}
+use Rattle.conn_laws.proofs.Ties.Tied.{IsEntry, link_in, owner_of, queue_ids, IsRequest, TiedStory, FailureIsShown, has_ended, is_of_greeting}
+use Rattle.session_laws.proofs.Ties.Tied.{Inner, Tied}
+use Rattle.conn_laws.proofs.Ties.Names.{get_some, open_within, name_of_some, name_placed, same_name, owner_no_setup, request_owner}
+use Rattle.session_laws.proofs.Ties.Names.{request_not, asked_unwatched}
+use Rattle.conn_laws.proofs.Ties.InLine.{AtPlaces, IsInLine, wanted_rises, places_rise, row_ids, wanted_in, kept_ids, line_of, open_in_line}
 use Rattle.driver_model.specs.Hearing.{is_watching, hears_something, hears_pushes}
-use Rattle.mux_conn.specs.Repeats.{repeat_id}
+use Rattle.conn_laws.proofs.Ties.Owes.{answered_closed, failure_shown, get_behind, is_asked, lives, owed_asked, own_number, own_ungreeted, row_link, started_at, wanted_entry}
 
 -- each request is a submission
 pub request_story : (b : Book) (t : Inner) (p : ℕ) → Tied b t → p < length t.requests → IsRequest (b.story (name_at t.requests p)) t.requests t.link p
 request_story b t p h l = subst (TiedStory (b.story (name_at t.requests p)) t.requests t.link) (name_placed t.table t.requests p h.names l) (h.story (name_at t.requests p))
-
--- what is false in the middle is false
-both_false : (a b : Bool) → (a && false && b) ≡ false
-both_false true b = refl
-both_false false b = refl
-
--- a story with outcomes isn't open
-pub answered_closed : (s : Story) (front : List Outcome) (o : Outcome) → s.outcomes ≡ front ++ o ∷ [] → is_open s ≡ false
-answered_closed s front o e =
-    let some : (length s.outcomes == 0) ≡ false = ne_test (length s.outcomes) 0 (λ none. absurd (let long : length s.outcomes ≡ length (front ++ o ∷ []) = ap length e in omega (arith, length-append front (o ∷ [])))) in
-    (λ i. is_some s.submission && some i && not s.cancelled) ∙ both_false (is_some s.submission) (not s.cancelled)
 
 -- an open submission is an open request
 pub record IsOpenRequest (t : Inner) (n : ℕ) : Type 0 where
@@ -69,28 +51,6 @@ open_request b t n h o = by_entry (slice_get t.table n) refl (h.story n)
 
 -- the request of a started message
 --
--- the request whose message started as number k, where no setup has
-started_first : (ss : List Start) (requests : List Request) (started : List ℕ) (k : ℕ) (s : Start) → owners_of ss ≡ owners_each requests started → slice_get ss k ≡ Some s
-    → (p : ℕ) × (slice_get started k ≡ Some p) × (owner_of requests p ≡ s.owner)
-started_first [] requests started k s e i = cc
-started_first (x ∷ ss) requests [] k s e i = cc
-started_first (x ∷ ss) requests (p ∷ ps) zero s e i = (p, refl, let same : x ≡ s = cc in let first : x.owner ≡ owner_of requests p = cc in sym first ∙ ap (λ (y : Start). y.owner) same)
-started_first (x ∷ ss) requests (p ∷ ps) (suc k) s e i = started_first ss requests ps k s (let rest : owners_of ss ≡ owners_each requests ps = cc in rest) i
-
--- and behind so many setups
-started_at : (ss : List Start) (requests : List Request) (started : List ℕ) (n k : ℕ) (s : Start) → owners_of ss ≡ setup_owners n (owners_each requests started) → slice_get ss k ≡ Some s → is_of_setup s.owner ≡ false
-    → (j : ℕ) × (k ≡ n + j) × (p : ℕ) × (slice_get started j ≡ Some p) × (owner_of requests p ≡ s.owner)
-started_at ss requests started zero k s e i other = let h = started_first ss requests started k s e i in (k, omega arith, h.0, h.1, h.2)
-started_at [] requests started (suc n) k s e i other = cc
-started_at (x ∷ ss) requests started (suc n) zero s e i other =
-    let same : x ≡ s = cc in
-    let first : x.owner ≡ owner.Setup = cc in
-    absurd (not_both (is_of_setup s.owner) other (ap (λ (y : Start). is_of_setup y.owner) (sym same) ∙ ap is_of_setup first))
-started_at (x ∷ ss) requests started (suc n) (suc k) s e i other =
-    let rest : owners_of ss ≡ setup_owners n (owners_each requests started) = cc in
-    let h = started_at ss requests started n k s rest i other in
-    (h.0, (let behind = h.1 in omega arith), h.2, h.3, h.4)
-
 -- what started is one of the line
 pub get_in : (xs : List ℕ) (k n : ℕ) → slice_get xs k ≡ Some n → IsIn n xs
 get_in [] k n e = cc
@@ -113,16 +73,6 @@ stands_started b t p k of_shape h l place =
     let named = request_owner t.requests s.2 p (request_not b t p h l) (s.4 ∙ place.owned) in
     let same = same_name t.table t.requests s.2 p h.names (started_within b t s.0 s.2 h named.0 s.3) l named.1 in
     (s.0, s.1, s.3 ∙ ap Some same)
-
--- the driver's own message has no greeting's owner
-own_ungreeted : (requests : List Request) (p : ℕ) → is_own p ≡ true → is_of_greeting (owner_of requests p) ≡ false
-own_ungreeted requests p own = ap is_of_greeting (taken_if (is_own p) (own_owner p) (owner.Try (name_at requests p) 0) own) ∙ chosen (λ (o : Owner). is_of_greeting o ≡ false) (p == renewal_id) owner.Auth owner.Resub (λ a. refl) (λ r. refl)
-
--- one with the same owner has the same number
-own_number : (requests : List Request) (p q : ℕ) → is_own q ≡ true → owner_of requests p ≡ owner_of requests q → p ≡ q
-own_number requests p q own e = by_test (q == renewal_id) (p ≡ q)
-    (λ t. let is = eq_from q renewal_id t in auth_owner requests p (e ∙ owner_of_auth requests q is) ∙ sym is)
-    (λ f. let is = eq_from q repeat_id (sym (ap (λ b. b || (q == repeat_id)) f) ∙ own) in repeat_owner requests p (e ∙ owner_of_repeat requests q is) ∙ sym is)
 
 -- and so are the driver's own
 own_started : (b : Book) (t : Inner) (e : Entry) (k : ℕ) → Tied b t → is_own e.id ≡ true → StandsAs (b.link t.link).starts (owner_of t.requests e.id) e.shape k
@@ -164,20 +114,6 @@ owed_started b t p k of_shape h l in_time place =
     ∙ ap (λ ts. owed_to_try b (b.story n) (last_of ts)) (h.tries.tried e.0 p l e.2 ∙ ap (λ m. record { link = t.link; message = m } ∷ []) (sym e.1))
     ∙ ap (owed_to_message (b.link t.link) k) same
 
--- the link of a connection that has one was asked for
-pub is_asked : (l : Ledger) (created : ℕ) (life : Life) → is_resting life ≡ false → TiedLife l created life → l.asked ≡ true
-is_asked l created Resting there h = cc
-is_asked l created Dialing there h = h.0
-is_asked l created (Wanting link) there h = h.0
-is_asked l created (SettingUp link greeting) there h = h.0
-is_asked l created (Ready link) there h = h.0
-is_asked l created (Ended e) there h = h.3
-
--- of a link that was asked for it is owed what the end says
-pub owed_asked : (shut : Bool) (l : Ledger) → l.asked ≡ true → owed_waiting shut l ≡ owed_unstarted l.end
-owed_asked true l e = ap (λ a. if not a then Some (outcome.Fault error.Closed) else owed_unstarted l.end) e
-owed_asked false l e = refl
-
 -- an open request goes to the link of the connection
 pub open_on : (b : Book) (t : Inner) (p : ℕ) → Tied b t → is_open_at t.requests p ≡ true → (b.story (name_at t.requests p)).link ≡ t.link
 open_on b t p h o = (request_story b t p h (open_within t.requests p o)).on o
@@ -218,37 +154,6 @@ later_unstarted b t p h i j =
     let within = rising_in 0 later (length t.requests) p (rising_right 0 (requests_in t.started) later (length t.requests) h.lines.line) i in
     let k = rising_apart 0 (requests_in t.started) later (length t.requests) p p h.lines.line (request_in p t.started (request_not b t p h within.1) j) i in
     omega arith
-
--- an entry of a row that is wanted
-pub record IsWantedAs (name : ℕ → Owner) (l : Ledger) (row : List Entry) (p : ℕ) : Type 0 where
-  pub entry : Entry
-  pub number : ℕ
-  pub is : entry.id ≡ p
-  pub open_as : IsOpenAs name l number entry
-
--- an entry of a row that takes items, by its request
-pub wanted_entry : (name : ℕ → Owner) (l : Ledger) (k : ℕ) (row : List Entry) (p : ℕ) → OpenFrom name l k row → IsIn p (row_ids row) → IsWantedAs name l row p
-wanted_entry name l k [] p all i = absurd i
-wanted_entry name l k (e ∷ es) p all (inl same) = record { entry = e; number = k; is = same; open_as = all.0 }
-wanted_entry name l k (e ∷ es) p all (inr i) = let w = wanted_entry name l (suc k) es p all.1 i in record { entry = w.entry; number = w.number; is = w.is; open_as = w.open_as }
-
--- how far a link has come that has not ended
-pub lives : (l : Ledger) (created : ℕ) (life : Life) → TiedLife l created life → has_ended life ≡ false → l.end ≡ None
-lives l created Resting h n = h.2
-lives l created Dialing h n = h.2
-lives l created (Wanting link) h n = h.2
-lives l created (SettingUp link greeting) h n = h.2
-lives l created (Ready link) h n = h.2
-lives l created (Ended e) h n = cc
-
--- a link that has messages of requests in its row is tied by their names
-pub row_link : (l : Ledger) (requests : List Request) (life : Life) (p : ℕ) → IsIn p (row_ids (link_in life).row) → TiedLink (carried life requests) l (whole_link life) → TiedLink (owner_of requests) l (link_in life)
-row_link l requests Resting p i h = absurd i
-row_link l requests Dialing p i h = absurd i
-row_link l requests (Wanting link) p i h = absurd i
-row_link l requests (SettingUp link greeting) p i h = absurd i
-row_link l requests (Ready link) p i h = h
-row_link l requests (Ended e) p i h = absurd i
 
 -- nothing is owed to a message that takes items
 row_unowed : (b : Book) (t : Inner) (p : ℕ) → Tied b t → has_ended t.life ≡ false → p < length t.requests → (b.story (name_at t.requests p)).overdue ≡ false → IsIn p (row_ids (link_in t.life).row) → owed b (name_at t.requests p) ≡ None
@@ -307,19 +212,6 @@ none_open b t life m bare h none over empty o =
 
 -- where the opening of a link failed, this was shown
 --
--- what has not ended has not failed
-alive_failure : (end : Option End) (created : ℕ) → end ≡ None → FailureIsShown end created
-alive_failure end created none e fails = absurd (let no : ◌≡◌ {A = Option RedisError} None (Some e) = sym (ap failure_in none) ∙ fails in cc)
-
--- by how far the link has come
-failure_shown : (l : Ledger) (created : ℕ) (life : Life) → TiedLife l created life → FailureIsShown l.end created
-failure_shown l created Resting h = alive_failure l.end created h.2
-failure_shown l created Dialing h = alive_failure l.end created h.2
-failure_shown l created (Wanting link) h = alive_failure l.end created h.2
-failure_shown l created (SettingUp link greeting) h = alive_failure l.end created h.2
-failure_shown l created (Ready link) h = alive_failure l.end created h.2
-failure_shown l created (Ended e) h = h.2
-
 -- of any link
 pub failures_shown : (b : Book) (t : Inner) → Tied b t → FailuresAreShown b
 failures_shown b t h m = by_test (m == t.link) (FailureIsShown (b.link m).end b.created)
@@ -333,13 +225,6 @@ created_is b t h = record {
   failed = failures_shown b t h;
   lazy = h.numbers.lazy;
 }
-
--- nothing comes behind all of a list
-pub get_behind : (n : ℕ) (hs : List Heard) → drop n hs ≡ [] → slice_get hs n ≡ None
-get_behind zero [] e = refl
-get_behind zero (h ∷ hs) e = cc
-get_behind (suc n) [] e = refl
-get_behind (suc n) (h ∷ hs) e = get_behind n hs e
 
 -- all notices that came were told, where none is still to be
 pub notices_told : (b : Book) (t : Inner) → Tied b t → t.untold ≡ [] → NoticesAreTold b

@@ -1,5 +1,5 @@
 -- Submissions go to the current link, or went to one before it, in any trace whose actions may stand.
-use Rattle.std.proofs.Common.{◌≡◌, ◌≢◌, inl, inr, ℕ, ◌+◌, ◌-◌, ◌≤◌, ◌==◌, nat_lt, Bool, true, false, ◌&&◌, ◌||◌, not, List, [], ◌∷◌, ◌++◌, length, Option, Some, None, is_none, is_some, slice_get, take, if◌then◌else◌, refl, sym, ap, ◌∙◌, subst, arith}
+use Rattle.std.proofs.Common.{◌≡◌, ◌≢◌, inl, inr, ℕ, ◌+◌, ◌-◌, ◌≤◌, ◌==◌, nat_lt, Bool, true, false, ◌&&◌, ◌||◌, not, List, [], ◌∷◌, ◌++◌, length, Option, Some, None, is_none, is_some, slice_get, if◌then◌else◌, refl, sym, ap, ◌∙◌, subst, arith}
 use Rattle.std.proofs.Math.Nat.{le_refl}
 use Rattle.containers.proofs.Choices.{both_left, by_test, chosen, lt_from, not_both, taken_if}
 use Rattle.driver_model.specs.declared.action.Action.{Action}
@@ -11,42 +11,29 @@ use Rattle.driver_model.specs.declared.action.Purpose.TheVariants as purpose
 use Rattle.driver_model.specs.declared.config.Config.{Config}
 use Rattle.driver_model.specs.declared.event.EventKind.{EventKind}
 use Rattle.driver_model.specs.declared.event.EventKind.TheVariants as event
-use Rattle.redis_error.specs.declared.redis_error.RedisError.TheVariants as error
 use Rattle.resp_value.specs.declared.push_kind.PushKind.{PushKind}
-use Rattle.driver_model.specs.News.{News, silence, connected, refused, overdue, took, came, failed, authorized, denied, deserted, renewed, unrenewed, late, unrepeated, dropped, shut, news_of}
+use Rattle.driver_model.specs.News.{news_of}
 use Rattle.driver_model.specs.Push.{is_disconnection}
-use Rattle.legal_trace.specs.Ledger.{Ledger, Line, End, asks, authorized_by, awaits_credentials, begins, bytes_came, dials, ends, hears, is_over, is_renewal_open, is_repeating, lost_by, may_renew, noted, noted_each, offers, parts, refused_in, renewed_by, repeats_timed, sources, tells, times, unrenewed_by, unrepeated_by, with_news}
+use Rattle.legal_trace.specs.Ledger.{Ledger, Line, End, ends, hears, is_over, noted, noted_each, offers, parts, sources, tells}
 use Rattle.legal_trace.specs.Story.{Story, answered, carried, clocked, fires, holds, is_open, left, rounds, tried, waits}
 use Rattle.legal_trace.specs.Book.{Book, after_event, blank_book, book, entered, entered_each, has_generations, if_mine, if_own, is_clock_of, lines_of, push_line, rest_after}
 use Rattle.legal_trace.specs.Legal.{AllStand, MayStand, MayTimer, current_link, link_due}
 use Rattle.legal_trace.proofs.Clocks.{timer_tells}
 use Rattle.legal_trace.proofs.Ledgers.{each_keeps, mine_keeps}
-use Rattle.legal_trace.proofs.Came.{holds_bytes}
 use Rattle.legal_trace.proofs.Plain.{item_stays, last_item, same_some}
-use Rattle.session_laws.proofs.Links.Lost.{news_end}
 use Rattle.legal_trace.proofs.Books.{book_more, of_each_front}
 use Rattle.session_laws.proofs.Managers.Reopen.{ArePast}
+use Rattle.conn_laws.proofs.Ties.Past.{EndsBefore, OverOnce, SameLink, fires_link, hears_before, left_link, once_kept}
 
 -- so it is, and the current link is one that was asked for, or the next one
 pub record IsPast (b : Book) : Type 0 where
   pub behind : ArePast b
   pub near : b.current ≤ b.links
 
--- a story goes to the same link
-abbrev SameLink : Story → Story → Type 0
-SameLink s r = r.link ≡ s.link
-
 -- where one is changed that goes on to it
 own_link : (own : Bool) (changed s : Story) → changed.link ≡ s.link → SameLink s (if_own own changed s)
 own_link true changed s e = e
 own_link false changed s e = refl
-
--- whoever goes does
-left_link : (s : Story) → SameLink s (left s)
-left_link s = chosen (SameLink s) (is_open s) _ s (λ t. refl) (λ f. refl)
-
-fires_link : (s : Story) → SameLink s (fires s)
-fires_link s = chosen (SameLink s) (is_open s) _ s (λ t. refl) (λ f. refl)
 
 -- no further than the current link
 abbrev Within : Book → Story → Type 0
@@ -184,17 +171,6 @@ is_founded trace stands = of_each_front (λ t. IsFounded (book t)) trace (λ t a
 
 -- the turns of ends
 --
--- a link has ended in a turn that has begun, if it has
-abbrev pub EndsBefore : ℕ → Ledger → Type 0
-EndsBefore turns l = (e : End) → l.end ≡ Some e → e.turn ≤ turns - 1
-
--- news end it in their turn, if they do
-hears_before : (turns : ℕ) (l : Ledger) (news : News) → EndsBefore turns l → EndsBefore (turns + 1) (noted l (hears turns news))
-hears_before turns l news h e is = elim (news_end l turns news) [
-  | inl same ↦ (let le = h e (sym same ∙ is) in omega (arith, le))
-  | inr new ↦ (let here = ap (λ (x : End). x.turn) (same_some _ e (sym new.1 ∙ is)) in omega (arith, here))
-]
-
 -- and so do lines that don't begin a turn
 line_before : (turns : ℕ) (l : Ledger) (mine : Bool) (line : Line) → EndsBefore turns (noted l line) → EndsBefore turns l → EndsBefore turns (noted_each l (if_mine mine line))
 line_before turns l mine line own h = mine_keeps (EndsBefore turns) mine l line (λ m. own) h
@@ -236,46 +212,6 @@ ends_before trace stands = of_each_front (λ t. EndBefore (book t)) trace (λ t 
 
 -- a source that gives no more
 --
--- so it is of a link that is up, or was
-abbrev OverOnce : Ledger → Type 0
-OverOnce l = l.creds.over ≡ true → (l.up || is_over l) ≡ true
-
--- of a link whose connect succeeded, or that has ended
-either_true : (x : Bool) → (x || true) ≡ true
-either_true true = refl
-either_true false = refl
-
-once_hears : (l : Ledger) (turn : ℕ) (news : News) → OverOnce l → OverOnce (with_news l turn news)
-once_hears l turn silence h = h
-once_hears l turn connected h = chosen OverOnce (is_over l) l (record l { up = true }) (λ t. h) (λ f over. refl)
-once_hears l turn (refused f) h = chosen OverOnce (dials l) (refused_in l turn (error.Io f)) l (λ t over. either_true l.up) (λ d. h)
-once_hears l turn overdue h = h
-once_hears l turn (took count) h = chosen OverOnce l.up (record l { taken = l.taken ++ take count l.offer; offer = [] }) l (λ t. h) (λ f. h)
-once_hears l turn (came piece) h = chosen OverOnce l.up (bytes_came l piece) l (λ t. holds_bytes OverOnce l piece (λ rest strange told more. h)) (λ f. h)
-once_hears l turn (failed f) h = h
-once_hears l turn (authorized c) h = chosen OverOnce (awaits_credentials l) (authorized_by l c) l (λ t. h) (λ f. h)
-once_hears l turn (denied text) h = h
-once_hears l turn deserted h = h
-once_hears l turn (renewed c) h = chosen OverOnce (may_renew l) (renewed_by l c) l (λ t. h) (λ f. h)
-once_hears l turn unrenewed h = chosen OverOnce l.up (unrenewed_by l) l (λ t over. ap (λ u. u || is_over l) t) (λ f. h)
-once_hears l turn (late k) h = chosen OverOnce (l.up && is_renewal_open l k) (lost_by l) l (λ t. h) (λ f. h)
-once_hears l turn unrepeated h = chosen OverOnce (is_repeating l) (unrepeated_by l) l (λ t. h) (λ f. h)
-once_hears l turn dropped h = h
-once_hears l turn shut h = h
-
--- each line keeps it
-once_kept : (l : Ledger) (x : Line) → OverOnce l → OverOnce (noted l x)
-once_kept l (asks info wanted hearing last again) h = λ over. cc
-once_kept l (hears turn news) h = once_hears l turn news h
-once_kept l (begins s) h = h
-once_kept l (offers bytes) h = h
-once_kept l tells h = h
-once_kept l sources h = h
-once_kept l times h = h
-once_kept l repeats_timed h = h
-once_kept l (ends turn) h = λ over. refl
-once_kept l parts h = h
-
 -- so do any actions
 once_each : (b : Book) (l : ℕ) (actions : List Action) → OverOnce (b.link l) → OverOnce ((entered_each b actions).link l)
 once_each b l [] h = h

@@ -1,27 +1,16 @@
 -- Since when submissions have their places, and new credentials are due, behind actions that may stand.
-use Rattle.std.proofs.Common.{◌≡◌, ◌⊎◌, inl, inr, ℕ, ◌-◌, ◌<◌, ◌≤◌, ◌==◌, nat_lt, Bool, true, false, List, [], ◌∷◌, Option, Some, None, refl, sym, ◌∙◌, ap, arith}
+use Rattle.std.proofs.Common.{◌≡◌, inl, inr, ℕ, ◌-◌, ◌<◌, ◌≤◌, ◌==◌, nat_lt, true, false, List, [], ◌∷◌, Option, Some, None, refl, sym, ◌∙◌, arith}
 use Rattle.containers.proofs.Choices.{by_test, eq_from, lt_from, not_lt_from, not_both, both_left, both_right}
 use Rattle.driver_model.specs.declared.action.Action.{Action}
 use Rattle.legal_trace.specs.Book.{Book, blank_book, book, entered, entered_each}
 use Rattle.legal_trace.specs.Legal.{MayStand, AllStand}
-use Rattle.legal_trace.specs.Steps.{is_taken_before}
 use Rattle.legal_trace.specs.Story.{has_place, is_unstarted}
 use Rattle.legal_laws.proofs.Internal.Since.{SinceBegun, since_each}
 use Rattle.legal_laws.proofs.Submissions.ByPlace.{placed_is_numbered}
 use Rattle.legal_laws.proofs.Submissions.InLine.{is_to_start, follows, stays_out, submissions_grow}
 use Rattle.legal_laws.proofs.Submissions.Places.{Knows, blank_knows, knows_each, knows_kept, place_kept, placed_again, placed_step, turns_grow}
 use Rattle.legal_laws.proofs.Traces.Numbers.{links_grow}
-
--- a place that was taken in a turn from that one on, where there was none
-pub record IsTakenFrom (turn : ℕ) (old new : Option ℕ) : Type 0 where
-  pub none : old ≡ None
-  pub at : ℕ
-  pub is : new ≡ Some at
-  pub late : turn ≤ at
-
--- a place is as it was, or was taken then
-abbrev pub StaysOrComes : ℕ → Option ℕ → Option ℕ → Type 0
-StaysOrComes turn old new = (new ≡ old) ⊎ IsTakenFrom turn old new
+use Rattle.conn_laws.proofs.Ties.Places.{StaysOrComes}
 
 -- one after another
 stays_on : (turn later : ℕ) (old mid new : Option ℕ) → turn ≤ later → StaysOrComes turn old mid → StaysOrComes later mid new → StaysOrComes turn old new
@@ -29,20 +18,6 @@ stays_on turn later old mid new less (inl same) (inl still) = inl (still ∙ sam
 stays_on turn later old mid new less (inl same) (inr k) = inr (record { none = sym same ∙ k.none; at = k.at; is = k.is; late = (let i = k.late in omega (arith, less, i)) })
 stays_on turn later old mid new less (inr h) (inl still) = inr (record { none = h.none; at = h.at; is = still ∙ h.is; late = h.late })
 stays_on turn later old mid new less (inr h) (inr k) = absurd (let no : ◌≡◌ {A = Option ℕ} None (Some h.at) = sym k.none ∙ h.is in cc no)
-
--- whether it was taken before that turn, or an earlier one, is as it was
-pub taken_still : (turn since : ℕ) (old new : Option ℕ) → since ≤ turn → StaysOrComes turn old new → is_taken_before since new ≡ is_taken_before since old
-taken_still turn since old new less (inl same) = ap (is_taken_before since) same
-taken_still turn since old new less (inr h) = ap (is_taken_before since) h.is ∙ late_test (nat_lt h.at since) refl ∙ sym (ap (is_taken_before since) h.none)
-  where
-    late_test : (x : Bool) → nat_lt h.at since ≡ x → x ≡ false
-    late_test true e = absurd (let i = lt_from h.at since e in let late = h.late in omega (arith, less, late, i))
-    late_test false e = refl
-
--- one that was taken is a place
-pub place_of_taken : (since : ℕ) (o : Option ℕ) → is_taken_before since o ≡ true → (t : ℕ) × (o ≡ Some t)
-place_of_taken since None e = cc
-place_of_taken since (Some t) e = (t, refl)
 
 -- without a place none was taken
 pub untaken : (b : Book) (n : ℕ) → Knows b → has_place (b.story n) ≡ false → b.placed n ≡ None

@@ -1,10 +1,8 @@
 -- A turn of an event: where it may stand, and what its link and the others hear.
-use Rattle.std.proofs.Common.{◌≡◌, ◌≢◌, inl, inr, ℕ, ◌+◌, ◌-◌, ◌<◌, ◌≤◌, ◌==◌, nat_lt, nat_le, false, ◌&&◌, ◌||◌, not, is_some, List, [], ◌∷◌, ◌++◌, length, slice_get, Some, refl, sym, ap, ◌∙◌, subst, arith, length-take, None, Option, true, Bool}
+use Rattle.std.proofs.Common.{◌≡◌, ◌≢◌, inl, inr, ℕ, ◌+◌, ◌-◌, ◌<◌, ◌≤◌, ◌==◌, nat_lt, nat_le, false, ◌&&◌, ◌||◌, not, is_some, List, [], ◌∷◌, ◌++◌, length, slice_get, Some, refl, sym, ap, ◌∙◌, subst, arith, None, Option, true, Bool}
 use Rattle.std.proofs.lemmas.List.{append-nil}
 use Rattle.containers.proofs.Choices.{or_left, by_test, chosen, left_if, eq_from, ne_from, ne_test, not_le_from, not_both}
-use Rattle.redis_error.specs.declared.redis_error.RedisError.TheVariants as error
 use Rattle.driver_model.specs.declared.action.Action.{Action}
-use Rattle.driver_model.specs.declared.action.Owner.{Owner}
 use Rattle.driver_model.specs.declared.action.Owner.TheVariants as owner
 use Rattle.driver_model.specs.declared.action.Purpose.{Purpose}
 use Rattle.driver_model.specs.declared.action.Purpose.TheVariants as purpose
@@ -16,9 +14,8 @@ use Rattle.driver_model.specs.declared.action.Cause.TheVariants as cause
 use Rattle.driver_model.specs.declared.event.EventKind.{EventKind}
 use Rattle.driver_model.specs.declared.event.EventKind.TheVariants as event
 use Rattle.driver_model.specs.declared.news.LinkFault.TheVariants as fault
-use Rattle.driver_model.specs.News.{News, silence, connected, took, came, failed, authorized, denied, deserted, shut, for_link, news_of, refused, overdue, of_timer, renewed, unrenewed, late, unrepeated, is_source_of, of_source, renews, dropped}
+use Rattle.driver_model.specs.News.{News, silence, connected, took, came, failed, authorized, denied, deserted, for_link, news_of, refused, overdue, of_timer, renewed, unrenewed, late, unrepeated, is_source_of, of_source, renews}
 use Rattle.driver_model.specs.declared.outcome.Outcome.TheVariants as outcome
-use Rattle.link_core.specs.Link.{LinkState}
 use Rattle.link_laws.proofs.TiedLink.{TiedLink}
 use Rattle.mux_conn.specs.declared.again.Again.{Again}
 use Rattle.mux_conn.specs.declared.connection.MultiplexedConnection.{MultiplexedConnection}
@@ -27,36 +24,33 @@ use Rattle.mux_conn.specs.declared.life.Life.TheVariants.{Resting, Dialing, Want
 use Rattle.mux_conn.specs.declared.request.Request.{Request}
 use Rattle.shared_session.specs.declared.core_state.Core.{Core}
 use Rattle.shared_session.specs.Turn.{is_shutdown, shut_by, exceeds_offer, is_bad}
-use Rattle.legal_trace.specs.Ledger.{Ledger, Start, setup_count, authorized_by, with_news, awaits_credentials, hears, noted, is_over, bytes_came, dials, refused_in, Heard, is_renewal_open, lost_by, may_renew, renewed_by, unrenewed_by, is_repeating, unrepeated_by}
-use Rattle.legal_trace.specs.Story.{Story, fires, has_place}
+use Rattle.legal_trace.specs.Ledger.{Ledger, hears, noted, is_over, Heard}
+use Rattle.legal_trace.specs.Story.{fires, has_place}
 use Rattle.legal_trace.specs.Book.{Book, book, entered, if_own, is_clock_of, placed_since, since_after, hearing_in, rest_after, timeout_after, kind_in, has_generations}
 use Rattle.legal_trace.specs.Events.{is_bad_event}
 use Rattle.legal_trace.specs.Legal.{MayTurn}
 use Rattle.mux_conn.specs.Connection.{is_resting, is_outstanding}
 use Rattle.session_laws.proofs.Managers.Comes.{course_later}
-use Rattle.session_laws.proofs.Links.Server.{owners_of, setup_owners, TiedCreds, TiedSetup, TiedRenewal, hearing_at, on_link}
-use Rattle.session_laws.proofs.Ties.Tied.{TiedCreation, AreAimed, AreUses, IsAim, owners_each, Inner, inner, link_in, carried, whole_link, AreAside, TiedLife, TiedTries, TiedLines, AreQueued, TiedWaits, Tied, Sound, has_ended, TiedNotices, HasGreetedAlone, is_reading, IsUse, TiedRounds, HasCourse, AreEarly}
-use Rattle.session_laws.proofs.Internal.Repeats.{TiedRepeat, serves}
+use Rattle.conn_laws.proofs.Links.Server.{TiedCreds, TiedSetup, TiedRenewal, hearing_at, on_link}
+use Rattle.conn_laws.proofs.Ties.Tied.{TiedCreation, AreUses, link_in, carried, whole_link, AreAside, TiedLife, TiedLines, AreQueued, TiedWaits, has_ended, TiedNotices, is_reading, IsUse, TiedRounds, AreEarly}
+use Rattle.session_laws.proofs.Ties.Tied.{AreAimed, IsAim, Inner, inner, Tied, Sound, HasCourse}
+use Rattle.conn_laws.proofs.Internal.Repeats.{TiedRepeat, serves}
 use Rattle.session_laws.proofs.Ties.States.{Between}
 use Rattle.session_laws.proofs.Ties.Entered.{book_more, sound_more}
-use Rattle.session_laws.proofs.Requests.Answer.{some_end}
-use Rattle.session_laws.proofs.Ties.Aside.{aside_heard}
+use Rattle.conn_laws.proofs.Requests.Answer.{some_end}
+use Rattle.conn_laws.proofs.Ties.Aside.{aside_heard}
 use Rattle.session_laws.proofs.Ties.Kept.{tied_by}
 use Rattle.session_laws.proofs.Requests.Settle.{seen, trace_of_acts, Holds}
-use Rattle.session_laws.proofs.Ties.Names.{get_more}
+use Rattle.conn_laws.proofs.Ties.Names.{get_more}
 use Rattle.mux_conn.specs.declared.renewal.Renewal.{Renewal}
 use Rattle.driver_model.specs.Hearing.{is_watching}
-use Rattle.legal_trace.proofs.Came.{holds_bytes}
 use Rattle.driver_model.specs.declared.kind.SessionKind.{SessionKind}
 use Rattle.driver_model.specs.Request.{has_no_form}
 use Rattle.driver_model.specs.declared.kind.SessionKind.TheVariants as session
+use Rattle.conn_laws.proofs.Turn.Announce.{asked_hear, offered_length, tries_by, uses_hear}
 
 -- bad events
 --
--- what a link that has not ended is offered
-offered_length : (name : ℕ → Owner) (l : Ledger) (s : LinkState) → TiedLink name l s → length l.offer ≡ s.outbox.offered
-offered_length name l s h = ap length h.offer ∙ (let e = length-take s.outbox.offered s.outbox.unwritten in let b = h.bound in omega arith)
-
 -- the connection's link can't take so much
 too_much : (l : Ledger) (created : ℕ) (life : Life) (requests : List Request) (count : ℕ) → TiedLife l created life → (has_ended life ≡ false → TiedLink (carried life requests) l (whole_link life)) → (not (is_over l) && nat_lt (length l.offer) count) ≡ exceeds_offer life count
 too_much l created Resting requests count h link = (λ i. not (is_some (h.2 i)) && nat_lt (offered_length (carried Resting requests) l (whole_link Resting) (link refl) i) count)
@@ -160,44 +154,6 @@ pub others_heard : (b : Book) (c : Core) (started : List ℕ) (kind : EventKind)
 others_heard b c started kind next h good shown m other =
     let same : news_of b.timers b.sources m kind ≡ news_of c.timers c.sources m kind = λ i. news_of (h.numbers.timers i) (h.numbers.sources i) m kind in
     aside_heard (b.link m) c.turns next (news_of b.timers b.sources m kind) (λ past e. far_news c m kind good past (sym same ∙ e)) shown (h.others m other)
-
--- news start nothing
-pub heard_starts : (l : Ledger) (turn : ℕ) (n : News) → (noted l (hears turn n)).starts ≡ l.starts
-heard_starts l turn silence = refl
-heard_starts l turn (refused f) = chosen (λ (x : Ledger). x.starts ≡ l.starts) (dials l) (refused_in l turn (error.Io f)) l (λ t. refl) (λ d. refl)
-heard_starts l turn overdue = refl
-heard_starts l turn connected = chosen (λ (x : Ledger). x.starts ≡ l.starts) (is_over l) l _ (λ t. refl) (λ f. refl)
-heard_starts l turn (took count) = chosen (λ (x : Ledger). x.starts ≡ l.starts) l.up _ l (λ t. refl) (λ f. refl)
-heard_starts l turn (came piece) = chosen (λ (x : Ledger). x.starts ≡ l.starts) l.up (bytes_came l piece) l (λ t. holds_bytes (λ (x : Ledger). x.starts ≡ l.starts) l piece (λ rest strange told more. refl)) (λ f. refl)
-heard_starts l turn (failed f) = refl
-heard_starts l turn (authorized c) = chosen (λ (x : Ledger). x.starts ≡ l.starts) (awaits_credentials l) (authorized_by l c) l (λ t. refl) (λ f. refl)
-heard_starts l turn (renewed c) = chosen (λ (x : Ledger). x.starts ≡ l.starts) (may_renew l) (renewed_by l c) l (λ t. refl) (λ f. refl)
-heard_starts l turn unrenewed = chosen (λ (x : Ledger). x.starts ≡ l.starts) l.up (unrenewed_by l) l (λ t. refl) (λ f. refl)
-heard_starts l turn (late k) = chosen (λ (x : Ledger). x.starts ≡ l.starts) (l.up && is_renewal_open l k) (lost_by l) l (λ t. refl) (λ f. refl)
-heard_starts l turn unrepeated = chosen (λ (x : Ledger). x.starts ≡ l.starts) (is_repeating l) (unrepeated_by l) l (λ t. refl) (λ f. refl)
-heard_starts l turn (denied text) = refl
-heard_starts l turn deserted = refl
-heard_starts l turn dropped = refl
-heard_starts l turn shut = refl
-
--- news leave what is heard on a link
-pub heard_hearing : (l : Ledger) (turn : ℕ) (n : News) → (noted l (hears turn n)).hearing ≡ l.hearing
-heard_hearing l turn silence = refl
-heard_hearing l turn (refused f) = chosen (λ (x : Ledger). x.hearing ≡ l.hearing) (dials l) (refused_in l turn (error.Io f)) l (λ t. refl) (λ d. refl)
-heard_hearing l turn overdue = refl
-heard_hearing l turn connected = chosen (λ (x : Ledger). x.hearing ≡ l.hearing) (is_over l) l _ (λ t. refl) (λ f. refl)
-heard_hearing l turn (took count) = chosen (λ (x : Ledger). x.hearing ≡ l.hearing) l.up _ l (λ t. refl) (λ f. refl)
-heard_hearing l turn (came piece) = chosen (λ (x : Ledger). x.hearing ≡ l.hearing) l.up (bytes_came l piece) l (λ t. holds_bytes (λ (x : Ledger). x.hearing ≡ l.hearing) l piece (λ rest strange told more. refl)) (λ f. refl)
-heard_hearing l turn (failed f) = refl
-heard_hearing l turn (authorized c) = chosen (λ (x : Ledger). x.hearing ≡ l.hearing) (awaits_credentials l) (authorized_by l c) l (λ t. refl) (λ f. refl)
-heard_hearing l turn (renewed c) = chosen (λ (x : Ledger). x.hearing ≡ l.hearing) (may_renew l) (renewed_by l c) l (λ t. refl) (λ f. refl)
-heard_hearing l turn unrenewed = chosen (λ (x : Ledger). x.hearing ≡ l.hearing) l.up (unrenewed_by l) l (λ t. refl) (λ f. refl)
-heard_hearing l turn (late k) = chosen (λ (x : Ledger). x.hearing ≡ l.hearing) (l.up && is_renewal_open l k) (lost_by l) l (λ t. refl) (λ f. refl)
-heard_hearing l turn unrepeated = chosen (λ (x : Ledger). x.hearing ≡ l.hearing) (is_repeating l) (unrepeated_by l) l (λ t. refl) (λ f. refl)
-heard_hearing l turn (denied text) = refl
-heard_hearing l turn deserted = refl
-heard_hearing l turn dropped = refl
-heard_hearing l turn shut = refl
 
 -- the turn of an event that is of no account for submissions
 --
@@ -304,16 +260,6 @@ heard_is b number word (event.CredsError c text) k = still_as_many b number word
 heard_is b number word (event.CredsEnd c) k = still_as_many b number word (event.CredsEnd c) tt
 heard_is b number word event.DropStream k = still_as_many b number word event.DropStream tt
 heard_is b number word event.Shutdown k = still_as_many b number word event.Shutdown tt
-
--- tries are of the starts
-tries_by : (l after : Ledger) (story : ℕ → Story) (requests : List Request) (link : ℕ) (started : List ℕ) → after.starts ≡ l.starts → after.hearing ≡ l.hearing → TiedTries l story requests link started → TiedTries after story requests link started
-tries_by l after story requests link started e hearing h = record {
-  owners = λ plain. subst (λ (ss : List Start). owners_of ss ≡ setup_owners (setup_count ss) (owners_each requests started)) (sym e) (h.owners (ap is_watching (sym hearing) ∙ plain));
-  greeted = λ w. subst (λ (ss : List Start). HasGreetedAlone ss started) (sym e) (h.greeted (ap is_watching (sym hearing) ∙ w));
-  shapes = λ k p s w i j. h.shapes k p s w i (ap (λ (ss : List Start). slice_get ss (setup_count ss + k)) (sym e) ∙ j);
-  tried = λ k p w i. h.tried k p w i ∙ ap (λ (ss : List Start). record { link = link; message = setup_count ss + k } ∷ []) (sym e);
-  untried = h.untried;
-}
 
 -- the core of the turn
 abbrev pub turned : Core → EventKind → Core
@@ -460,85 +406,12 @@ pub heard_tied_by : (b : Book) (c : Core) (started : List ℕ) (word created : �
 heard_tied_by b c started word created halted told opened kind info life fresh pending untold links l asked uses h made shown others is sourced used k =
     heard_tied_as b c started word created halted told opened kind info c.single.connection.renewal c.single.connection.again life fresh pending untold links l asked uses h made shown refl refl (quiet_still b c started h) others is sourced used k
 
--- what was asked for a link's credentials: a source, a second one, and timers
-record Sought : Type 0 where
-  first : Bool
-  second : Bool
-  timers : ℕ
-
-abbrev sought : Ledger → Sought
-sought l = record { first = l.creds.asked; second = l.creds.renews; timers = l.creds.timed }
-
--- news ask for none of these
-news_seek : (l : Ledger) (turn : ℕ) (n : News) → sought (noted l (hears turn n)) ≡ sought l
-news_seek l turn silence = refl
-news_seek l turn overdue = refl
-news_seek l turn connected = chosen (λ (x : Ledger). sought x ≡ sought l) (is_over l) l (record l { up = true }) (λ t. refl) (λ f. refl)
-news_seek l turn (refused f) = chosen (λ (x : Ledger). sought x ≡ sought l) (dials l) (refused_in l turn (error.Io f)) l (λ t. refl) (λ d. refl)
-news_seek l turn (took count) = chosen (λ (x : Ledger). sought x ≡ sought l) l.up _ l (λ t. refl) (λ f. refl)
-news_seek l turn (came piece) = chosen (λ (x : Ledger). sought x ≡ sought l) l.up (bytes_came l piece) l (λ t. holds_bytes (λ (x : Ledger). sought x ≡ sought l) l piece (λ rest strange told more. refl)) (λ f. refl)
-news_seek l turn (failed f) = refl
-news_seek l turn (authorized c) = chosen (λ (x : Ledger). sought x ≡ sought l) (awaits_credentials l) (authorized_by l c) l (λ t. refl) (λ f. refl)
-news_seek l turn (denied text) = refl
-news_seek l turn deserted = refl
-news_seek l turn (renewed c) = chosen (λ (x : Ledger). sought x ≡ sought l) (may_renew l) (renewed_by l c) l (λ t. refl) (λ f. refl)
-news_seek l turn unrenewed = chosen (λ (x : Ledger). sought x ≡ sought l) l.up (unrenewed_by l) l (λ t. refl) (λ f. refl)
-news_seek l turn (late k) = chosen (λ (x : Ledger). sought x ≡ sought l) (l.up && is_renewal_open l k) (lost_by l) l (λ t. refl) (λ f. refl)
-news_seek l turn unrepeated = chosen (λ (x : Ledger). sought x ≡ sought l) (is_repeating l) (unrepeated_by l) l (λ t. refl) (λ f. refl)
-news_seek l turn dropped = refl
-news_seek l turn shut = refl
-
-pub sources_hear : (l : Ledger) (turn : ℕ) (n : News) → (noted l (hears turn n)).creds.asked ≡ l.creds.asked
-sources_hear l turn n = ap (λ (s : Sought). s.first) (news_seek l turn n)
-
-pub renews_hear : (l : Ledger) (turn : ℕ) (n : News) → (noted l (hears turn n)).creds.renews ≡ l.creds.renews
-renews_hear l turn n = ap (λ (s : Sought). s.second) (news_seek l turn n)
-
-pub timed_hear : (l : Ledger) (turn : ℕ) (n : News) → (noted l (hears turn n)).creds.timed ≡ l.creds.timed
-timed_hear l turn n = ap (λ (s : Sought). s.timers) (news_seek l turn n)
-
--- what news leave of a link: that it was asked for, whether another attempt follows, and what protocol its server is told
-pub record KeepsAsked (l m : Ledger) : Type 0 where
-  pub asked : m.asked ≡ l.asked
-  pub last : m.last ≡ l.last
-  pub protocol : m.info.protocol ≡ l.info.protocol
-
-same_asked : (l : Ledger) → KeepsAsked l l
-same_asked l = record { asked = refl; last = refl; protocol = refl }
-
-pub asked_hear : (l : Ledger) (turn : ℕ) (n : News) → KeepsAsked l (noted l (hears turn n))
-asked_hear l turn n = record { asked = (by_news n).asked; last = (by_news n).last; protocol = (by_news n).protocol }
-  where
-    by_news : (n : News) → KeepsAsked l (with_news l turn n)
-    by_news silence = same_asked l
-    by_news overdue = same_asked l
-    by_news connected = chosen (KeepsAsked l) (is_over l) l (record l { up = true }) (λ t. same_asked l) (λ f. record { asked = refl; last = refl; protocol = refl })
-    by_news (refused f) = chosen (KeepsAsked l) (dials l) (refused_in l turn (error.Io f)) l (λ t. record { asked = refl; last = refl; protocol = refl }) (λ d. same_asked l)
-    by_news (took count) = chosen (KeepsAsked l) l.up _ l (λ t. record { asked = refl; last = refl; protocol = refl }) (λ f. same_asked l)
-    by_news (came piece) = chosen (KeepsAsked l) l.up (bytes_came l piece) l (λ t. holds_bytes (KeepsAsked l) l piece (λ rest strange told more. record { asked = refl; last = refl; protocol = refl })) (λ f. same_asked l)
-    by_news (failed f) = same_asked l
-    by_news (authorized c) = chosen (KeepsAsked l) (awaits_credentials l) (authorized_by l c) l (λ t. record { asked = refl; last = refl; protocol = refl }) (λ f. same_asked l)
-    by_news (denied text) = same_asked l
-    by_news deserted = same_asked l
-    by_news (renewed c) = chosen (KeepsAsked l) (may_renew l) (renewed_by l c) l (λ t. record { asked = refl; last = refl; protocol = refl }) (λ f. same_asked l)
-    by_news unrenewed = chosen (KeepsAsked l) l.up (unrenewed_by l) l (λ t. record { asked = refl; last = refl; protocol = refl }) (λ f. same_asked l)
-    by_news (late k) = chosen (KeepsAsked l) (l.up && is_renewal_open l k) (lost_by l) l (λ t. record { asked = refl; last = refl; protocol = refl }) (λ f. same_asked l)
-    by_news unrepeated = chosen (KeepsAsked l) (is_repeating l) (unrepeated_by l) l (λ t. record { asked = refl; last = refl; protocol = refl }) (λ f. same_asked l)
-    by_news dropped = same_asked l
-    by_news shut = same_asked l
-
 -- so the session says the same protocol to its server
 pub protocol_still : (b : Book) (c : Core) (started : List ℕ) (kind : EventKind) (info : RedisConnectionInfo) (l : Ledger) → Tied b (inner c started) → is_resting c.single.connection.life ≡ false → noted (b.link c.single.link) (hears c.turns (news_of b.timers b.sources c.single.link kind)) ≡ l → l.info ≡ info
     → info.protocol ≡ c.single.connection.info.protocol
 protocol_still b c started kind info l h there is told =
     let n = news_of b.timers b.sources c.single.link kind in
     sym (ap (λ (x : RedisConnectionInfo). x.protocol) told) ∙ sym (ap (λ (x : Ledger). x.info.protocol) is) ∙ (asked_hear (b.link c.single.link) c.turns n).protocol ∙ ap (λ (x : RedisConnectionInfo). x.protocol) (on_link c.single.connection.life ((b.link c.single.link).info ≡ c.single.connection.info) there h.setup.info_is)
-
--- so all sources are for it as they were
-pub uses_hear : (sources : List SourceUse) (link : ℕ) (l : Ledger) (turn : ℕ) (n : News) → AreUses sources link l.creds.asked l.creds.renews → (let m = noted l (hears turn n) in AreUses sources link m.creds.asked m.creds.renews)
-uses_hear sources link l turn n h =
-    let m = noted l (hears turn n) in
-    subst (λ (x : Bool). AreUses sources link x m.creds.renews) (sym (sources_hear l turn n)) (subst (λ (x : Bool). AreUses sources link l.creds.asked x) (sym (renews_hear l turn n)) h)
 
 -- by what its link hears, where new credentials came to this
 pub heard_tied_new : (b : Book) (c : Core) (started : List ℕ) (word created : ℕ) (halted told opened : Bool) (kind : EventKind) (info : RedisConnectionInfo) (renewal : Renewal) (a : Again) (life : Life) (fresh pending : List ℕ) (untold : List Heard) (l : Ledger) → Tied b (inner c started) → TiedCreation created told → renewal.within ≡ c.single.connection.renewal.within → renewal.wanted ≡ c.single.connection.renewal.wanted → StaysQuiet c renewal a → is_bad c kind ≡ false → (b.created ≢ 0 → created ≢ 0)

@@ -24,14 +24,15 @@ use Rattle.session_laws.proofs.Links.Read.{read_applied}
 use Rattle.session_laws.proofs.Links.End.{failed_applied, shut_applied}
 use Rattle.session_laws.proofs.Requests.Cancel.{cancel_applied}
 use Rattle.session_laws.proofs.Requests.Late.{late_applied, time_applied}
-use Rattle.session_laws.proofs.Ties.Names.{get_some}
+use Rattle.conn_laws.proofs.Ties.Names.{get_some}
 use Rattle.legal_trace.specs.Book.{is_clock_of, book}
 use Rattle.driver_model.specs.declared.action.Owner.TheVariants as owner
 use Rattle.driver_model.specs.declared.action.Purpose.{Purpose}
 use Rattle.driver_model.specs.declared.action.Purpose.TheVariants as purpose
 use Rattle.session_laws.proofs.Requests.Asked.{submit_applied}
 use Rattle.session_laws.proofs.Internal.Renewed.{renewed_applied, unrenewed_applied, renewal_late}
-use Rattle.session_laws.proofs.Turn.Heard.{silent_no_end, still_none}
+use Rattle.conn_laws.proofs.Turn.Heard.{silent_no_end}
+use Rattle.session_laws.proofs.Turn.Heard.{still_none}
 use Rattle.session_laws.proofs.Internal.RepeatOver.{repeat_over}
 
 -- the news of an event that names the connection's link

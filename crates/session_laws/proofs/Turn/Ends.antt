@@ -19,15 +19,17 @@ use Rattle.legal_trace.specs.Book.{Book, blank_book, book, entered_each}
 use Rattle.legal_trace.specs.Legal.{AllStand}
 use Rattle.session_laws.proofs.Internal.Ahead.{ready_asked}
 use Rattle.session_laws.proofs.Internal.Renews.{HasTold}
-use Rattle.session_laws.proofs.Requests.Going.{ready_there}
-use Rattle.session_laws.proofs.Requests.Moved.{IsReady, ready_told, unready_said}
+use Rattle.conn_laws.proofs.Requests.Going.{ready_there}
+use Rattle.conn_laws.proofs.Requests.Moved.{unready_said}
+use Rattle.session_laws.proofs.Requests.Moved.{IsReady, ready_told}
 use Rattle.session_laws.proofs.Requests.Settle.{seen, trace_of_acts}
-use Rattle.session_laws.proofs.Ties.Ahead.{ready_is}
+use Rattle.conn_laws.proofs.Ties.Ahead.{ready_is}
 use Rattle.session_laws.proofs.Ties.Entered.{all_stand_behind, book-append, shown_each-append}
 use Rattle.session_laws.proofs.Ties.Ordered.{AreOrdered, IsOrdered, ordered_on, since_same}
 use Rattle.session_laws.proofs.Ties.Places.{known, since_begun}
-use Rattle.session_laws.proofs.Ties.Tied.{Inner, link_in}
-use Rattle.session_laws.proofs.Turn.Adds.{Adds, passed_adds}
+use Rattle.conn_laws.proofs.Ties.Tied.{link_in}
+use Rattle.session_laws.proofs.Ties.Tied.{Inner}
+use Rattle.conn_laws.proofs.Turn.Adds.{Adds, passed_adds}
 
 -- acts that are shown behind others show actions behind theirs
 pub trace_adds : (front : List Action) (f : Core) (acts more all : List LinkAct) → all ≡ acts ++ more

@@ -52,7 +52,7 @@ use Rattle.session_laws.proofs.Managers.Turns.{IsUnused, manager_turn, manager_w
 use Rattle.session_laws.proofs.Requests.Moved.{ComesOrdered}
 use Rattle.session_laws.proofs.Requests.Settle.{trace_of_acts}
 use Rattle.session_laws.proofs.Ties.Ordered.{IsOrdered, IsOrderedBy}
-use Rattle.session_laws.proofs.Turn.Adds.{flushed_adds}
+use Rattle.conn_laws.proofs.Turn.Adds.{flushed_adds}
 use Rattle.session_laws.proofs.Turn.Ends.{ends_ordered, trace_adds}
 use Rattle.session_laws.proofs.Turn.Ordered.{comes_ordered}
 use Rattle.session_laws.proofs.Ties.Outcomes.{last_told}

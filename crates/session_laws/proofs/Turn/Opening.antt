@@ -25,25 +25,22 @@ use Rattle.legal_trace.specs.Managers.{is_last, is_lazy, settings_in}
 use Rattle.legal_trace.specs.Again.{repeats_in}
 use Rattle.manager_config.specs.declared.config.ConnectionManagerConfig.{ConnectionManagerConfig}
 use Rattle.legal_trace.proofs.Managers.{never_lazy, no_settings}
-use Rattle.legal_trace.specs.Ledger.{Ledger, Line, Start, asks, blank_ledger, ending, noted_each, setup_count, failure_in, is_cut, is_ready, next_notice, noted, source_due}
+use Rattle.legal_trace.specs.Ledger.{Ledger, Line, Start, blank_ledger, ending, noted_each, setup_count, failure_in, is_cut, is_ready, next_notice, noted, source_due}
 use Rattle.legal_trace.specs.Legal.{AllStand, IsSettled, NoneEnds, IsShown, begins_first, current_link, generation_due, is_attempt, is_caused, rest_due}
 use Rattle.legal_trace.specs.Story.{blank_story}
 use Rattle.session_laws.proofs.Requests.Going.{is_moved}
 use Rattle.session_laws.proofs.Requests.Settled.{IsBetween, is_settled}
-use Rattle.session_laws.proofs.Ties.States.{IsFitIn, IsStill}
-use Rattle.session_laws.proofs.Links.Server.{owners_of, setup_owners}
-use Rattle.session_laws.proofs.Ties.Tied.{AreAimed, IsAim, IsAside, Tied, TiedLines, TiedNames, TiedNumbers, TiedPermits, TiedTries, TiedWaits, inner, no_link, owner_of, link_in}
+use Rattle.conn_laws.proofs.Ties.States.{IsFitIn, IsStill}
+use Rattle.conn_laws.proofs.Links.Server.{owners_of, setup_owners}
+use Rattle.conn_laws.proofs.Ties.Tied.{IsAside, TiedPermits, TiedTries, no_link, owner_of}
+use Rattle.session_laws.proofs.Ties.Tied.{AreAimed, IsAim, Tied, TiedNumbers, inner}
 use Rattle.session_laws.proofs.Requests.Waits.{IsQuiet}
 use Rattle.session_laws.proofs.Links.Write.{is_written}
 use Rattle.driver_model.specs.Hearing.{is_watching}
 use Rattle.driver_model.specs.declared.hearing.Hearing.{Hearing}
 use Rattle.driver_model.proofs.Sound.{has_address, is_roomy}
-use Rattle.session_laws.proofs.Ties.Numbers.{IsIn}
-use Rattle.mux_conn.specs.declared.again.Again.{Again}
 use Rattle.mux_conn.specs.declared.again.Again.TheVariants as again
-use Rattle.mux_conn.specs.declared.life.Life.{Life}
-use Rattle.link_core.specs.Link.{LinkState}
-use Rattle.link_laws.specs.Settles.{awaited_ids}
+use Rattle.conn_laws.proofs.Turn.Opening.{first_line, last_first, opening_lines, opening_names, opening_waits}
 
 -- what timers the opening has asked for
 abbrev asks_timers : List Purpose → Book → Book
@@ -56,14 +53,6 @@ opened config word info timers = asks_timers timers (entered (entered blank_book
 -- the session then
 abbrev opened_core : Config → List Purpose → Core
 opened_core config timers = record (single_core config) { timers = timers }
-
--- no attempt follows the first, where the session doesn't come back
-last_first : (config : Config) → manager_of config ≡ None → is_last (settings_in (Some config)) 0 ≡ true
-last_first config none = ap (λ s. is_last s 0) (no_settings config none)
-
--- the line that its connect is
-abbrev first_line : Config → Line
-first_line config = asks (told_info config) (wants_credentials config) (hearing_of config) (is_last (settings_in (Some config)) 0) (repeats_in (settings_in (Some config)) [])
 
 -- no other link is told of
 opened_link : (config : Config) (word : ℕ) (info : ConnectionInfo) (timers : List Purpose) (m : ℕ) → m ≢ first_link → (opened config word info timers).link m ≡ blank_ledger
@@ -150,36 +139,6 @@ opening_numbers config word info timeout none sound some is = record {
   alone = λ plain. refl;
 }
 
--- its lines
-pub opening_lines : TiedLines (λ n. blank_story) [] no_link [] [] [] []
-opening_lines = record { line = omega arith; queued = tt; entries = tt; packs = tt; packed_in = tt; there = λ p e. cc }
-
--- its waits
-pub opening_waits : (a : Again) (life : Life) → link_in life ≡ no_link → TiedWaits (λ n. blank_story) [] a life [] []
-opening_waits a life bare = record {
-  early = λ p w. cc;
-  backoff = λ p w e. cc;
-  connect = λ p w e. cc;
-  creds = λ p link w e. cc;
-  setup = λ p link u w e. cc;
-  resubscribe = λ p link w e goes. cc;
-  permit = λ p link w e none. cc;
-  place = λ p a. cc;
-  room = λ p i. absurd (subst (λ (x : LinkState). IsIn p (awaited_ids x.queue)) bare i);
-  newer = omega arith;
-  rising = omega arith;
-  no_backoff = λ p i. absurd i;
-  no_connect = λ p i. absurd i;
-  no_creds = λ p link i. absurd i;
-  no_setup = λ p link u i. absurd i;
-  no_resubscribe = λ p link i. absurd i;
-  unpermitted = λ p link w e goes. cc;
-  no_permit = λ p link i. absurd i;
-  no_place = λ p i. absurd i;
-  seatless = λ p a e. cc a;
-  no_room = λ p i. absurd i;
-}
-
 -- all its permits are free
 pub opening_permits : (limit : Option ℕ) → TiedPermits (λ n. blank_story) 0 [] first_link limit (unwrap_or limit 0) []
 opening_permits limit = record {
@@ -187,10 +146,6 @@ opening_permits limit = record {
   none = λ p w out. cc;
   let_in = λ p e. elim e [ inl a ↦ cc | inr a ↦ cc ];
 }
-
--- its names
-pub opening_names : TiedNames [] []
-opening_names = record { few = omega arith; named = λ p r e. cc; kept = λ n p e. cc; rising = λ p q r s less e k. cc }
 
 -- its tries
 pub opening_tries : (l : Ledger) → l.starts ≡ [] → TiedTries l (λ n. blank_story) [] first_link []

@@ -1,5 +1,5 @@
 -- Which requests are ahead of new credentials, from the end of a turn to the moment of the next at which these are to be told.
-use Rattle.std.proofs.Common.{Bool, ◌≡◌, ◌⊎◌, inl, inr, ℕ, zero, suc, ◌+◌, ◌-◌, ◌<◌, ◌≤◌, ◌==◌, true, false, ◌&&◌, ◌||◌, not, List, [], ◌∷◌, ◌++◌, length, Option, Some, None, is_none, is_some, slice_get, if◌then◌else◌, refl, sym, ap, ◌∙◌, subst, append_assoc, arith}
+use Rattle.std.proofs.Common.{Bool, ◌≡◌, inl, inr, ℕ, ◌+◌, ◌-◌, ◌<◌, ◌≤◌, ◌==◌, true, false, ◌&&◌, ◌||◌, not, List, [], ◌∷◌, ◌++◌, length, Option, Some, None, is_none, is_some, slice_get, if◌then◌else◌, refl, sym, ap, ◌∙◌, subst, append_assoc, arith}
 use Rattle.containers.proofs.Choices.{chosen, left_if, not_both, not_le_test}
 use Rattle.std.proofs.Math.Bool.{and-false}
 use Rattle.containers.proofs.Places.{get_within}
@@ -37,27 +37,26 @@ use Rattle.legal_laws.proofs.Internal.Since.{IsDue, SinceBegun, due_each}
 use Rattle.legal_laws.proofs.Submissions.InLine.{is_to_start}
 use Rattle.legal_laws.proofs.Submissions.Places.{Knows}
 use Rattle.session_laws.proofs.Internal.Ahead.{ready_asked}
-use Rattle.session_laws.proofs.Internal.Renewals.{due_is, some_wait}
-use Rattle.session_laws.proofs.Links.Server.{NoneRenewed, TiedRenewal}
+use Rattle.conn_laws.proofs.Internal.Renewals.{due_is, some_wait}
+use Rattle.conn_laws.proofs.Links.Server.{NoneRenewed, TiedRenewal}
 use Rattle.session_laws.proofs.Requests.Moved.{ComesOrdered}
 use Rattle.session_laws.proofs.Requests.Settle.{Holds, seen, trace_of_acts}
 use Rattle.session_laws.proofs.Ties.Entered.{all_stand_behind, book-append}
 use Rattle.session_laws.proofs.Ties.Ahead.{queue_within}
 use Rattle.session_laws.proofs.Ties.Moves.{IsLater}
-use Rattle.session_laws.proofs.Ties.Names.{get_more, name_placed, name_of_some}
-use Rattle.session_laws.proofs.Ties.Numbers.{IsIn}
+use Rattle.conn_laws.proofs.Ties.Names.{name_placed, name_of_some}
+use Rattle.conn_laws.proofs.Ties.Numbers.{IsIn}
 use Rattle.session_laws.proofs.Ties.Ordered.{AreOrdered, IsOrdered, StaysOrdered, kept_unplaced, ordered_on, queue_placed, since_same, start_later}
-use Rattle.session_laws.proofs.Ties.Places.{known, places_stay, since_begun, taken_still, unnumbered}
-use Rattle.session_laws.proofs.Ties.Seats.{AllKeep, KeepsSeats, LeavesSeats, effect_keeps, repeated_keeps}
+use Rattle.conn_laws.proofs.Ties.Places.{taken_still}
+use Rattle.session_laws.proofs.Ties.Places.{known, places_stay, since_begun, unnumbered}
+use Rattle.conn_laws.proofs.Ties.Seats.{AllKeep, KeepsSeats, LeavesSeats, repeated_keeps}
+use Rattle.session_laws.proofs.Ties.Seats.{effect_keeps}
 use Rattle.session_laws.proofs.Ties.States.{Between}
-use Rattle.session_laws.proofs.Ties.Tied.{Inner, Tied, TiedLife, has_ended, inner, link_in, queue_ids}
+use Rattle.conn_laws.proofs.Ties.Tied.{TiedLife, has_ended, link_in, queue_ids}
+use Rattle.session_laws.proofs.Ties.Tied.{Inner, Tied, inner}
 use Rattle.session_laws.proofs.Ties.Credentials.{effect_holds, repeated_holds}
 use Rattle.session_laws.proofs.Turn.Announce.{turn_of}
-
--- the number that an entry gives, and a place
-abbrev number_or_none : Option Pending → ℕ
-number_or_none None = 0
-number_or_none (Some p) = p.number
+use Rattle.conn_laws.proofs.Turn.Ordered.{Grows, asked, entry_stays, entry_was, refused, same}
 
 abbrev place_or : Option ℕ → ℕ
 place_or None = 0
@@ -65,12 +64,6 @@ place_or (Some n) = n
 
 -- the entries of submissions
 --
--- a turn leaves them, or has one more: that of a submission that was answered at once, or of the next request
-data Grows (count : ℕ) (was now : List (Option Pending)) : Type 0 where
-  same : now ≡ was → Grows count was now
-  refused : now ≡ was ++ None ∷ [] → Grows count was now
-  asked : now ≡ was ++ Some (record { number = count }) ∷ [] → Grows count was now
-
 -- and the turn is counted
 record Comes (count : ℕ) (c d : Core) : Type 0 where
   table : Grows count c.table d.table
@@ -136,31 +129,6 @@ effect_comes c (event.ReadFault l kind) = record { table = same refl; turns = re
 effect_comes c (event.WriteFault l kind) = record { table = same refl; turns = refl }
 effect_comes c event.DropStream = record { table = same refl; turns = refl }
 effect_comes c event.Shutdown = record { table = same refl; turns = refl }
-
--- what stands at a place of the front
-get_front : {X : Type 0} (xs ys : List X) (n : ℕ) (x : X) → slice_get xs n ≡ Some x → slice_get (xs ++ ys) n ≡ Some x
-get_front [] ys zero x e = cc e
-get_front [] ys (suc n) x e = cc e
-get_front (y ∷ xs) ys zero x e = e
-get_front (y ∷ xs) ys (suc n) x e = get_front xs ys n x e
-
--- an entry stays
-entry_stays : (count : ℕ) (was now : List (Option Pending)) (n : ℕ) (x : Option Pending) → Grows count was now → slice_get was n ≡ Some x → slice_get now n ≡ Some x
-entry_stays count was now n x (same e) at = ap (λ (ts : List (Option Pending)). slice_get ts n) e ∙ at
-entry_stays count was now n x (refused e) at = ap (λ (ts : List (Option Pending)). slice_get ts n) e ∙ get_front was (None ∷ []) n x at
-entry_stays count was now n x (asked e) at = ap (λ (ts : List (Option Pending)). slice_get ts n) e ∙ get_front was (Some (record { number = count }) ∷ []) n x at
-
--- and each is an old one, or the last, of the next request
-entry_was : (count : ℕ) (was now : List (Option Pending)) (n k : ℕ) → Grows count was now → slice_get now n ≡ Some (Some (record { number = k })) → (slice_get was n ≡ Some (Some (record { number = k }))) ⊎ ((n ≡ length was) × (k ≡ count))
-entry_was count was now n k (same e) at = inl (sym (ap (λ (ts : List (Option Pending)). slice_get ts n) e) ∙ at)
-entry_was count was now n k (refused e) at = elim (get_more was None n (Some (record { number = k })) (sym (ap (λ (ts : List (Option Pending)). slice_get ts n) e) ∙ at)) [
-  | inl old ↦ inl old
-  | inr new ↦ absurd (let no : ◌≡◌ {A = Option Pending} None (Some (record { number = k })) = new.1 in cc no)
-]
-entry_was count was now n k (asked e) at = elim (get_more was (Some (record { number = count })) n (Some (record { number = k })) (sym (ap (λ (ts : List (Option Pending)). slice_get ts n) e) ∙ at)) [
-  | inl old ↦ inl old
-  | inr new ↦ inr (new.0, sym (ap number_or_none new.1))
-]
 
 -- behind the event
 --

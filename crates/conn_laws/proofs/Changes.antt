@@ -1,0 +1,16 @@
+pub mod Counts
+pub mod Lists
+pub mod Requests
+pub mod Names
+pub mod Links
+pub mod Kept
+pub mod KeptEnds
+pub mod KeptTurns
+pub mod Gone
+pub mod Values
+pub mod Bare
+pub mod Once
+pub mod Silent
+pub mod Rest
+pub mod Ready
+pub mod Free

@@ -1,0 +1,16 @@
+pub mod Repeats
+pub mod Serving
+pub mod Subscribes
+pub mod Renewals
+pub mod Repeating
+pub mod RepeatsDue
+pub mod Own
+pub mod Replies
+pub mod Resubscribed
+pub mod Held
+pub mod Renewed
+pub mod RepeatOver
+pub mod Renews
+pub mod Ahead
+pub mod RepeatsTold
+pub mod SaysAlone

@@ -1,0 +1,17 @@
+pub mod Closing
+pub mod Answer
+pub mod Start
+pub mod Going
+pub mod Starts
+pub mod Place
+pub mod Settle
+pub mod LetIn
+pub mod Cancel
+pub mod Late
+pub mod Further
+pub mod Rounded
+pub mod Rounds
+pub mod Passes
+pub mod Moved
+pub mod Waits
+pub mod Settled

@@ -1,0 +1,5 @@
+pub mod Announce
+pub mod Heard
+pub mod Opening
+pub mod Ordered
+pub mod Adds
