@@ -8,9 +8,9 @@ use Rattle.driver_model.specs.declared.config.Config.{Config}
 use Rattle.driver_model.specs.declared.event.Event.{Event}
 use Rattle.driver_model.specs.declared.kind.SessionKind.{SessionKind}
 use Rattle.driver_model.specs.Request.{has_no_form}
-use Rattle.shared_session.specs.Turn.{is_bad}
-use Rattle.shared_session.proofs.Stays.{state_kind}
-use Rattle.shared_session.specs.Replay.{state_after}
+use Rattle.single_session.specs.Turn.{is_bad}
+use Rattle.single_session.proofs.Stays.{state_kind}
+use Rattle.single_session.specs.Replay.{state_after}
 use Rattle.shared_session.specs.declared.errors.StepError.{StepError}
 use Rattle.shared_session.specs.declared.errors.StepError.TheVariants.{BadEvent, Spent, NoMemory}
 use Rattle.session_callers.specs.Calls.{Known, Turned, Added, Refused}

@@ -9,8 +9,8 @@ use Rattle.driver_model.specs.declared.kind.SessionKind.{SessionKind}
 use Rattle.driver_model.specs.declared.event.Event.{Event}
 use Rattle.driver_model.specs.declared.event.Submission.{Submission}
 use Rattle.driver_model.specs.Request.{has_no_form}
-use Rattle.shared_session.specs.Turn.{actions_of}
-use Rattle.shared_session.specs.Replay.{state_after, is_spent_after}
+use Rattle.single_session.specs.Turn.{actions_of}
+use Rattle.single_session.specs.Replay.{state_after, is_spent_after}
 use Rattle.shared_session.specs.declared.errors.StepError.{StepError}
 use Rattle.shared_session.specs.declared.errors.StepError.TheVariants.{BadEvent, Spent, NoMemory}
 use Rattle.shared_session.specs.declared.session.Failure.TheVariants as failure

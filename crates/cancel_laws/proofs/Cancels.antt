@@ -20,12 +20,12 @@ use Rattle.mux_conn.specs.declared.request.Pending.{Pending}
 use Rattle.mux_conn.specs.Requests.{if_there, is_open, is_waiting, is_admitted, is_open_at}
 use Rattle.mux_conn.specs.Connection.{Work}
 use Rattle.mux_conn.specs.Effects.{cancelled_in, left}
-use Rattle.shared_session.specs.declared.core_state.Core.{Core}
-use Rattle.shared_session.specs.Turn.{Turning, work_of, with_work, heard, left_by, counted, moved_on, numbered, exceeds_offer, is_bad, shown_each, actions_of, next_turn, effect}
-use Rattle.shared_session.specs.Replay.{opening_core, opening_actions, run_on, state_after, turns_on, trace_of, told_each, outcomes_in, outcome_at, is_bad_after}
-use Rattle.shared_session.proofs.Replays.{turns_after}
-use Rattle.shared_session.proofs.Plain.{plain_effects, plain_turn}
-use Rattle.shared_session.proofs.Stays.{turn_plain}
+use Rattle.single_session.specs.declared.core_state.Core.{Core}
+use Rattle.single_session.specs.Turn.{Turning, work_of, with_work, heard, left_by, counted, moved_on, numbered, exceeds_offer, is_bad, shown_each, actions_of, next_turn, effect}
+use Rattle.single_session.specs.Replay.{opening_core, opening_actions, run_on, state_after, turns_on, trace_of, told_each, outcomes_in, outcome_at, is_bad_after}
+use Rattle.single_session.proofs.Replays.{turns_after}
+use Rattle.single_session.proofs.Plain.{plain_effects, plain_turn}
+use Rattle.single_session.proofs.Stays.{turn_plain}
 use Rattle.cancel_laws.specs.ButFor.{all_unnumbered, but_for, hushed_life}
 use Rattle.cancel_laws.specs.Cancels.{cancel_of, HasStarted, GoesOn}
 use Rattle.cancel_laws.specs.Laws.{HasNoLimit}

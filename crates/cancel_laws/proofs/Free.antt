@@ -24,13 +24,13 @@ use Rattle.mux_conn.specs.declared.request.Waiting.{Waiting}
 use Rattle.mux_conn.specs.Connection.{Work, has_no_permit, admits_none_at, admits_none, is_due, is_resting, is_used_up, work_with, is_outstanding}
 use Rattle.mux_conn.specs.Requests.{if_there, is_waiting, is_waiting_at, waiting_of, asked}
 use Rattle.mux_conn.specs.Passes.{started, moved_up_all, admitted_at, admitted, still_waiting, still_admitted, admitted_each, admitted_all, passed, moved_all}
-use Rattle.shared_session.specs.declared.core_state.Core.{Core}
-use Rattle.shared_session.specs.declared.generations.Comeback.{Comeback}
-use Rattle.shared_session.specs.declared.generations.Comeback.TheVariants as comeback
-use Rattle.shared_session.specs.declared.generations.Generations.{Generations}
-use Rattle.shared_session.specs.Generations.{came_back, comeback_in, has_cause, has_ended, heeding, is_caused, rests, wakes_in, took_requests, is_due as is_due_of}
-use Rattle.shared_session.specs.Turn.{Turning, pending, work_of, with_work, heard, refused_with, counted, moved_on, numbered, flushed_on, flushed_apart, ended_apart, ended_as, own_part, next_turn}
-use Rattle.shared_session.specs.Replay.{state_after}
+use Rattle.single_session.specs.declared.core_state.Core.{Core}
+use Rattle.single_session.specs.declared.generations.Comeback.{Comeback}
+use Rattle.single_session.specs.declared.generations.Comeback.TheVariants as comeback
+use Rattle.single_session.specs.declared.generations.Generations.{Generations}
+use Rattle.single_session.specs.Generations.{came_back, comeback_in, has_cause, has_ended, heeding, is_caused, rests, wakes_in, took_requests, is_due as is_due_of}
+use Rattle.single_session.specs.Turn.{Turning, pending, work_of, with_work, heard, refused_with, counted, moved_on, numbered, flushed_on, flushed_apart, ended_apart, ended_as, own_part, next_turn}
+use Rattle.single_session.specs.Replay.{state_after}
 use Rattle.cancel_laws.specs.Cancels.{handed_in_at, IsFree, HasStarted}
 use Rattle.conn_laws.proofs.Changes.Rest.{IsThrough, IsStartedOn, IsIdle, started_stays, none_moved_up, said_stays}
 use Rattle.cancel_laws.proofs.Ready.{IsNamed}

@@ -16,11 +16,11 @@ use Rattle.mux_conn.specs.declared.life.Life.{Life}
 use Rattle.mux_conn.specs.declared.request.Pending.{Pending}
 use Rattle.mux_conn.specs.declared.request.Request.{Request}
 use Rattle.mux_conn.specs.Passes.{passed}
-use Rattle.shared_session.specs.declared.core_state.Core.{Core}
-use Rattle.shared_session.specs.Turn.{Turning, work_of, heard, counted, submitted, left_by, late_by, fired_by, requested, effect, next_turn}
+use Rattle.single_session.specs.declared.core_state.Core.{Core}
+use Rattle.single_session.specs.Turn.{Turning, work_of, heard, counted, submitted, left_by, late_by, fired_by, requested, effect, next_turn}
 use Rattle.driver_model.specs.Kind.{has_timeouts}
 use Rattle.std.specs.Prelude.{is_some}
-use Rattle.shared_session.proofs.Plain.{plain_turn}
+use Rattle.single_session.proofs.Plain.{plain_turn}
 use Rattle.conn_laws.proofs.Changes.Kept.{IsKept, At, applied_kept, passed_kept}
 use Rattle.conn_laws.proofs.Changes.KeptEnds.{flushed_kept}
 use Rattle.conn_laws.proofs.Changes.KeptTurns.{CanAsk, left_kept, timed_out_kept}

@@ -8,7 +8,7 @@ use Rattle.driver_model.specs.declared.action.Cause.TheVariants as cause
 use Rattle.driver_model.specs.declared.event.EventKind.{EventKind}
 use Rattle.driver_model.specs.declared.event.EventKind.TheVariants as event
 use Rattle.driver_model.specs.declared.outcome.Outcome.{Outcome}
-use Rattle.shared_session.specs.Replay.{with_room, told, told_each, if_placed, outcome_at}
+use Rattle.single_session.specs.Replay.{with_room, told, told_each, if_placed, outcome_at}
 use Rattle.cancel_laws.specs.ButFor.{unnumbered, all_unnumbered, shown_of, but_for}
 use Rattle.conn_laws.proofs.Changes.Lists.{set_twice, set_apart, set_push_same}
 

@@ -17,11 +17,11 @@ use Rattle.mux_conn.specs.declared.request.Pending.{Pending}
 use Rattle.mux_conn.specs.declared.request.Progress.TheVariants as progress
 use Rattle.mux_conn.specs.declared.request.Request.{Request}
 use Rattle.mux_conn.specs.Passes.{passed}
-use Rattle.shared_session.specs.declared.core_state.Core.{Core}
-use Rattle.shared_session.specs.Turn.{Turning, work_of, heard, left_by, late_by, fired_by, requested, effect, counted, moved_on, next_turn}
-use Rattle.shared_session.specs.Replay.{opening_core, run_on, state_after, single_core, as_managed}
-use Rattle.shared_session.proofs.Plain.{plain_after, plain_opening, plain_turn}
-use Rattle.shared_session.proofs.Stays.{turn_plain}
+use Rattle.single_session.specs.declared.core_state.Core.{Core}
+use Rattle.single_session.specs.Turn.{Turning, work_of, heard, left_by, late_by, fired_by, requested, effect, counted, moved_on, next_turn}
+use Rattle.single_session.specs.Replay.{opening_core, run_on, state_after, single_core, as_managed}
+use Rattle.single_session.proofs.Plain.{plain_after, plain_opening, plain_turn}
+use Rattle.single_session.proofs.Stays.{turn_plain}
 use Rattle.conn_laws.proofs.Changes.Requests.{names, names_push, names_count}
 use Rattle.conn_laws.proofs.Changes.Names.{AreNamed, named_refused, named_asked}
 use Rattle.conn_laws.proofs.Changes.Kept.{Unlimited, passed_kept, IsApart}

@@ -8,14 +8,14 @@ use Rattle.driver_model.specs.declared.event.EventKind.{EventKind}
 use Rattle.driver_model.specs.declared.outcome.Outcome.{Outcome}
 use Rattle.mux_conn.specs.declared.act.LinkAct.{LinkAct}
 use Rattle.mux_conn.specs.declared.act.LinkAct.TheVariants as act
-use Rattle.shared_session.specs.declared.core_state.Core.{Core}
-use Rattle.shared_session.specs.declared.generations.Comeback.{Comeback}
-use Rattle.shared_session.specs.declared.generations.Comeback.TheVariants as comeback
-use Rattle.shared_session.specs.declared.generations.Generations.{Generations}
-use Rattle.shared_session.specs.Generations.{comeback_shown_in, connect_timed}
-use Rattle.shared_session.specs.Turn.{Turning, work_of, counted, effect, source_of, timer_of, shown, shown_each, shown_behind, comeback_by, last_acts, actions_of, next_turn}
-use Rattle.shared_session.proofs.Plain.{plain_effects}
-use Rattle.shared_session.specs.Replay.{run_on, turns_on}
+use Rattle.single_session.specs.declared.core_state.Core.{Core}
+use Rattle.single_session.specs.declared.generations.Comeback.{Comeback}
+use Rattle.single_session.specs.declared.generations.Comeback.TheVariants as comeback
+use Rattle.single_session.specs.declared.generations.Generations.{Generations}
+use Rattle.single_session.specs.Generations.{comeback_shown_in, connect_timed}
+use Rattle.single_session.specs.Turn.{Turning, work_of, counted, effect, source_of, timer_of, shown, shown_each, shown_behind, comeback_by, last_acts, actions_of, next_turn}
+use Rattle.single_session.proofs.Plain.{plain_effects}
+use Rattle.single_session.specs.Replay.{run_on, turns_on}
 use Rattle.cancel_laws.specs.ButFor.{unnumbered, all_unnumbered, shown_of, but_for}
 use Rattle.containers.proofs.Choices.{chosen}
 use Rattle.conn_laws.proofs.Changes.Kept.{At}

@@ -26,10 +26,10 @@ use Rattle.mux_conn.specs.Connection.{acted, opened_on, has_no_permit}
 use Rattle.mux_conn.specs.declared.act.LinkAct.TheVariants as act
 use Rattle.mux_conn.specs.Effects.{new_link, creation_told, all_fresh, comes_to_want, sets_up}
 use Rattle.mux_conn.specs.Passes.{passed}
-use Rattle.shared_session.specs.declared.core_state.Core.{Core}
-use Rattle.shared_session.specs.Turn.{Turning, work_of, with_work, shut_by, counted, ended_apart, moved_on, numbered, whole_effect, next_turn}
-use Rattle.shared_session.specs.Replay.{as_managed, opening_core, single_core, IsSound, state_after}
-use Rattle.shared_session.proofs.Plain.{plain_opening, plain_turn}
+use Rattle.single_session.specs.declared.core_state.Core.{Core}
+use Rattle.single_session.specs.Turn.{Turning, work_of, with_work, shut_by, counted, ended_apart, moved_on, numbered, whole_effect, next_turn}
+use Rattle.single_session.specs.Replay.{as_managed, opening_core, single_core, IsSound, state_after}
+use Rattle.single_session.proofs.Plain.{plain_opening, plain_turn}
 use Rattle.cancel_laws.specs.Cancels.{connected_at, handed_in_after_connect, SaysNothing, IsFree, HasStarted}
 use Rattle.cancel_laws.proofs.Free.{free_started}
 

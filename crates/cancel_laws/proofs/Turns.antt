@@ -20,10 +20,10 @@ use Rattle.mux_conn.specs.declared.connection.MultiplexedConnection.{Multiplexed
 use Rattle.mux_conn.specs.declared.request.Pending.{Pending}
 use Rattle.mux_conn.specs.Passes.{passed}
 use Rattle.mux_conn.specs.Turn.{flushed}
-use Rattle.shared_session.specs.declared.core_state.Core.{Core}
-use Rattle.shared_session.specs.Turn.{Turning, work_of, with_work, shut_by, heard, refused_with, pending, asked_for, submitted, left_by, late_by, fired_by, requested, effect, counted, moved_on, whole_effect, timer_of, timers_of, source_of, sources_of, numbered, next_turn}
-use Rattle.shared_session.proofs.Plain.{plain_turn}
-use Rattle.shared_session.proofs.Stays.{turn_plain}
+use Rattle.single_session.specs.declared.core_state.Core.{Core}
+use Rattle.single_session.specs.Turn.{Turning, work_of, with_work, shut_by, heard, refused_with, pending, asked_for, submitted, left_by, late_by, fired_by, requested, effect, counted, moved_on, whole_effect, timer_of, timers_of, source_of, sources_of, numbered, next_turn}
+use Rattle.single_session.proofs.Plain.{plain_turn}
+use Rattle.single_session.proofs.Stays.{turn_plain}
 use Rattle.mux_conn.specs.declared.request.Progress.TheVariants as progress
 use Rattle.conn_laws.proofs.Changes.Requests.{progress_count}
 use Rattle.conn_laws.proofs.Changes.Kept.{other_act, At, Unlimited, unlimited_kept, passed_kept}

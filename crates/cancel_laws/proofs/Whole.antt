@@ -7,12 +7,12 @@ use Rattle.mux_conn.specs.declared.request.Request.{Request}
 use Rattle.mux_conn.specs.Connection.{Work, work_with}
 use Rattle.mux_conn.specs.Effects.{dialled}
 use Rattle.mux_conn.specs.declared.connection.MultiplexedConnection.{MultiplexedConnection}
-use Rattle.shared_session.specs.declared.core_state.Core.{Core}
-use Rattle.shared_session.specs.declared.generations.Comeback.{Comeback}
-use Rattle.shared_session.specs.declared.generations.Comeback.TheVariants as comeback
-use Rattle.shared_session.specs.Generations.{came_back, has_ended, heeding, begun, is_last_of, repeat_in}
-use Rattle.shared_session.specs.Turn.{Turning, counted, effect, ended_apart, flushed_apart, flushed_on, last_acts, next_turn, numbered, own_part, passed_by, work_of}
-use Rattle.shared_session.proofs.Comebacks.{came_kept}
+use Rattle.single_session.specs.declared.core_state.Core.{Core}
+use Rattle.single_session.specs.declared.generations.Comeback.{Comeback}
+use Rattle.single_session.specs.declared.generations.Comeback.TheVariants as comeback
+use Rattle.single_session.specs.Generations.{came_back, has_ended, heeding, begun, is_last_of, repeat_in}
+use Rattle.single_session.specs.Turn.{Turning, counted, effect, ended_apart, flushed_apart, flushed_on, last_acts, next_turn, numbered, own_part, passed_by, work_of}
+use Rattle.single_session.proofs.Comebacks.{came_kept}
 use Rattle.conn_laws.proofs.Changes.Kept.{At, passed_kept}
 use Rattle.conn_laws.proofs.Changes.KeptEnds.{flushed_kept}
 use Rattle.conn_laws.proofs.Changes.Bare.{other_acts}

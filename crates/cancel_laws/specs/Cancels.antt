@@ -18,8 +18,8 @@ use Rattle.mux_conn.specs.Connection.{has_no_permit, is_outstanding}
 use Rattle.mux_conn.specs.declared.request.Pending.{Pending}
 use Rattle.mux_conn.specs.declared.request.Progress.TheVariants as progress
 use Rattle.mux_conn.specs.declared.request.Request.{Request}
-use Rattle.shared_session.specs.declared.core_state.Core.{Core}
-use Rattle.shared_session.specs.Replay.{first_link, state_after, trace_of}
+use Rattle.single_session.specs.declared.core_state.Core.{Core}
+use Rattle.single_session.specs.Replay.{first_link, state_after, trace_of}
 use Rattle.cancel_laws.specs.ButFor.{but_for, all_unnumbered}
 
 -- the caller of submission n drops its request

@@ -8,7 +8,7 @@ use Rattle.driver_model.specs.Config.{hearing_of, is_lazy, manager_of, permits}
 use Rattle.driver_model.specs.Hearing.{hears_messages}
 use Rattle.driver_model.specs.Request.{lacks_resp3}
 use Rattle.mux_conn.specs.declared.life.Life.{Life}
-use Rattle.shared_session.specs.Replay.{IsSound, state_after, trace_of, outcomes_in, outcome_at, is_bad_after}
+use Rattle.single_session.specs.Replay.{IsSound, state_after, trace_of, outcomes_in, outcome_at, is_bad_after}
 use Rattle.cancel_laws.specs.ButFor.{hushed_life}
 use Rattle.cancel_laws.specs.Cancels.{cancel_of, handed_in_at, handed_in_after_connect, SaysNothing, IsFree, HasStarted, GoesOn}
 

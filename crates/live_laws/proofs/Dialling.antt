@@ -13,8 +13,8 @@ use Rattle.outside.specs.declared.world.Dialed.TheVariants as dialed
 use Rattle.outside.specs.declared.world.LinkGot.TheVariants as got
 use Rattle.outside.specs.declared.world.LinkPut.TheVariants as put
 use Rattle.legal_trace.proofs.Plain.{not_none}
-use Rattle.shared_session.specs.declared.core_state.Core.{Core}
-use Rattle.shared_session.specs.Replay.{state_after, turns_on}
+use Rattle.single_session.specs.declared.core_state.Core.{Core}
+use Rattle.single_session.specs.Replay.{state_after, turns_on}
 use Rattle.live_run.specs.Agenda.{agenda_of, answered, begun, behind, noted, noted_each, removed, stands, undialled, without}
 use Rattle.live_run.specs.Deeds.{AllMay, AreShown, Deed, IsFirstOf, May, MayCall, did, fired, claim, actions_in, actions_of, after, answer_of, asked, calls_in, calls_of, events_of}
 use Rattle.live_run.proofs.Shown.{turns_gained}

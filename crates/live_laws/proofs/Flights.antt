@@ -7,7 +7,7 @@ use Rattle.legal_laws.specs.Links.{IsPrefix}
 use Rattle.legal_trace.specs.Ledger.{joined}
 use Rattle.outside.specs.declared.world.Call.{Call}
 use Rattle.session_callers.specs.Rule.{Each}
-use Rattle.shared_session.specs.Replay.{AreGood, AreUnspent, IsSound}
+use Rattle.single_session.specs.Replay.{AreGood, AreUnspent, IsSound}
 use Rattle.live_run.specs.Deeds.{IsGood, IsUnspent}
 use Rattle.live_lines.specs.Flights.{IsFlight, IsOfLine}
 use Rattle.live_lines.specs.declared.flying.Flight.{Flight}

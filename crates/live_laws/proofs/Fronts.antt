@@ -8,7 +8,7 @@ use Rattle.legal_laws.specs.Links.{IsPrefix}
 use Rattle.legal_trace.specs.Ledger.{Ledger, joined, stream}
 use Rattle.session_laws.proofs.Turn.Legality.{replay_legal}
 use Rattle.shared_session.specs.History.{History}
-use Rattle.shared_session.specs.Replay.{IsSound}
+use Rattle.single_session.specs.Replay.{IsSound}
 use Rattle.live_run.specs.declared.ending.Ending.{Ending}
 use Rattle.live_run.specs.Deeds.{IsGood, IsUnspent, traced}
 use Rattle.live_run.specs.Driven.{Driven}

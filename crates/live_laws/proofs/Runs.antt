@@ -12,9 +12,9 @@ use Rattle.legal_trace.proofs.Books.{book_append, stand_behind, stand_front}
 use Rattle.legal_trace.proofs.Plain.{same_some}
 use Rattle.session_laws.proofs.Turn.Legality.{replay_legal}
 use Rattle.shared_session.specs.History.{History}
-use Rattle.shared_session.specs.Replay.{IsSound, state_after, trace_of}
-use Rattle.shared_session.specs.Turn.{actions_of}
-use Rattle.shared_session.proofs.Replays.{trace_of-more}
+use Rattle.single_session.specs.Replay.{IsSound, state_after, trace_of}
+use Rattle.single_session.specs.Turn.{actions_of}
+use Rattle.single_session.proofs.Replays.{trace_of-more}
 use Rattle.live_run.specs.declared.ending.Ending.{Ending}
 use Rattle.live_run.specs.Agenda.{agenda_of}
 use Rattle.live_run.specs.Closing.{close_calls}

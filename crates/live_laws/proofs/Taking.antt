@@ -7,10 +7,10 @@ use Rattle.driver_model.specs.declared.action.Cause.TheVariants as cause
 use Rattle.driver_model.specs.declared.config.Config.{Config}
 use Rattle.driver_model.specs.declared.event.Event.{Event}
 use Rattle.driver_model.specs.declared.event.EventKind.{EventKind}
-use Rattle.shared_session.specs.declared.core_state.Core.{Core}
-use Rattle.shared_session.specs.Turn.{actions_of, effects_of, next_turn}
-use Rattle.shared_session.proofs.Effects.{EachIs, each_begun}
-use Rattle.shared_session.specs.Replay.{begun_as, connect_asked, opening_actions, opening_core, trace_of, turns_on}
+use Rattle.single_session.specs.declared.core_state.Core.{Core}
+use Rattle.single_session.specs.Turn.{actions_of, effects_of, next_turn}
+use Rattle.single_session.proofs.Effects.{EachIs, each_begun}
+use Rattle.single_session.specs.Replay.{begun_as, connect_asked, opening_actions, opening_core, trace_of, turns_on}
 use Rattle.legal_trace.specs.Ledger.{Ledger, tells}
 use Rattle.legal_trace.specs.Book.{Book, push_line, blank_book, book, entered, entered_each}
 use Rattle.legal_trace.proofs.Books.{entered_append}

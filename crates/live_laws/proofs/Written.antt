@@ -11,10 +11,10 @@ use Rattle.outside.specs.declared.world.Call.TheVariants as call
 use Rattle.outside.specs.declared.world.Dialed.TheVariants as dialed
 use Rattle.outside.specs.declared.world.LinkGot.TheVariants as got
 use Rattle.outside.specs.declared.world.LinkPut.TheVariants as put
-use Rattle.shared_session.specs.declared.core_state.Core.{Core}
-use Rattle.shared_session.specs.Turn.{effects_of}
-use Rattle.shared_session.proofs.Effects.{EachIs}
-use Rattle.shared_session.specs.Replay.{turns_on}
+use Rattle.single_session.specs.declared.core_state.Core.{Core}
+use Rattle.single_session.specs.Turn.{effects_of}
+use Rattle.single_session.proofs.Effects.{EachIs}
+use Rattle.single_session.specs.Replay.{turns_on}
 use Rattle.legal_trace.specs.Book.{Book, entered, entered_each}
 use Rattle.legal_trace.specs.Legal.{AllStand}
 use Rattle.legal_trace.proofs.Plain.{not_none}

@@ -10,7 +10,7 @@ use Rattle.live_lines.specs.declared.flying.Flight.{Flight}
 use Rattle.live_lines.specs.declared.planning.Plan.{Plan}
 use Rattle.live_run.specs.Deeds.{IsGood, IsUnspent}
 use Rattle.outside.specs.declared.world.Call.{Call}
-use Rattle.shared_session.specs.Replay.{IsSound}
+use Rattle.single_session.specs.Replay.{IsSound}
 
 -- what a link took by the writes of the run, with what it is still offered behind it, is the front of the messages that were
 -- started on it

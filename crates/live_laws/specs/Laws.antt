@@ -7,7 +7,7 @@ use Rattle.legal_trace.specs.Book.{book}
 use Rattle.legal_trace.specs.Ledger.{Ledger, joined}
 use Rattle.legal_laws.specs.Links.{IsPrefix}
 use Rattle.shared_session.specs.History.{History}
-use Rattle.shared_session.specs.Replay.{IsSound}
+use Rattle.single_session.specs.Replay.{IsSound}
 use Rattle.live_run.specs.declared.ending.Ending.{Ending}
 use Rattle.live_run.specs.declared.ending.Ending.TheVariants.{Full}
 use Rattle.live_run.specs.Closing.{close_calls, times}

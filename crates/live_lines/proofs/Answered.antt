@@ -21,7 +21,7 @@ use Rattle.outside.specs.declared.world.LinkPut.TheVariants as put
 use Rattle.session_callers.specs.Rule.{Each, submissions_in, submits}
 use Rattle.session_laws.proofs.Turn.Legality.{replay_legal, replay_outcomes}
 use Rattle.session_laws.specs.Outcomes.{last_outcome}
-use Rattle.shared_session.specs.Replay.{AreGood, AreUnspent, IsSound}
+use Rattle.single_session.specs.Replay.{AreGood, AreUnspent, IsSound}
 use Rattle.live_lines.specs.Flights.{IsFlight, IsOfLine}
 use Rattle.live_lines.specs.Outcomes.{HasOutcome}
 use Rattle.live_lines.specs.declared.flying.Flight.{Flight}

@@ -10,7 +10,7 @@ use Rattle.outside.specs.World.{Adds}
 use Rattle.outside.specs.declared.world.Call.{Call}
 use Rattle.outside.specs.declared.world.Call.TheVariants as call
 use Rattle.shared_session.specs.History.{History}
-use Rattle.shared_session.specs.Replay.{IsSound, trace_of}
+use Rattle.single_session.specs.Replay.{IsSound, trace_of}
 use Rattle.shared_session.specs.declared.errors.StepError.{StepError}
 use Rattle.live_lines.specs.Flights.{AreSubmitted, BrokeOff, IsFlight}
 use Rattle.live_lines.specs.declared.flying.Flight.{Flight}

@@ -8,7 +8,7 @@ use Rattle.legal_laws.proofs.Counts.Few.{none_runs_out}
 use Rattle.session_callers.specs.Rule.{SpendsNext}
 use Rattle.session_laws.proofs.Managers.RunOut.{spent_run_out}
 use Rattle.session_laws.proofs.Turn.Legality.{spent_stands}
-use Rattle.shared_session.specs.Replay.{AreGood, AreUnspent, IsSound, is_bad_after, is_spent_after, trace_of}
+use Rattle.single_session.specs.Replay.{AreGood, AreUnspent, IsSound, is_bad_after, is_spent_after, trace_of}
 
 -- no step is spent behind fewer
 few_unspent : (config : Config) (word : ℕ) (events : List Event) (e : Event) → IsSound config → AreGood config word events → AreUnspent config word events → is_bad_after config word events e ≡ false → is_spent_after config word events e ≡ true

@@ -11,11 +11,11 @@ use Rattle.driver_model.specs.declared.action.Action.{Action}
 use Rattle.driver_model.specs.declared.config.Config.{Config}
 use Rattle.driver_model.specs.declared.kind.SessionKind.{SessionKind}
 use Rattle.driver_model.specs.declared.event.Event.{Event}
-use Rattle.shared_session.specs.declared.core_state.Core.{Core}
-use Rattle.shared_session.specs.Turn.{is_bad, next_turn, actions_of}
-use Rattle.shared_session.specs.Replay.{opening_core, opening_actions, state_after, is_spent_after, trace_of, turns_on, AreGood, AreGoodOn, AreUnspent, AreUnspentOn}
-use Rattle.shared_session.proofs.Replays.{state_after-more, state_after-none}
-use Rattle.shared_session.proofs.Stays.{state_kind}
+use Rattle.single_session.specs.declared.core_state.Core.{Core}
+use Rattle.single_session.specs.Turn.{is_bad, next_turn, actions_of}
+use Rattle.single_session.specs.Replay.{opening_core, opening_actions, state_after, is_spent_after, trace_of, turns_on, AreGood, AreGoodOn, AreUnspent, AreUnspentOn}
+use Rattle.single_session.proofs.Replays.{state_after-more, state_after-none}
+use Rattle.single_session.proofs.Stays.{state_kind}
 use Rattle.session_callers.specs.Rule.{Each, below, same, times}
 use Rattle.caller_threads.specs.declared.job.Turn.{Turn}
 use Rattle.caller_threads.specs.Each.{EachAt}

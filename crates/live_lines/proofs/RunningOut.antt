@@ -14,7 +14,7 @@ use Rattle.outside.specs.declared.world.Call.{Call}
 use Rattle.session_callers.specs.Calls.{Known}
 use Rattle.session_callers.specs.Rule.{Each, SpendsNext}
 use Rattle.shared_session.specs.History.{History}
-use Rattle.shared_session.specs.Replay.{AreGood, AreUnspent, IsSound}
+use Rattle.single_session.specs.Replay.{AreGood, AreUnspent, IsSound}
 use Rattle.shared_session.specs.declared.errors.StepError.{StepError}
 use Rattle.shared_session.specs.declared.errors.StepError.TheVariants.{BadEvent, Spent, NoMemory}
 use Rattle.shared_session.specs.declared.session.Failure.TheVariants as failure

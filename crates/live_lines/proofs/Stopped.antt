@@ -16,11 +16,11 @@ use Rattle.caller_threads.specs.Submits.{Line, IsAllowed, AreTurnsOf, HasTried, 
 use Rattle.live_lines.specs.Flights.{IsBare, IsOfLine}
 use Rattle.live_lines.proofs.Dealt.{sum_add, sum_from, total_shares}
 use Rattle.live_lines.proofs.Orders.{line_good, occurs, same_cut}
-use Rattle.shared_session.specs.Turn.{is_bad}
-use Rattle.shared_session.specs.Replay.{AreGood, AreGoodOn, AreUnspent, AreUnspentOn, is_bad_after, is_spent_after, state_after}
-use Rattle.shared_session.specs.declared.core_state.Core.{Core}
-use Rattle.shared_session.proofs.Replays.{state_after-more, state_after-none}
-use Rattle.shared_session.proofs.Stays.{state_kind}
+use Rattle.single_session.specs.Turn.{is_bad}
+use Rattle.single_session.specs.Replay.{AreGood, AreGoodOn, AreUnspent, AreUnspentOn, is_bad_after, is_spent_after, state_after}
+use Rattle.single_session.specs.declared.core_state.Core.{Core}
+use Rattle.single_session.proofs.Replays.{state_after-more, state_after-none}
+use Rattle.single_session.proofs.Stays.{state_kind}
 
 -- a turn of some line that a script of such a session may have
 abbrev IsLineTurn : Config → ℕ → List Event → Turn → Type 0

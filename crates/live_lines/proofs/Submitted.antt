@@ -19,7 +19,7 @@ use Rattle.caller_threads.proofs.Submitting.{ascends_within, ascends_anyhow}
 use Rattle.session_callers.specs.Closes.{AreEnough, AreUndialled, IsShared, IsUndialled}
 use Rattle.shared_session.specs.History.{History}
 use Rattle.shared_session.specs.declared.errors.StepError.{StepError}
-use Rattle.shared_session.specs.Replay.{opening_actions}
+use Rattle.single_session.specs.Replay.{opening_actions}
 use Rattle.live_lines.specs.Flights.{IsBare, AreSubmitted, callers_of}
 use Rattle.live_lines.specs.declared.planning.Plan.{Plan}
 use Rattle.live_lines.proofs.Orders.{IsWell, told_well}

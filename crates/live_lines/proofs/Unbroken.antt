@@ -6,7 +6,7 @@ use Rattle.driver_model.specs.declared.config.Config.{Config}
 use Rattle.outside.specs.declared.world.Call.{Call}
 use Rattle.session_laws.proofs.Turn.Legality.{bad_of_the_book, replay_legal}
 use Rattle.shared_session.specs.History.{History}
-use Rattle.shared_session.specs.Replay.{AreGood, AreUnspent, IsSound, trace_of}
+use Rattle.single_session.specs.Replay.{AreGood, AreUnspent, IsSound, trace_of}
 use Rattle.shared_session.specs.declared.errors.StepError.{StepError}
 use Rattle.shared_session.specs.declared.errors.StepError.TheVariants.{BadEvent}
 use Rattle.live_run.specs.Agenda.{agenda_of}

@@ -22,7 +22,7 @@ use Rattle.session_callers.specs.Closes.{IsUndialled}
 use Rattle.caller_threads.specs.Lines.{share}
 use Rattle.session_callers.specs.Rule.{times, total, below, Ascends, Each, MaySpend, SpendsNext}
 use Rattle.shared_session.specs.History.{History}
-use Rattle.shared_session.specs.Replay.{AreGood, AreUnspent, IsSound, trace_of}
+use Rattle.single_session.specs.Replay.{AreGood, AreUnspent, IsSound, trace_of}
 use Rattle.shared_session.specs.declared.errors.StepError.{StepError}
 use Rattle.shared_session.specs.declared.errors.StepError.TheVariants.{BadEvent, Spent, NoMemory}
 

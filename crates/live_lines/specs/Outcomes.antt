@@ -3,7 +3,7 @@ use Rattle.std.specs.Prelude.{◌≡◌, ℕ, true, List, [], flat_map, Option, 
 use Rattle.driver_model.specs.declared.action.Action.TheVariants as action
 use Rattle.driver_model.specs.declared.outcome.Outcome.{Outcome}
 use Rattle.shared_session.specs.History.{History}
-use Rattle.shared_session.specs.Replay.{outcome_at, outcomes_in, trace_of}
+use Rattle.single_session.specs.Replay.{outcome_at, outcomes_in, trace_of}
 use Rattle.trace_text.specs.Show.{action_line}
 
 -- the line of this outcome, if there is one

@@ -7,7 +7,7 @@ ghost use Rattle.redis_error.specs.declared.config_name.ConfigName.{ConfigName};
 ghost use Rattle.session_callers.specs.Closes.{AreEnough, IsUndialled};
 ghost use Rattle.session_callers.specs.Rule.{Each};
 ghost use Rattle.live_run.specs.Claims.{HasClaimed};
-ghost use Rattle.shared_session.specs.Replay.{IsSound, trace_of};
+ghost use Rattle.single_session.specs.Replay.{IsSound, trace_of};
 ghost use Rattle.live_lines.specs.Flights.{AreOf, AreSubmitted, AskedWord, HasManyLines, IsBare};
 ghost use Rattle.live_lines.specs.Flights.{IsFlight, IsNoFlight};
 ghost use Rattle.live_lines.specs.Flights.{RanOut, StoppedBy};

@@ -12,9 +12,9 @@ use Rattle.outside.specs.declared.world.Call.TheVariants as call
 use Rattle.outside.specs.declared.world.Dialed.TheVariants as dialed
 use Rattle.outside.specs.declared.world.LinkGot.TheVariants as got
 use Rattle.outside.specs.declared.world.LinkPut.TheVariants as put
-use Rattle.shared_session.specs.declared.core_state.Core.{Core}
-use Rattle.shared_session.specs.Turn.{shown}
-use Rattle.shared_session.specs.Replay.{turns_on, state_after, trace_of}
+use Rattle.single_session.specs.declared.core_state.Core.{Core}
+use Rattle.single_session.specs.Turn.{shown}
+use Rattle.single_session.specs.Replay.{turns_on, state_after, trace_of}
 use Rattle.legal_trace.specs.Book.{Book, blank_book, book, entered, entered_each}
 use Rattle.legal_trace.specs.Legal.{MayStand, AllStand}
 use Rattle.legal_trace.proofs.Plain.{not_none}

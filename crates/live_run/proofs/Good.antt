@@ -10,7 +10,7 @@ use Rattle.outside.specs.declared.world.Call.TheVariants as call
 use Rattle.outside.specs.declared.world.Dialed.TheVariants as dialed
 use Rattle.outside.specs.declared.world.LinkGot.TheVariants as got
 use Rattle.outside.specs.declared.world.LinkPut.TheVariants as put
-use Rattle.shared_session.specs.Replay.{trace_of, AreGood, AreUnspent, is_bad_after}
+use Rattle.single_session.specs.Replay.{trace_of, AreGood, AreUnspent, is_bad_after}
 use Rattle.legal_trace.specs.Ledger.{is_over}
 use Rattle.legal_trace.specs.Book.{Book, blank_book, book}
 use Rattle.legal_trace.specs.Events.{is_bad_event}

@@ -12,10 +12,10 @@ use Rattle.outside.specs.declared.world.LinkGot.TheVariants as got
 use Rattle.outside.specs.declared.world.LinkPut.TheVariants as put
 use Rattle.mux_conn.specs.declared.act.LinkAct.{LinkAct}
 use Rattle.mux_conn.specs.declared.act.LinkAct.TheVariants as act
-use Rattle.shared_session.specs.declared.core_state.Core.{Core}
-use Rattle.shared_session.specs.Turn.{shown, effects_of}
-use Rattle.shared_session.proofs.Effects.{EachIs, IsTrueOfEffects, each_effect}
-use Rattle.shared_session.specs.Replay.{turns_on}
+use Rattle.single_session.specs.declared.core_state.Core.{Core}
+use Rattle.single_session.specs.Turn.{shown, effects_of}
+use Rattle.single_session.proofs.Effects.{EachIs, IsTrueOfEffects, each_effect}
+use Rattle.single_session.specs.Replay.{turns_on}
 use Rattle.legal_trace.specs.Book.{Book, entered, entered_each}
 use Rattle.legal_trace.specs.Legal.{AllStand}
 use Rattle.live_run.specs.declared.agenda.Agenda.{Agenda}

@@ -6,7 +6,7 @@ use Rattle.driver_model.specs.declared.event.Event.{Event}
 use Rattle.outside.specs.World.{Adds}
 use Rattle.outside.specs.declared.world.Call.{Call}
 use Rattle.shared_session.specs.History.{History}
-use Rattle.shared_session.specs.Replay.{trace_of}
+use Rattle.single_session.specs.Replay.{trace_of}
 use Rattle.shared_session.specs.declared.errors.StepError.{StepError}
 use Rattle.shared_session.specs.declared.errors.StepError.TheVariants.{NoMemory}
 use Rattle.shared_session.specs.declared.session.Failure.TheVariants.{Sound}

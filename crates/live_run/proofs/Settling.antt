@@ -11,14 +11,14 @@ use Rattle.outside.specs.World.{Adds}
 use Rattle.outside.specs.declared.world.Call.{Call}
 use Rattle.outside.specs.declared.world.Call.TheVariants as call
 use Rattle.shared_session.specs.History.{History}
-use Rattle.shared_session.specs.Replay.{state_after, is_bad_after, is_spent_after}
-use Rattle.shared_session.specs.Turn.{actions_of, is_bad, next_turn, spends}
+use Rattle.single_session.specs.Replay.{state_after, is_bad_after, is_spent_after}
+use Rattle.single_session.specs.Turn.{actions_of, is_bad, next_turn, spends}
 use Rattle.shared_session.specs.declared.errors.StepError.{StepError}
 use Rattle.shared_session.specs.declared.errors.StepError.TheVariants.{BadEvent, Spent, NoMemory}
-use Rattle.shared_session.specs.declared.core_state.Core.{Core}
-use Rattle.shared_session.specs.Replay.{AreGood, AreGoodOn, AreUnspent, AreUnspentOn, opening_core, run_on}
+use Rattle.single_session.specs.declared.core_state.Core.{Core}
+use Rattle.single_session.specs.Replay.{AreGood, AreGoodOn, AreUnspent, AreUnspentOn, opening_core, run_on}
 use Rattle.shared_session.specs.declared.session.Failure.TheVariants as failure
-use Rattle.shared_session.proofs.Replays.{trace_of-more}
+use Rattle.single_session.proofs.Replays.{trace_of-more}
 use Rattle.live_run.specs.declared.agenda.Agenda.{Agenda}
 use Rattle.live_run.specs.Agenda.{answered, behind, first_due, noted_each}
 use Rattle.live_run.specs.Deeds.{actions_of as deed_actions}

@@ -7,10 +7,10 @@ use Rattle.driver_model.specs.declared.event.Event.{Event}
 use Rattle.driver_model.specs.declared.event.EventKind.{EventKind}
 use Rattle.driver_model.specs.declared.event.EventKind.TheVariants as event
 use Rattle.shared_session.specs.History.{History}
-use Rattle.shared_session.specs.declared.core_state.Core.{Core}
-use Rattle.shared_session.specs.Turn.{next_turn, actions_of}
-use Rattle.shared_session.specs.Replay.{opening_core, opening_actions, run_on, turns_on, state_after, trace_of}
-use Rattle.shared_session.proofs.Replays.{trace_of-more}
+use Rattle.single_session.specs.declared.core_state.Core.{Core}
+use Rattle.single_session.specs.Turn.{next_turn, actions_of}
+use Rattle.single_session.specs.Replay.{opening_core, opening_actions, run_on, turns_on, state_after, trace_of}
+use Rattle.single_session.proofs.Replays.{trace_of-more}
 use Rattle.outside.specs.declared.world.Call.{Call}
 use Rattle.live_run.specs.Deeds.{Deed, did, fired, AreShown, answer_of, made, events_of, events_in, actions_in}
 

@@ -14,7 +14,7 @@ use Rattle.outside.specs.declared.world.Dialed.TheVariants as dialed
 use Rattle.outside.specs.declared.world.LinkGot.TheVariants as got
 use Rattle.outside.specs.declared.world.LinkPut.TheVariants as put
 use Rattle.shared_session.specs.History.{History}
-use Rattle.shared_session.specs.Replay.{trace_of, AreGood, AreUnspent, is_bad_after}
+use Rattle.single_session.specs.Replay.{trace_of, AreGood, AreUnspent, is_bad_after}
 use Rattle.shared_session.specs.Stops.{IsSpentBy}
 use Rattle.shared_session.specs.declared.errors.StepError.{StepError}
 use Rattle.shared_session.specs.declared.errors.StepError.TheVariants.{BadEvent, Spent, NoMemory}

@@ -4,7 +4,7 @@ use Rattle.driver_model.specs.declared.event.Event.{Event}
 use Rattle.live_run.specs.declared.ending.Ending.{Ending}
 use Rattle.live_run.specs.declared.ending.Ending.TheVariants.{Answered, Idle, Full}
 use Rattle.shared_session.specs.History.{History}
-use Rattle.shared_session.specs.Replay.{outcome_at, outcomes_in, trace_of}
+use Rattle.single_session.specs.Replay.{outcome_at, outcomes_in, trace_of}
 
 -- how many events a history holds at most before its shutdown
 abbrev pub most_events : ℕ

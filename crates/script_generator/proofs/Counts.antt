@@ -6,7 +6,7 @@ use Rattle.driver_model.specs.declared.action.Cause.{Cause}
 use Rattle.driver_model.specs.declared.action.Cause.TheVariants as cause
 use Rattle.driver_model.specs.declared.event.EventKind.{EventKind}
 use Rattle.driver_model.specs.declared.event.EventKind.TheVariants as event
-use Rattle.shared_session.specs.Replay.{trace_of}
+use Rattle.single_session.specs.Replay.{trace_of}
 use Rattle.script_generator.specs.Script.{generated_config, generated_word, generated_events, event_of}
 use Rattle.script_generator.specs.Fronts.{front}
 use Rattle.script_generator.specs.Summary.{count, is_turn, is_start, is_outcome, is_cancel, is_of_cancel, cancels_one, takes, items_dealt, added, no_summary, counted, counted_each, summary_of}

@@ -7,10 +7,10 @@ use Rattle.driver_model.specs.declared.action.Cause.TheVariants as cause
 use Rattle.driver_model.specs.declared.event.Event.{Event}
 use Rattle.legal_trace.specs.Book.{Book, book, entered_each}
 use Rattle.legal_trace.proofs.Books.{book_append}
-use Rattle.shared_session.specs.declared.core_state.Core.{Core}
-use Rattle.shared_session.specs.Replay.{opening_core, run_on, state_after, trace_of, AreGood, AreGoodOn, AreUnspent, AreUnspentOn, is_bad_after, is_spent_after}
-use Rattle.shared_session.specs.Turn.{next_turn, actions_of, is_bad, has_run_out, spends}
-use Rattle.shared_session.proofs.Replays.{state_after-more, trace_of-more}
+use Rattle.single_session.specs.declared.core_state.Core.{Core}
+use Rattle.single_session.specs.Replay.{opening_core, run_on, state_after, trace_of, AreGood, AreGoodOn, AreUnspent, AreUnspentOn, is_bad_after, is_spent_after}
+use Rattle.single_session.specs.Turn.{next_turn, actions_of, is_bad, has_run_out, spends}
+use Rattle.single_session.proofs.Replays.{state_after-more, trace_of-more}
 use Rattle.script_generator.specs.Script.{generated_config, generated_word}
 use Rattle.script_generator.specs.Summary.{count, takes}
 use Rattle.script_generator.proofs.Books.{Tells}

@@ -16,8 +16,8 @@ use Rattle.mux_conn.specs.declared.request.Pending.{Pending}
 use Rattle.mux_conn.specs.declared.request.Progress.{Progress}
 use Rattle.mux_conn.specs.declared.request.Progress.TheVariants as progress
 use Rattle.mux_conn.specs.declared.request.Request.{Request}
-use Rattle.shared_session.specs.declared.core_state.Core.{Core}
-use Rattle.shared_session.specs.Turn.{Turning, turning_with, next_turn, shown_each, is_bad, has_run_out, pending}
+use Rattle.single_session.specs.declared.core_state.Core.{Core}
+use Rattle.single_session.specs.Turn.{Turning, turning_with, next_turn, shown_each, is_bad, has_run_out, pending}
 use Rattle.script_generator.specs.Script.{event_of, command, submits, writes, cancels, replies}
 use Rattle.script_generator.proofs.Lasts.{come_to}
 use Rattle.script_generator.proofs.Sessions.{link_with, no_bytes, up}

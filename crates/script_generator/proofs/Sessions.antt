@@ -14,7 +14,7 @@ use Rattle.mux_conn.specs.declared.request.Pending.{Pending}
 use Rattle.mux_conn.specs.declared.request.Request.{Request}
 use Rattle.mux_conn.specs.declared.request.Waiting.{Waiting}
 use Rattle.mux_conn.specs.Renewals.{no_renewal}
-use Rattle.shared_session.specs.declared.core_state.Core.{Core}
+use Rattle.single_session.specs.declared.core_state.Core.{Core}
 
 -- a link without queue, of these messages that take items, of so many that started, with these bytes to be written
 abbrev pub link_with : List Entry → ℕ → Outbox → LinkState

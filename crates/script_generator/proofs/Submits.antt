@@ -22,7 +22,7 @@ use Rattle.mux_conn.specs.Connection.{Work, work_with}
 use Rattle.mux_conn.specs.Requests.{if_there, is_waiting, is_admitted, is_placed}
 use Rattle.mux_conn.specs.Passes.{passed, admitted, admitted_at, still_waiting, seated, started, rounds_begun}
 use Rattle.mux_conn.specs.Turn.{flushed, wait_shown, waits_shown, fresh_shown}
-use Rattle.shared_session.specs.Turn.{turning_with, counted, effect, asked_for, refused_with, moved_on, numbered, with_work, next_turn, pending}
+use Rattle.single_session.specs.Turn.{turning_with, counted, effect, asked_for, refused_with, moved_on, numbered, with_work, next_turn, pending}
 use Rattle.script_generator.proofs.Lasts.{get_last, come_to, name_last, progress_last, permits_last}
 use Rattle.script_generator.proofs.Sessions.{link_with, no_bytes, connection_with, still, up}
 

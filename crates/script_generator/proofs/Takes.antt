@@ -7,10 +7,10 @@ use Rattle.driver_model.specs.declared.config.Config.{Config}
 use Rattle.driver_model.specs.declared.action.Action.{Action}
 use Rattle.driver_model.specs.declared.event.Event.{Event}
 use Rattle.shared_session.specs.History.{History}
-use Rattle.shared_session.specs.Turn.{actions_of}
-use Rattle.shared_session.specs.Replay.{opening_actions, state_after, trace_of, is_bad_after, is_spent_after}
+use Rattle.single_session.specs.Turn.{actions_of}
+use Rattle.single_session.specs.Replay.{opening_actions, state_after, trace_of, is_bad_after, is_spent_after}
 use Rattle.shared_session.specs.declared.session.Failure.TheVariants.{Sound}
-use Rattle.shared_session.proofs.Replays.{trace_of-none, trace_of-more}
+use Rattle.single_session.proofs.Replays.{trace_of-none, trace_of-more}
 use Rattle.script_generator.specs.Script.{generated_config, generated_word, is_cancelled, replies}
 use Rattle.script_generator.specs.Fronts.{front, written, cancelled, IsAt}
 use Rattle.script_generator.specs.Summary.{no_summary, counted, counted_each}

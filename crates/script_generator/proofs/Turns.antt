@@ -34,9 +34,9 @@ use Rattle.mux_conn.specs.Requests.{if_there, is_open, permits_or_none, name_at,
 use Rattle.mux_conn.specs.Renewals.{renewal_id, renewing, replied, is_done}
 use Rattle.mux_conn.specs.Repeats.{repeat_id}
 use Rattle.mux_conn.specs.Effects.{new_link, all_fresh, greeted, sets_up, cancelled_in, read_to, served}
-use Rattle.shared_session.specs.declared.core_state.Core.{Core}
-use Rattle.shared_session.specs.Replay.{opening_core}
-use Rattle.shared_session.specs.Turn.{Turning, turning_with, work_of, counted, left_by, moved_on, numbered, with_work, next_turn, pending}
+use Rattle.single_session.specs.declared.core_state.Core.{Core}
+use Rattle.single_session.specs.Replay.{opening_core}
+use Rattle.single_session.specs.Turn.{Turning, turning_with, work_of, counted, left_by, moved_on, numbered, with_work, next_turn, pending}
 use Rattle.script_generator.specs.Script.{generated_config, reply}
 use Rattle.script_generator.proofs.Lasts.{get_last, come_to, name_last, permits_last}
 use Rattle.script_generator.proofs.Sessions.{link_with, no_bytes, still, session_with, up}

@@ -16,10 +16,10 @@ use Rattle.driver_model.specs.declared.event.Event.{Event}
 use Rattle.driver_model.specs.declared.event.EventKind.TheVariants as event
 use Rattle.legal_trace.specs.Book.{Book, blank_book, book, entered_each}
 use Rattle.legal_trace.proofs.Books.{book_append}
-use Rattle.shared_session.specs.declared.core_state.Core.{Core}
-use Rattle.shared_session.specs.Replay.{opening_core, connect_asked, state_after, AreGood, AreUnspent, IsSound}
-use Rattle.shared_session.specs.Turn.{Turning, next_turn, actions_of, shown_each, is_bad, has_run_out, spends}
-use Rattle.shared_session.proofs.Replays.{state_after-more, state_after-none, trace_of-none, trace_of-more}
+use Rattle.single_session.specs.declared.core_state.Core.{Core}
+use Rattle.single_session.specs.Replay.{opening_core, connect_asked, state_after, AreGood, AreUnspent, IsSound}
+use Rattle.single_session.specs.Turn.{Turning, next_turn, actions_of, shown_each, is_bad, has_run_out, spends}
+use Rattle.single_session.proofs.Replays.{state_after-more, state_after-none, trace_of-none, trace_of-more}
 use Rattle.script_generator.specs.Script.{generated_config, generated_word, generated_events, event_of, command, is_cancelled, reply, submits, writes, cancels, replies}
 use Rattle.script_generator.specs.Fronts.{front, submitted, written, cancelled}
 use Rattle.script_generator.specs.Summary.{count, takes, items_dealt}

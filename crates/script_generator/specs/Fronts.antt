@@ -3,7 +3,7 @@ use Rattle.std.specs.Prelude.{◌≡◌, ℕ, List, [], ◌∷◌, ◌++◌}
 use Rattle.driver_model.specs.declared.event.Event.{Event}
 use Rattle.driver_model.specs.declared.event.EventKind.TheVariants as event
 use Rattle.shared_session.specs.History.{History}
-use Rattle.shared_session.specs.Replay.{trace_of}
+use Rattle.single_session.specs.Replay.{trace_of}
 use Rattle.shared_session.specs.declared.session.Failure.TheVariants.{Sound}
 use Rattle.script_generator.specs.Script.{generated_config, generated_word, event_of, submits, writes, cancels, rounds}
 use Rattle.script_generator.specs.Summary.{no_summary, counted_each}

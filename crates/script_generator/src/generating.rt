@@ -1,7 +1,7 @@
 ghost use Rattle.std.specs.Prelude.{◌≡◌, ◌+◌, ◌<◌, ◌≤◌, ◌++◌, ◌∷◌, [], false, OnOk, IfOk, length};
 ghost use Rattle.resp_write.specs.Pack.{pack};
-ghost use Rattle.shared_session.specs.Turn.{actions_of};
-ghost use Rattle.shared_session.specs.Replay.{state_after, trace_of, is_bad_after, is_spent_after};
+ghost use Rattle.single_session.specs.Turn.{actions_of};
+ghost use Rattle.single_session.specs.Replay.{state_after, trace_of, is_bad_after, is_spent_after};
 ghost use Rattle.shared_session.specs.declared.session.Failure.TheVariants.{Sound};
 ghost use Rattle.script_generator.specs.Script.{generated_config, generated_word};
 ghost use Rattle.script_generator.specs.Script.{generated_events, command};

@@ -6,7 +6,7 @@ use Rattle.driver_model.specs.declared.event.Event.{Event}
 use Rattle.driver_model.specs.declared.event.EventKind.{EventKind}
 use Rattle.driver_model.specs.declared.event.EventKind.TheVariants as event
 use Rattle.shared_session.specs.History.{History}
-use Rattle.shared_session.specs.Replay.{is_bad_after, is_spent_after}
+use Rattle.single_session.specs.Replay.{is_bad_after, is_spent_after}
 use Rattle.shared_session.specs.Stops.{IsSpentBy}
 use Rattle.shared_session.specs.declared.errors.StepError.{StepError}
 use Rattle.shared_session.specs.declared.errors.StepError.TheVariants.{BadEvent, Spent, NoMemory}

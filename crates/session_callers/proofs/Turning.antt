@@ -6,8 +6,8 @@ use Rattle.driver_model.specs.declared.action.Action.{Action}
 use Rattle.driver_model.specs.declared.config.Config.{Config}
 use Rattle.driver_model.specs.declared.event.Event.{Event}
 use Rattle.shared_session.specs.History.{History}
-use Rattle.shared_session.specs.Replay.{is_bad_after, is_spent_after, state_after}
-use Rattle.shared_session.specs.Turn.{actions_of}
+use Rattle.single_session.specs.Replay.{is_bad_after, is_spent_after, state_after}
+use Rattle.single_session.specs.Turn.{actions_of}
 use Rattle.shared_session.specs.declared.errors.StepError.{StepError}
 use Rattle.shared_session.specs.declared.session.Failure.{Failure}
 use Rattle.session_callers.specs.declared.board.Home.{Home}

@@ -15,8 +15,8 @@ use Rattle.session_callers.specs.declared.board.Stage.TheVariants.{Idle, Holding
 use Rattle.driver_model.specs.declared.action.Action.{Action}
 use Rattle.driver_model.specs.declared.outcome.Outcome.{Outcome}
 use Rattle.shared_session.specs.History.{History}
-use Rattle.shared_session.specs.Turn.{actions_of}
-use Rattle.shared_session.specs.Replay.{state_after, is_bad_after, is_spent_after, trace_of, outcomes_in, outcome_at}
+use Rattle.single_session.specs.Turn.{actions_of}
+use Rattle.single_session.specs.Replay.{state_after, is_bad_after, is_spent_after, trace_of, outcomes_in, outcome_at}
 use Rattle.shared_session.specs.declared.errors.StepError.{StepError}
 use Rattle.shared_session.specs.declared.session.Failure.TheVariants.{Sound}
 use Rattle.session_callers.specs.Steps.{IsRefused}

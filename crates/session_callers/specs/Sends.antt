@@ -4,7 +4,7 @@ use Rattle.std.specs.declared.alloc.AllocError.{AllocError}
 use Rattle.futures.specs.declared.task.Poll.{Poll}
 use Rattle.futures.specs.declared.task.Poll.TheVariants.{Ready, Pending}
 use Rattle.driver_model.specs.declared.outcome.Outcome.{Outcome}
-use Rattle.shared_session.specs.Replay.{trace_of, outcomes_in, outcome_at}
+use Rattle.single_session.specs.Replay.{trace_of, outcomes_in, outcome_at}
 use Rattle.session_callers.specs.declared.board.View.{View}
 use Rattle.session_callers.specs.Calls.{IsOutcomeLater}
 

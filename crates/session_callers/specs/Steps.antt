@@ -3,8 +3,8 @@ use Rattle.std.specs.Prelude.{◌≡◌, ◌≢◌, List, [], ◌∷◌, ◌++�
 use Rattle.driver_model.specs.declared.action.Action.{Action}
 use Rattle.driver_model.specs.declared.event.Event.{Event}
 use Rattle.shared_session.specs.History.{History}
-use Rattle.shared_session.specs.Turn.{actions_of}
-use Rattle.shared_session.specs.Replay.{state_after, is_bad_after, is_spent_after}
+use Rattle.single_session.specs.Turn.{actions_of}
+use Rattle.single_session.specs.Replay.{state_after, is_bad_after, is_spent_after}
 use Rattle.shared_session.specs.declared.errors.StepError.{StepError}
 use Rattle.shared_session.specs.declared.errors.StepError.TheVariants.{BadEvent, Spent, NoMemory}
 use Rattle.shared_session.specs.declared.session.Failure.TheVariants as failure

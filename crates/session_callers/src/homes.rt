@@ -1,6 +1,6 @@
 //! One step of the session, and the count of its submissions.
 ghost use Rattle.std.specs.Prelude.{◌≡◌, OnOk, OnErr, IfErr, IfOk, IsSome};
-ghost use Rattle.shared_session.specs.Replay.{trace_of, outcomes_in, outcome_at};
+ghost use Rattle.single_session.specs.Replay.{trace_of, outcomes_in, outcome_at};
 ghost use Rattle.session_callers.specs.Rule.{submits, submissions_in};
 ghost use Rattle.session_callers.specs.Steps.{IsCounted, Stepped, HasTaken, HasRefused};
 

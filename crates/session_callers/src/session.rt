@@ -1,8 +1,8 @@
 ghost use Rattle.std.specs.Prelude.{◌≡◌, ℕ, ◌+◌, ◌-◌, ◌^◌, ◌<◌, ◌≤◌, [], ◌∷◌, ◌++◌, IfOk, IfErr, OnOk, OnErr, length, max};
 ghost use Rattle.std.specs.Prelude.{Some, IsErrOf, IsSome};
 ghost use Rattle.driver_model.specs.Config.{first_fault};
-ghost use Rattle.shared_session.specs.Replay.{opening_actions};
-ghost use Rattle.shared_session.specs.Replay.{IsSound};
+ghost use Rattle.single_session.specs.Replay.{opening_actions};
+ghost use Rattle.single_session.specs.Replay.{IsSound};
 ghost use Rattle.shared_session.specs.declared.session.Failure.TheVariants.{Sound};
 ghost use Rattle.session_callers.specs.Rule.{history, newcomer};
 ghost use Rattle.session_callers.specs.Calls.{Turned, Added, Refused, RefusedInTurn, submission_event, joined_by, with_claim};

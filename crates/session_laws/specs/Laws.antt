@@ -3,8 +3,8 @@ use Rattle.std.specs.Prelude.{◌≡◌, ℕ, false, true, List, [], ◌∷◌, 
 use Rattle.driver_model.specs.declared.action.Cause.TheVariants as cause
 use Rattle.driver_model.specs.declared.config.Config.{Config}
 use Rattle.driver_model.specs.declared.event.Event.{Event}
-use Rattle.shared_session.specs.Replay.{IsSound, trace_of, outcomes_in, outcome_at}
-use Rattle.shared_session.specs.Replay.{AreGood, AreUnspent, is_bad_after, is_spent_after}
+use Rattle.single_session.specs.Replay.{IsSound, trace_of, outcomes_in, outcome_at}
+use Rattle.single_session.specs.Replay.{AreGood, AreUnspent, is_bad_after, is_spent_after}
 use Rattle.legal_trace.specs.Book.{Book, blank_book, book}
 use Rattle.legal_trace.specs.Events.{is_bad_event, HasRunOut}
 use Rattle.legal_trace.specs.Legal.{AllStand, Legal, causes, event_causes}

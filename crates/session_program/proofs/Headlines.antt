@@ -6,7 +6,7 @@ use Rattle.driver_model.specs.declared.config.Config.{Config}
 use Rattle.driver_model.specs.declared.event.Event.{Event}
 use Rattle.script_text.specs.Script.{script_of}
 use Rattle.script_text.specs.declared.script.Script.{Script}
-use Rattle.shared_session.specs.Replay.{trace_of, AreGood, AreUnspent, IsSound}
+use Rattle.single_session.specs.Replay.{trace_of, AreGood, AreUnspent, IsSound}
 use Rattle.legal_trace.specs.Ledger.{Ledger, stream, joined}
 use Rattle.legal_trace.specs.Legal.{Legal}
 use Rattle.legal_laws.specs.Links.{IsPrefix}

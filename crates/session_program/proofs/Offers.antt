@@ -27,9 +27,10 @@ use Rattle.legal_trace.proofs.Ledgers.{mine_keeps}
 use Rattle.legal_trace.proofs.Books.{book_append}
 use Rattle.shared_session.specs.declared.session.Failure.TheVariants.{Sound}
 use Rattle.shared_session.specs.History.{History}
-use Rattle.shared_session.specs.Replay.{opening_actions, state_after, trace_of, is_bad_after, is_spent_after, IsSound}
-use Rattle.shared_session.specs.Turn.{actions_of}
-use Rattle.shared_session.proofs.Replays.{Kept, kept_none, trace_of-none, trace_of-more}
+use Rattle.single_session.specs.Replay.{opening_actions, state_after, trace_of, is_bad_after, is_spent_after, IsSound}
+use Rattle.single_session.specs.Turn.{actions_of}
+use Rattle.single_session.proofs.Replays.{trace_of-none, trace_of-more}
+use Rattle.shared_session.proofs.Replays.{Kept, kept_none}
 use Rattle.session_program.specs.declared.offer.Offer.{Offer}
 use Rattle.session_program.specs.Offers.{IsOfferIn, IsOfferOf}
 use Rattle.session_program.proofs.Traces.{kept_next}

@@ -5,7 +5,7 @@ use Rattle.outside.specs.Ends.{Rose, Gained, GainedPart}
 use Rattle.redis_error.specs.declared.config_name.ConfigName.{ConfigName}
 use Rattle.script_text.specs.Script.{script_of}
 use Rattle.script_text.specs.declared.script.Script.{Script}
-use Rattle.shared_session.specs.Replay.{trace_of, AreGood, AreUnspent, IsSound}
+use Rattle.single_session.specs.Replay.{trace_of, AreGood, AreUnspent, IsSound}
 use Rattle.text_laws.specs.Fits.{AreBytes}
 use Rattle.trace_text.specs.Show.{show}
 use Rattle.session_program.specs.declared.command.Command.TheVariants.{Replay}

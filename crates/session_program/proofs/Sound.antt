@@ -8,9 +8,9 @@ use Rattle.driver_model.specs.Config.{first_fault}
 use Rattle.driver_model.specs.declared.event.Event.{Event}
 use Rattle.script_text.specs.Script.{script_of}
 use Rattle.script_text.specs.declared.script.Script.{Script}
-use Rattle.shared_session.specs.declared.core_state.Core.{Core}
-use Rattle.shared_session.specs.Turn.{next_turn, is_bad, spends}
-use Rattle.shared_session.specs.Replay.{opening_core, run_on, state_after, AreGood, AreGoodOn, AreUnspent, AreUnspentOn, is_bad_after, is_spent_after, IsSound}
+use Rattle.single_session.specs.declared.core_state.Core.{Core}
+use Rattle.single_session.specs.Turn.{next_turn, is_bad, spends}
+use Rattle.single_session.specs.Replay.{opening_core, run_on, state_after, AreGood, AreGoodOn, AreUnspent, AreUnspentOn, is_bad_after, is_spent_after, IsSound}
 use Rattle.session_program.specs.Runs.{HasRefusedConfig, IsSoundScript}
 use Rattle.session_program.specs.Stops.{IsFirstBad, IsFirstSpent}
 

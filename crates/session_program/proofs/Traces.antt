@@ -13,10 +13,11 @@ use Rattle.driver_model.specs.declared.event.Event.{Event}
 use Rattle.legal_trace.specs.Book.{book}
 use Rattle.shared_session.specs.declared.session.Failure.TheVariants.{Sound, Spent}
 use Rattle.shared_session.specs.History.{History}
-use Rattle.shared_session.specs.Replay.{opening_actions, state_after, trace_of, AreGood, AreUnspent, is_bad_after, is_spent_after, IsSound}
-use Rattle.shared_session.specs.Turn.{actions_of}
+use Rattle.single_session.specs.Replay.{opening_actions, state_after, trace_of, AreGood, AreUnspent, is_bad_after, is_spent_after, IsSound}
+use Rattle.single_session.specs.Turn.{actions_of}
 use Rattle.shared_session.specs.Stops.{IsSpentAt, IsSpentBy}
-use Rattle.shared_session.proofs.Replays.{Kept, kept_none, kept_more, taken_count, spent_stops, trace_of-none, trace_of-more}
+use Rattle.single_session.proofs.Replays.{trace_of-none, trace_of-more}
+use Rattle.shared_session.proofs.Replays.{Kept, kept_none, kept_more, taken_count, spent_stops}
 use Rattle.trace_text.specs.Show.{action_line, show}
 use Rattle.program_ends.specs.Streaming.{Sent}
 use Rattle.program_ends.proofs.Sent.{gained_more, gained_none, sent_none, sent_all, sent_more, sent_end, sent_end_more, sent_part}

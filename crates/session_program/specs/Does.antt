@@ -7,7 +7,7 @@ use Rattle.program_ends.specs.declared.status.Status.{Status}
 use Rattle.program_ends.specs.declared.status.Status.TheVariants as status
 use Rattle.script_generator.specs.Script.{generated_config, generated_word, generated_events}
 use Rattle.script_generator.specs.Summary.{summary_of, summary_line}
-use Rattle.shared_session.specs.Replay.{trace_of}
+use Rattle.single_session.specs.Replay.{trace_of}
 use Rattle.session_program.specs.Headline.{Headline, HeadlineOf}
 use Rattle.program_ends.specs.Lines.{read_fault_line, usage_line}
 use Rattle.session_program.specs.Lines.{help_text, version_line}

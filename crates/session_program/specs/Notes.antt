@@ -14,7 +14,7 @@ use Rattle.outside.specs.Ends.{Gained, GainedPart}
 use Rattle.script_text.specs.Faults.{IsVisible}
 use Rattle.script_text.specs.Script.{script_of}
 use Rattle.script_text.specs.declared.script.Script.{Script}
-use Rattle.shared_session.specs.Replay.{trace_of, outcomes_in, outcome_at}
+use Rattle.single_session.specs.Replay.{trace_of, outcomes_in, outcome_at}
 use Rattle.session_program.specs.declared.bad.BadReason.{BadReason}
 use Rattle.session_program.specs.declared.bad.BadReason.TheVariants.{NoName, NoSubmission, NoLink, NoTimer, NoSource, OnlyOffered}
 use Rattle.program_ends.specs.declared.status.Status.{Status}

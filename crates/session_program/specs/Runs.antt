@@ -4,7 +4,7 @@ use Rattle.script_text.specs.Script.{script_of}
 use Rattle.script_text.specs.declared.script.Script.{Script}
 use Rattle.redis_error.specs.declared.config_name.ConfigName.{ConfigName}
 use Rattle.driver_model.specs.Config.{first_fault}
-use Rattle.shared_session.specs.Replay.{trace_of, AreGood, AreUnspent, IsSound}
+use Rattle.single_session.specs.Replay.{trace_of, AreGood, AreUnspent, IsSound}
 use Rattle.trace_text.specs.Show.{show}
 use Rattle.outside.specs.Ends.{Gained, GainedPart}
 use Rattle.program_ends.specs.Lines.{numbered_line, config_line, read_fault_line}

@@ -4,7 +4,7 @@ use Rattle.redis_error.specs.declared.config_name.ConfigName.{ConfigName}
 use Rattle.driver_model.specs.declared.config.Config.{Config}
 use Rattle.driver_model.specs.declared.event.Event.{Event}
 use Rattle.driver_model.specs.Config.{first_fault}
-use Rattle.shared_session.specs.Replay.{trace_of, AreGood, AreUnspent, IsSound}
+use Rattle.single_session.specs.Replay.{trace_of, AreGood, AreUnspent, IsSound}
 use Rattle.shared_session.specs.Stops.{IsBadAt, IsSpentAt}
 use Rattle.trace_text.specs.Show.{show}
 use Rattle.outside.specs.Ends.{Gained, GainedPart}

@@ -1,9 +1,9 @@
 ghost use Rattle.std.specs.Prelude.{◌≡◌, ◌⊎◌, ◌<◌, ◌+◌, ◌^◌, ◌∷◌, [], ◌++◌, length, true, false, decimal};
 ghost use Rattle.std.specs.Prelude.{OnOk, OnSome, IfOk, IfSome};
 ghost use Rattle.legal_trace.specs.Book.{Book, book, entered_each};
-ghost use Rattle.shared_session.specs.Replay.{opening_actions, state_after, trace_of, IsSound};
-ghost use Rattle.shared_session.specs.Replay.{is_bad_after, is_spent_after};
-ghost use Rattle.shared_session.specs.Turn.{actions_of};
+ghost use Rattle.single_session.specs.Replay.{opening_actions, state_after, trace_of, IsSound};
+ghost use Rattle.single_session.specs.Replay.{is_bad_after, is_spent_after};
+ghost use Rattle.single_session.specs.Turn.{actions_of};
 ghost use Rattle.shared_session.specs.declared.session.Failure.TheVariants.{Sound};
 ghost use Rattle.trace_text.specs.Groups.{comes_of_link};
 ghost use Rattle.session_program.specs.Notes.{bad_event_words, bad_words, event_words, line_note};

@@ -1,5 +1,5 @@
 ghost use Rattle.std.specs.Prelude.{◌≡◌, ◌⊎◌, [], IfOk, IfSome, OnOk};
-ghost use Rattle.shared_session.specs.Replay.{trace_of, outcomes_in};
+ghost use Rattle.single_session.specs.Replay.{trace_of, outcomes_in};
 ghost use Rattle.session_program.specs.Notes.{kept_by, kept_each, open_count, open_from, open_note, IsCountNote};
 
 use containers::{Bytes, Seq};

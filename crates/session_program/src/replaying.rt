@@ -1,11 +1,11 @@
 ghost use Rattle.std.specs.Prelude.{◌≡◌, ◌⊎◌, ℕ, ◌+◌, ◌≤◌, List, ◌++◌, [], ◌∷◌, length, true, false};
 ghost use Rattle.std.specs.Prelude.{OnOk, OnErr, IfOk, IfErr, IfSome, IsErrOf};
 ghost use Rattle.outside.specs.Ends.{Rose};
-ghost use Rattle.shared_session.specs.Replay.{opening_actions, state_after, trace_of, IsSound};
-ghost use Rattle.shared_session.specs.Replay.{is_bad_after, is_spent_after, AreGood, AreUnspent};
+ghost use Rattle.single_session.specs.Replay.{opening_actions, state_after, trace_of, IsSound};
+ghost use Rattle.single_session.specs.Replay.{is_bad_after, is_spent_after, AreGood, AreUnspent};
 ghost use Rattle.driver_model.specs.declared.action.Cause.{Cause};
 ghost use Rattle.legal_trace.specs.Book.{book};
-ghost use Rattle.shared_session.specs.Turn.{actions_of};
+ghost use Rattle.single_session.specs.Turn.{actions_of};
 ghost use Rattle.shared_session.specs.declared.session.Failure.TheVariants.{Sound, Spent};
 ghost use Rattle.shared_session.specs.Stops.{IsSpentBy};
 ghost use Rattle.trace_text.specs.Show.{show};

@@ -1,7 +1,7 @@
 ghost use Rattle.std.specs.Prelude.{◌≡◌, ◌⊎◌, ◌≤◌, ◌++◌, ℕ, List, [], true, false, codes, Ok, Err, Option};
 ghost use Rattle.std.specs.Prelude.{OnOk, IfOk, IfErr, IfSome, IsErrOf};
 ghost use Rattle.outside.specs.Ends.{Rose, Gained, GainedPart};
-ghost use Rattle.shared_session.specs.Replay.{trace_of, AreGood, AreUnspent, IsSound};
+ghost use Rattle.single_session.specs.Replay.{trace_of, AreGood, AreUnspent, IsSound};
 ghost use Rattle.trace_text.specs.Show.{show};
 ghost use Rattle.script_text.specs.Script.{script_of};
 ghost use Rattle.text_laws.specs.Fits.{AreBytes};

@@ -2,9 +2,9 @@
 use Rattle.std.specs.Prelude.{◌≡◌, ◌^◌, ◌<◌, length, false, None}
 use Rattle.shared_session.specs.declared.session.Failure.TheVariants.{Sound}
 use Rattle.shared_session.specs.declared.session.Session.TheInside.{Inside}
-use Rattle.shared_session.specs.Generations.{IsCounted}
-use Rattle.shared_session.specs.Turn.{has_run_out, IsFewer}
-use Rattle.shared_session.specs.Replay.{IsSound, state_after, trace_of, outcomes_in}
+use Rattle.single_session.specs.Generations.{IsCounted}
+use Rattle.single_session.specs.Turn.{has_run_out, IsFewer}
+use Rattle.single_session.specs.Replay.{IsSound, state_after, trace_of, outcomes_in}
 
 -- its configuration is sound; a session that hasn't failed is where its history leads, no number has run out, and its connection hasn't failed; its
 -- outcomes are those that the trace of its history tells, also when it has failed

@@ -6,7 +6,7 @@ use Rattle.driver_model.specs.declared.event.Event.{Event}
 use Rattle.shared_session.specs.declared.errors.ReplayError.{ReplayError}
 use Rattle.shared_session.specs.declared.errors.ReplayError.TheVariants as error
 use Rattle.driver_model.specs.Config.{first_fault}
-use Rattle.shared_session.specs.Replay.{trace_of, AreGood, AreUnspent, is_bad_after, is_spent_after}
+use Rattle.single_session.specs.Replay.{trace_of, AreGood, AreUnspent, is_bad_after, is_spent_after}
 use Rattle.shared_session.specs.History.{History}
 use Rattle.shared_session.specs.declared.session.Failure.TheVariants.{Sound}
 

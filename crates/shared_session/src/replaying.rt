@@ -1,5 +1,5 @@
 ghost use Rattle.std.specs.Prelude.{◌≡◌, ◌++◌, OnOk, IfErr};
-ghost use Rattle.shared_session.specs.Replay.{trace_of, AreGood, AreUnspent, IsSound};
+ghost use Rattle.single_session.specs.Replay.{trace_of, AreGood, AreUnspent, IsSound};
 ghost use Rattle.shared_session.specs.Stops.{Stops};
 
 use crate::errors::{MakeError, ReplayError, StepError};

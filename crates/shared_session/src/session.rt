@@ -1,19 +1,16 @@
 ghost use Rattle.std.specs.Prelude.{◌≡◌, ◌⊎◌, ℕ, ◌<◌, ◌+◌, ◌^◌, ◌↔◌, [], ◌∷◌, ◌++◌, length, take, true};
 ghost use Rattle.std.specs.Prelude.{false, Some, OnOk, OnErr, IfOk, IsErrOf, option_copied, slice_set};
-ghost use Rattle.shared_session.specs.Done.{put_each};
+ghost use Rattle.single_session.specs.Done.{put_each};
 ghost use Rattle.driver_model.specs.Config.{address, first_fault};
-ghost use Rattle.shared_session.specs.Replay.{opening_actions, opening_core, with_room, IsSound};
+ghost use Rattle.single_session.specs.Replay.{opening_actions, opening_core, with_room, IsSound};
 
-use crate::core_state::Core;
 use crate::errors::{MakeError, StepError};
-use crate::opening::{opened, show_opening};
-use crate::showing::{Done, show};
-use crate::turns::{Rooms, make_turn};
 use connection_info::{ConnectionInfo, OpenError};
 use containers::Seq;
 use driver_model::{Action, Cause, Config, Event, EventKind, Outcome};
 use mux_conn::{ConnectionError, Rest, Spare};
 use redis_error::ConfigName;
+use single_session::{Core, Done, Rooms, make_turn, opened, show, show_opening};
 use std::alloc::{AllocError, Global};
 use std::marker::Model;
 
@@ -79,9 +76,9 @@ impl Drop for Session {
 }
 
 impl Session {
-    ghost use Rattle.shared_session.specs.Turn.{effects_of, actions_of};
-    ghost use Rattle.shared_session.specs.Replay.{state_after, trace_of, outcomes_in, outcome_at};
-    ghost use Rattle.shared_session.specs.Replay.{is_bad_after, is_spent_after};
+    ghost use Rattle.single_session.specs.Turn.{effects_of, actions_of};
+    ghost use Rattle.single_session.specs.Replay.{state_after, trace_of, outcomes_in, outcome_at};
+    ghost use Rattle.single_session.specs.Replay.{is_bad_after, is_spent_after};
     ghost use Rattle.shared_session.specs.Stops.{IsSpentBy};
 
     /// A session that has made its opening, whose actions `out` gains. A configuration of which something is refused makes
@@ -235,7 +232,7 @@ impl Session {
     }
 
     /// The first action of the next turn is shown, where the session takes this event.
-    #[tactic(auto, unfolding(crate::specs::Turn::spends))]
+    #[tactic(auto, unfolding(single_session::specs::Turn::spends))]
     fn tell(&self, alloc: Global, event: &Event, out: &mut Vec<Action>) -> Result<(), AllocError>
         ensures told { OnOk result (
             self.now.failure ≡ Failure.Sound
@@ -269,7 +266,7 @@ impl Session {
     }
 
     /// A `step` of which `out` gains all but the first action, which tells the turn and its event. No event is copied.
-    #[tactic(auto, unfolding(crate::specs::Turn::spends))]
+    #[tactic(auto, unfolding(single_session::specs::Turn::spends))]
     pub fn take(
         &mut self,
         alloc: Global,
@@ -340,7 +337,7 @@ impl Session {
     }
 
     /// A `take` of an event that isn't bad, by a session that hasn't failed and whose next turn has a number.
-    #[tactic(auto, unfolding(crate::specs::Turn::spends))]
+    #[tactic(auto, unfolding(single_session::specs::Turn::spends))]
     fn make(&mut self, alloc: Global, event: Event, out: &mut Vec<Action>) -> Result<(), StepError>
         requires sound { self.old.failure ≡ Failure.Sound }
         requires good { is_bad_after self.old.config self.old.word self.old.events event ≡ false }

@@ -13,17 +13,17 @@ use Rattle.driver_model.specs.declared.event.EventKind.{EventKind}
 use Rattle.driver_model.specs.declared.event.EventKind.TheVariants as event
 use Rattle.mux_conn.specs.declared.act.LinkAct.{LinkAct}
 use Rattle.mux_conn.specs.declared.act.LinkAct.TheVariants as act
-use Rattle.shared_session.specs.declared.core_state.Core.{Core}
-use Rattle.shared_session.specs.Turn.{next_turn, is_bad, shown, effects_of, actions_of}
-use Rattle.shared_session.specs.Replay.{opening_core, begun_as, connect_asked, turns_on, trace_of, AreGoodOn, AreGood}
+use Rattle.single_session.specs.declared.core_state.Core.{Core}
+use Rattle.single_session.specs.Turn.{next_turn, is_bad, shown, effects_of, actions_of}
+use Rattle.single_session.specs.Replay.{opening_core, begun_as, connect_asked, turns_on, trace_of, AreGoodOn, AreGood}
 use Rattle.legal_trace.specs.Legal.{causes, event_causes}
 use Rattle.trace_text.specs.Show.{show}
 use Rattle.text_laws.specs.Fits.{FitsEvent, FitsHistory, HasForm, WithForm, HaveForms}
 use Rattle.text_laws.specs.History.{history_in, history_of}
 use Rattle.text_laws.proofs.Back.{causes_back}
 use Rattle.text_laws.proofs.Bytes.{FitsCause}
-use Rattle.shared_session.proofs.Stays.{turn_kind, opening_kind}
-use Rattle.shared_session.proofs.Effects.{EachIs, IsTrueOfEffects, each_effect, each_begun}
+use Rattle.single_session.proofs.Stays.{turn_kind, opening_kind}
+use Rattle.single_session.proofs.Effects.{EachIs, IsTrueOfEffects, each_effect, each_begun}
 use Rattle.text_laws.proofs.Turns.{cause_line, turns_told}
 
 -- it begins no turn

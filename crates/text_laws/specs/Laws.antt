@@ -4,7 +4,7 @@ use Rattle.driver_model.specs.declared.config.Config.{Config}
 use Rattle.driver_model.specs.declared.event.Event.{Event}
 use Rattle.script_text.specs.Script.{script_of}
 use Rattle.script_text.specs.declared.script.Script.{Script}
-use Rattle.shared_session.specs.Replay.{trace_of, AreGood}
+use Rattle.single_session.specs.Replay.{trace_of, AreGood}
 use Rattle.trace_text.specs.Show.{show}
 use Rattle.text_laws.specs.Fits.{AreBytes, FitsHistory, HaveForms}
 use Rattle.text_laws.specs.History.{history_of}

@@ -12,7 +12,7 @@ use Rattle.mux_conn.specs.Connection.{in_front, is_due as is_renewal_due, is_out
 use Rattle.mux_conn.specs.Requests.{name_at}
 use Rattle.mux_conn.specs.declared.act.LinkAct.{LinkAct}
 use Rattle.mux_conn.specs.declared.life.Life.TheVariants.{Ready}
-use Rattle.shared_session.specs.Turn.{shown_each}
+use Rattle.single_session.specs.Turn.{shown_each}
 use Rattle.legal_trace.specs.Book.{Book, book, entered, message_of}
 use Rattle.legal_trace.specs.Ledger.{begins}
 use Rattle.legal_trace.specs.Legal.{MayStand, MayStart, NoneEnds}

@@ -3,7 +3,7 @@ use Rattle.std.proofs.Common.{◌≡◌, ℕ, false, ◌&&◌, not, List, ap}
 use Rattle.containers.proofs.Choices.{by_test, not_both}
 use Rattle.driver_model.specs.News.{News}
 use Rattle.mux_conn.specs.Connection.{is_ready as is_ready_life, is_resting}
-use Rattle.shared_session.specs.declared.core_state.Core.{Core}
+use Rattle.single_session.specs.declared.core_state.Core.{Core}
 use Rattle.legal_trace.specs.Book.{Book}
 use Rattle.legal_trace.specs.Ledger.{hears, is_ready, is_repeating, is_served, noted}
 use Rattle.conn_laws.proofs.Turn.Announce.{heard_starts}

@@ -18,13 +18,13 @@ use Rattle.driver_model.specs.declared.outcome.Outcome.{Outcome}
 use Rattle.driver_model.specs.declared.outcome.Outcome.TheVariants as outcome
 use Rattle.mux_conn.specs.declared.act.LinkAct.{LinkAct}
 use Rattle.mux_conn.specs.declared.act.LinkAct.TheVariants as act
-use Rattle.shared_session.specs.declared.generations.Generations.{Generations}
-use Rattle.shared_session.specs.declared.subscriptions.Call.{Call}
-use Rattle.shared_session.specs.declared.subscriptions.Subscriptions.{Subscriptions}
-use Rattle.shared_session.specs.Generations.{connect_timed}
-use Rattle.shared_session.specs.Subscriptions.{asked_by, call_of, informed, tracked_by, tracked_each}
-use Rattle.shared_session.specs.Turn.{shown, shown_each, source_of, timer_of}
-use Rattle.shared_session.proofs.Tracked.{calls_each, confirmed_behind, one_tracked, request_of}
+use Rattle.single_session.specs.declared.generations.Generations.{Generations}
+use Rattle.single_session.specs.declared.subscriptions.Call.{Call}
+use Rattle.single_session.specs.declared.subscriptions.Subscriptions.{Subscriptions}
+use Rattle.single_session.specs.Generations.{connect_timed}
+use Rattle.single_session.specs.Subscriptions.{asked_by, call_of, informed, tracked_by, tracked_each}
+use Rattle.single_session.specs.Turn.{shown, shown_each, source_of, timer_of}
+use Rattle.single_session.proofs.Tracked.{calls_each, confirmed_behind, one_tracked, request_of}
 use Rattle.legal_trace.specs.Again.{calls_in, calls_of, confirmed}
 use Rattle.legal_trace.specs.Book.{Book, after_timer, entered, entered_each, is_clock_of, is_rest, is_unspoken}
 use Rattle.legal_trace.specs.Story.{Story, answered, carried, clocked, fires, handed_in, holds, is_open, left, rounds, tried, waits}

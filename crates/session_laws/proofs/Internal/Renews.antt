@@ -22,8 +22,8 @@ use Rattle.mux_conn.specs.Renewals.{asked_next, renewal_asked, renewal_id, renew
 use Rattle.mux_conn.specs.declared.act.LinkAct.TheVariants as act
 use Rattle.mux_conn.specs.declared.life.Life.{Life}
 use Rattle.mux_conn.specs.declared.life.Life.TheVariants.{Ready}
-use Rattle.shared_session.specs.declared.core_state.Core.{Core}
-use Rattle.shared_session.specs.Turn.{timers_of}
+use Rattle.single_session.specs.declared.core_state.Core.{Core}
+use Rattle.single_session.specs.Turn.{timers_of}
 use Rattle.legal_trace.specs.Book.{Book, book, entered, message_of, renewal_in}
 use Rattle.legal_trace.specs.Ledger.{begins, is_of_setup, noted, renewal_count, renewal_due, renewals_asked, times, is_of_again}
 use Rattle.legal_trace.specs.Legal.{MayRenew, MayTimeRenewal, NoneEnds}

@@ -12,8 +12,8 @@ use Rattle.mux_conn.specs.declared.life.Life.TheVariants.{Resting, Dialing, Want
 use Rattle.mux_conn.specs.Connection.{Work, is_outstanding, is_ready, is_repeating as is_repeating_on, is_resting}
 use Rattle.mux_conn.specs.Effects.{all_fresh, numbers_of, served}
 use Rattle.mux_conn.specs.Repeats.{repeating}
-use Rattle.shared_session.specs.declared.core_state.Core.{Core}
-use Rattle.shared_session.specs.Turn.{is_bad, with_work}
+use Rattle.single_session.specs.declared.core_state.Core.{Core}
+use Rattle.single_session.specs.Turn.{is_bad, with_work}
 use Rattle.legal_trace.specs.Book.{Book, book, has_generations}
 use Rattle.legal_trace.specs.Ledger.{Ledger, ending, is_ready as is_ready_link, is_repeating, is_served, unrepeated_by}
 use Rattle.legal_trace.proofs.Setups.{ends_where_set}

@@ -24,8 +24,8 @@ use Rattle.mux_conn.specs.declared.again.Again.TheVariants as again
 use Rattle.mux_conn.specs.declared.life.Greeting.TheVariants as greet
 use Rattle.mux_conn.specs.declared.life.Life.{Life}
 use Rattle.mux_conn.specs.declared.life.Life.TheVariants.{Ready}
-use Rattle.shared_session.specs.declared.core_state.Core.{Core}
-use Rattle.shared_session.specs.Turn.{timers_of}
+use Rattle.single_session.specs.declared.core_state.Core.{Core}
+use Rattle.single_session.specs.Turn.{timers_of}
 use Rattle.legal_trace.specs.Book.{Book, book, entered, message_of}
 use Rattle.legal_trace.specs.Ledger.{Ledger, Start, again_due, begins, is_of_again, is_of_renewal, is_of_setup, noted, repeats_timed}
 use Rattle.legal_trace.specs.Legal.{MayRepeat, MayTimeRepeat, NoneEnds}

@@ -12,9 +12,9 @@ use Rattle.driver_model.specs.declared.outcome.Shape.{Shape}
 use Rattle.driver_model.specs.declared.outcome.Shape.TheVariants.{Single, Pipeline}
 use Rattle.driver_model.specs.Shape.{need_of, one_at_least, shape_inside}
 use Rattle.mux_conn.specs.declared.again.Again.TheVariants as again
-use Rattle.shared_session.specs.declared.generations.Generations.{Generations}
-use Rattle.shared_session.specs.Generations.{repeat_for, generations_at}
-use Rattle.shared_session.specs.Subscriptions.{repeat_after, repeat_of}
+use Rattle.single_session.specs.declared.generations.Generations.{Generations}
+use Rattle.single_session.specs.Generations.{repeat_for, generations_at}
+use Rattle.single_session.specs.Subscriptions.{repeat_after, repeat_of}
 use Rattle.legal_trace.specs.Again.{is_subscribed, repeats_in}
 use Rattle.conn_laws.proofs.Internal.Subscribes.{RepeatsNext}
 

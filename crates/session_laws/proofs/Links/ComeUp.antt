@@ -26,8 +26,8 @@ use Rattle.mux_conn.specs.Turn.{early_wait}
 use Rattle.mux_conn.specs.Connection.{Work, is_ready, acted, opened_on, is_resting}
 use Rattle.mux_conn.specs.Renewals.{source_asked}
 use Rattle.mux_conn.specs.declared.connection.MultiplexedConnection.{MultiplexedConnection}
-use Rattle.shared_session.specs.declared.core_state.Core.{Core}
-use Rattle.shared_session.specs.Turn.{with_work, is_bad}
+use Rattle.single_session.specs.declared.core_state.Core.{Core}
+use Rattle.single_session.specs.Turn.{with_work, is_bad}
 use Rattle.legal_trace.specs.Ledger.{Ledger, Heard, ending, ending_unready, ending_up, is_ready as is_ready_link, lacks_credentials, setup_after, setup_count, setup_steps, noted, noted_each, sources, source_due}
 use Rattle.legal_trace.specs.Book.{Book, blank_book, book, entered, use_for, if_mine, hearing_in, has_generations}
 use Rattle.legal_trace.specs.Legal.{AllStand, MayBeCreated, MayNeed}

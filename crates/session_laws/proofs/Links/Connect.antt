@@ -19,8 +19,8 @@ use Rattle.mux_conn.specs.declared.life.Life.TheVariants.{Resting, Dialing, Want
 use Rattle.mux_conn.specs.Effects.{come_up, comes_to_want, new_link, numbers_of, connected_at, refused_at, overdue_at, dropped_at, dropped_by, afresh, given_up, opening_failed}
 use Rattle.mux_conn.specs.Connection.{Work, is_ready, is_resting}
 use Rattle.mux_conn.specs.declared.act.LinkAct.TheVariants as act
-use Rattle.shared_session.specs.declared.core_state.Core.{Core}
-use Rattle.shared_session.specs.Turn.{with_work, is_bad}
+use Rattle.single_session.specs.declared.core_state.Core.{Core}
+use Rattle.single_session.specs.Turn.{with_work, is_bad}
 use Rattle.legal_trace.specs.Owed.{owed_by}
 use Rattle.legal_trace.specs.Ledger.{Ledger, lacks_credentials, noted, noted_each, ending, ending_alive, is_over, by_opening, ends, refused_in, failure_in, failure_of, source_due, sources, is_set_up, ending_asked, lasting, renewal_count}
 use Rattle.legal_trace.specs.Book.{Book, blank_book, book, entered, if_mine, use_for, hearing_in}

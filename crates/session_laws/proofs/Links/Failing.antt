@@ -15,8 +15,8 @@ use Rattle.mux_conn.specs.declared.life.Life.TheVariants.{Ended}
 use Rattle.mux_conn.specs.Connection.{Work}
 use Rattle.mux_conn.specs.Effects.{opening_failed, waiting_failed}
 use Rattle.mux_conn.specs.Requests.{name_at}
-use Rattle.shared_session.specs.declared.core_state.Core.{Core}
-use Rattle.shared_session.specs.Turn.{with_work, is_bad}
+use Rattle.single_session.specs.declared.core_state.Core.{Core}
+use Rattle.single_session.specs.Turn.{with_work, is_bad}
 use Rattle.legal_trace.specs.Ledger.{Ledger, by_opening, ends, noted, noted_each, ending, ending_or_shutdown, failure_in, failure_of, is_ready, is_set_up, is_fault, next_notice, source_due, lasting}
 use Rattle.legal_trace.specs.Story.{Story, bytes_of, is_open, last_of}
 use Rattle.legal_trace.specs.Book.{Book, blank_book, book, entered, if_mine, hearing_in}

@@ -19,8 +19,8 @@ use Rattle.mux_conn.specs.declared.life.Life.TheVariants.{Resting, Dialing, Want
 use Rattle.mux_conn.specs.Connection.{is_ready, is_resting}
 use Rattle.mux_conn.specs.Effects.{authorized_at, come_up, unauthorized_at, with_credentials}
 use Rattle.mux_conn.specs.Turn.{early_wait}
-use Rattle.shared_session.specs.declared.core_state.Core.{Core}
-use Rattle.shared_session.specs.Turn.{with_work, is_bad}
+use Rattle.single_session.specs.declared.core_state.Core.{Core}
+use Rattle.single_session.specs.Turn.{with_work, is_bad}
 use Rattle.legal_trace.specs.Ledger.{Ledger, authorized_by, by_opening, ending, lacks_credentials, setup_count}
 use Rattle.legal_trace.specs.Book.{book, hearing_in}
 use Rattle.conn_laws.proofs.Links.Server.{AreSetups, on_link}

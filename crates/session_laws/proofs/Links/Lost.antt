@@ -6,7 +6,7 @@ use Rattle.driver_model.specs.News.{News}
 use Rattle.driver_model.specs.Push.{is_disconnection}
 use Rattle.mux_conn.specs.declared.act.LinkAct.{LinkAct}
 use Rattle.mux_conn.specs.declared.act.LinkAct.TheVariants as act
-use Rattle.shared_session.specs.Turn.{shown}
+use Rattle.single_session.specs.Turn.{shown}
 use Rattle.legal_trace.specs.Ledger.{Ledger, End, Ending, offers, tells, sources, times, repeats_timed, parts, ends, ending, ending_asked, ending_alive, is_over, noted}
 use Rattle.legal_trace.specs.Book.{Book, entered, push_line}
 use Rattle.legal_trace.specs.Legal.{MayClose, MayStand}

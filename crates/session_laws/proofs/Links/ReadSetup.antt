@@ -40,8 +40,8 @@ use Rattle.mux_conn.specs.declared.life.Life.TheVariants.{SettingUp}
 use Rattle.mux_conn.specs.Connection.{Work, acted, is_ready, with_setup, is_resting}
 use Rattle.mux_conn.specs.Effects.{answered_setup, behind_first, broken_at, failed_at, greeted_by, greeting_error, greeting_queued, has_user, heard_on, judged_by, made_ready, noticed_each, opening_failed, read_setup, set_up_by, sets_up, setup_id, setup_queued, steps_of, told_each}
 use Rattle.mux_conn.specs.Requests.{is_open_at, name_at}
-use Rattle.shared_session.specs.declared.core_state.Core.{Core}
-use Rattle.shared_session.specs.Turn.{is_bad, with_work}
+use Rattle.single_session.specs.declared.core_state.Core.{Core}
+use Rattle.single_session.specs.Turn.{is_bad, with_work}
 use Rattle.legal_trace.specs.Book.{Book, book, hearing_in}
 use Rattle.legal_trace.specs.Ledger.{Heard, Ledger, by_fault, by_opening, bytes_came, cut, ending, is_answered, is_full, is_set_up, is_unreadable, is_well, lacks_credentials, repeats, result_of, setup_after, setup_count, setup_result, setup_steps}
 use Rattle.legal_trace.specs.Owed.{owed}

@@ -19,8 +19,8 @@ use Rattle.mux_conn.specs.declared.request.Waiting.{Waiting}
 use Rattle.mux_conn.specs.Connection.{Work}
 use Rattle.mux_conn.specs.Effects.{afresh, given_up, opening_failed}
 use Rattle.mux_conn.specs.Requests.{is_open_at, is_unbegun_at, is_waiting_at}
-use Rattle.shared_session.specs.declared.core_state.Core.{Core}
-use Rattle.shared_session.specs.Turn.{is_bad, is_shutdown, numbered, sources_of, timers_of, with_work}
+use Rattle.single_session.specs.declared.core_state.Core.{Core}
+use Rattle.single_session.specs.Turn.{is_bad, is_shutdown, numbered, sources_of, timers_of, with_work}
 use Rattle.legal_trace.specs.Book.{Book, blank_book, book, entered, hearing_in, if_mine}
 use Rattle.legal_trace.specs.Ledger.{Ledger, by_attempt, by_opening, ending, ending_or_shutdown, ends, failure_in, is_cut, is_over, is_set_up, lasting, next_notice, noted, noted_each, renewal_count, renewals_asked, End, Ending, by_shutdown, by_fault, failure_of, is_fault}
 use Rattle.legal_trace.specs.Legal.{AllStand, IsShown, is_attempt, is_by_attempt}

@@ -9,8 +9,8 @@ use Rattle.link_laws.proofs.TiedLink.{TiedLink, wrote_tied}
 use Rattle.mux_conn.specs.declared.life.Life.{Life}
 use Rattle.mux_conn.specs.declared.life.Life.TheVariants.{Resting, Dialing, Wanting, SettingUp, Ready, Ended}
 use Rattle.mux_conn.specs.Effects.{taken_at, CanTake}
-use Rattle.shared_session.specs.declared.core_state.Core.{Core}
-use Rattle.shared_session.specs.Turn.{with_work, is_bad}
+use Rattle.single_session.specs.declared.core_state.Core.{Core}
+use Rattle.single_session.specs.Turn.{with_work, is_bad}
 use Rattle.legal_trace.specs.Ledger.{hears, noted}
 use Rattle.legal_trace.specs.Book.{book, has_generations, hearing_in}
 use Rattle.conn_laws.proofs.Requests.Rounded.{rounds_down, early_on}

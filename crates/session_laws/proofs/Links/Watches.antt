@@ -16,7 +16,7 @@ use Rattle.mux_conn.specs.declared.life.Greeting.{Greeting}
 use Rattle.mux_conn.specs.declared.life.Greeting.TheVariants as greet
 use Rattle.mux_conn.specs.declared.life.Life.{Life}
 use Rattle.mux_conn.specs.declared.life.Life.TheVariants.{SettingUp}
-use Rattle.shared_session.specs.declared.core_state.Core.{Core}
+use Rattle.single_session.specs.declared.core_state.Core.{Core}
 use Rattle.legal_trace.specs.Book.{Book, book, entered}
 use Rattle.legal_trace.specs.Ledger.{begins, monitor_message, noted, setup_due}
 use Rattle.legal_trace.specs.Legal.{MayWatch, NoneEnds}

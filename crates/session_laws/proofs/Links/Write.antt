@@ -15,7 +15,7 @@ use Rattle.mux_conn.specs.declared.act.LinkAct.TheVariants as act
 use Rattle.mux_conn.specs.declared.life.Greeting.{Greeting}
 use Rattle.mux_conn.specs.declared.life.Life.{Life}
 use Rattle.mux_conn.specs.declared.life.Life.TheVariants.{Resting, Dialing, Ended, Ready, Wanting, SettingUp}
-use Rattle.shared_session.specs.declared.core_state.Core.{Core}
+use Rattle.single_session.specs.declared.core_state.Core.{Core}
 use Rattle.legal_trace.specs.Book.{Book, book, entered}
 use Rattle.legal_trace.specs.Ledger.{IsOffered, noted, offers}
 use Rattle.legal_trace.specs.Legal.{IsMoved, IsWritten, MayWrite, NoneEnds}
@@ -35,7 +35,7 @@ use Rattle.conn_laws.proofs.Links.Server.{HasSaid}
 use Rattle.conn_laws.proofs.Ties.Tied.{TiedLife, carried, has_ended, owner_of, whole_link, link_in, greeter}
 use Rattle.session_laws.proofs.Ties.Tied.{Inner, Tied, numbers_kept, IsHeeded}
 use Rattle.session_laws.proofs.Managers.Comes.{plain_put}
-use Rattle.shared_session.specs.declared.generations.Generations.{Generations}
+use Rattle.single_session.specs.declared.generations.Generations.{Generations}
 use Rattle.conn_laws.proofs.Internal.Repeats.{repeat_alike, serves}
 use Rattle.conn_laws.proofs.Internal.Serving.{unready_serves}
 use Rattle.session_laws.proofs.Internal.Informed.{IsInformed, alike_still, write_alike}

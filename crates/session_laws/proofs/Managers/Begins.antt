@@ -15,9 +15,9 @@ use Rattle.driver_model.specs.Config.{address, buffer_size, connect_timeout, man
 use Rattle.driver_model.proofs.Sound.{has_address, is_roomy}
 use Rattle.link_laws.proofs.TiedLink.{fresh_tied}
 use Rattle.mux_conn.specs.declared.life.Life.TheVariants.{Resting}
-use Rattle.shared_session.specs.Generations.{connect_purposes, connect_timed, dialling, generations_at}
-use Rattle.shared_session.specs.Replay.{IsSound, as_managed, begun_as, connect_asked, connect_timers, first_dialled, first_link, opening_actions, opening_core, single_core, timer_asked}
-use Rattle.shared_session.specs.declared.core_state.Core.{Core}
+use Rattle.single_session.specs.Generations.{connect_purposes, connect_timed, dialling, generations_at}
+use Rattle.single_session.specs.Replay.{IsSound, as_managed, begun_as, connect_asked, connect_timers, first_dialled, first_link, opening_actions, opening_core, single_core, timer_asked}
+use Rattle.single_session.specs.declared.core_state.Core.{Core}
 use Rattle.legal_trace.specs.Book.{Book, blank_book, book, entered, has_generations}
 use Rattle.legal_trace.specs.Ledger.{blank_ledger}
 use Rattle.legal_trace.specs.Legal.{AllStand, IsSettled, NoneEnds}
@@ -38,7 +38,7 @@ use Rattle.session_laws.proofs.Managers.Whole.{flushed_between}
 use Rattle.session_laws.proofs.Links.Write.{is_written}
 use Rattle.mux_conn.specs.declared.again.Again.TheVariants as again
 use Rattle.session_laws.proofs.Internal.Informed.{HasInformed}
-use Rattle.shared_session.specs.Subscriptions.{no_subscriptions}
+use Rattle.single_session.specs.Subscriptions.{no_subscriptions}
 use Rattle.session_laws.proofs.Internal.Subscribes.{nothing_first}
 use Rattle.mux_conn.specs.declared.again.Again.{Again}
 use Rattle.conn_laws.proofs.Managers.Begins.{idle_conn, set_so, waits_so}

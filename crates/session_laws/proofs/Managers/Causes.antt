@@ -11,9 +11,9 @@ use Rattle.driver_model.specs.declared.outcome.Outcome.TheVariants as outcome
 use Rattle.driver_model.specs.News.{News}
 use Rattle.mux_conn.specs.declared.act.LinkAct.{LinkAct}
 use Rattle.mux_conn.specs.declared.act.LinkAct.TheVariants as act
-use Rattle.shared_session.specs.Generations as machine
-use Rattle.shared_session.specs.Generations.{creation_fails, fails_creation, has_cause, is_cause_in, shows_cause}
-use Rattle.shared_session.specs.Turn.{shown, shown_each, source_of, timer_of}
+use Rattle.single_session.specs.Generations as machine
+use Rattle.single_session.specs.Generations.{creation_fails, fails_creation, has_cause, is_cause_in, shows_cause}
+use Rattle.single_session.specs.Turn.{shown, shown_each, source_of, timer_of}
 use Rattle.legal_trace.specs.Ledger.{End, failure_in, is_fault, is_over}
 use Rattle.legal_trace.specs.Book.{Book, entered, entered_each, faults_in, info_in}
 use Rattle.legal_trace.specs.Legal.{AllStand, current_link, is_cause, is_caused, is_lost_in}

@@ -13,7 +13,7 @@ use Rattle.driver_model.specs.declared.outcome.Outcome.TheVariants as outcome
 use Rattle.mux_conn.specs.Connection.{is_resting, is_ready}
 use Rattle.mux_conn.specs.declared.life.Life.{Life}
 use Rattle.mux_conn.specs.declared.life.Life.TheVariants.{Resting, Dialing, Wanting, SettingUp, Ready, Ended}
-use Rattle.shared_session.specs.declared.generations.Generations.{Generations}
+use Rattle.single_session.specs.declared.generations.Generations.{Generations}
 use Rattle.legal_trace.specs.Book.{Book, entered, has_generations, info_in}
 use Rattle.legal_trace.specs.Ledger.{End, Ending, Ledger, by_shutdown, by_fault, by_opening, by_attempt}
 use Rattle.legal_trace.specs.Legal.{begins_first, current_link, generation_due, is_attempt, is_by_attempt, is_cause, is_caused, is_lost, is_lost_in, link_due, rest_due}

@@ -24,9 +24,9 @@ use Rattle.mux_conn.specs.declared.act.LinkAct.TheVariants as act
 use Rattle.mux_conn.specs.declared.request.Progress.TheVariants as progress
 use Rattle.mux_conn.specs.declared.request.Request.{Request}
 use Rattle.mux_conn.specs.declared.request.Waiting.{Waiting}
-use Rattle.shared_session.specs.declared.core_state.Core.{Core}
-use Rattle.shared_session.specs.Generations.{creation_fails}
-use Rattle.shared_session.specs.Turn.{Turning, asked_for, counted, effect, fired_by, heard, late_by, left_by, pending, refused_with, shut_by, submitted, turning_with, with_work, work_of}
+use Rattle.single_session.specs.declared.core_state.Core.{Core}
+use Rattle.single_session.specs.Generations.{creation_fails}
+use Rattle.single_session.specs.Turn.{Turning, asked_for, counted, effect, fired_by, heard, late_by, left_by, pending, refused_with, shut_by, submitted, turning_with, with_work, work_of}
 use Rattle.legal_trace.specs.Book.{Book, shuts}
 use Rattle.legal_trace.specs.Story.{is_open as is_story_open}
 use Rattle.legal_trace.proofs.Plain.{last_item}

@@ -16,8 +16,8 @@ use Rattle.mux_conn.specs.Requests.{is_admitted_at, is_open_at, is_waiting_at}
 use Rattle.mux_conn.specs.declared.life.Life.{Life}
 use Rattle.mux_conn.specs.declared.life.Life.TheVariants.{Resting, Ended}
 use Rattle.mux_conn.specs.declared.request.Pending.{Pending}
-use Rattle.shared_session.specs.declared.generations.Generations.{Generations}
-use Rattle.shared_session.specs.Generations.{begun_with}
+use Rattle.single_session.specs.declared.generations.Generations.{Generations}
+use Rattle.single_session.specs.Generations.{begun_with}
 use Rattle.legal_trace.specs.Ledger.{End, renewals_asked, renewal_count}
 use Rattle.legal_trace.specs.Book.{Book, entered, has_generations}
 use Rattle.legal_trace.specs.Owed.{owed_unstarted}

@@ -14,9 +14,9 @@ use Rattle.driver_model.specs.News.{News, for_link, is_source_of, news_of, of_so
 use Rattle.mux_conn.specs.declared.act.LinkAct.{LinkAct}
 use Rattle.mux_conn.specs.declared.life.Life.{Life}
 use Rattle.mux_conn.specs.declared.life.Life.TheVariants.{Resting, Dialing, Wanting, SettingUp, Ready, Ended}
-use Rattle.shared_session.specs.declared.core_state.Core.{Core}
-use Rattle.shared_session.specs.Generations as machine
-use Rattle.shared_session.specs.Turn.{shown_each}
+use Rattle.single_session.specs.declared.core_state.Core.{Core}
+use Rattle.single_session.specs.Generations as machine
+use Rattle.single_session.specs.Turn.{shown_each}
 use Rattle.legal_trace.specs.Book.{Book, blank_book, book, entered, entered_each, shuts}
 use Rattle.legal_trace.specs.Ledger.{End, Ledger, is_fault, is_over}
 use Rattle.legal_trace.specs.Legal.{AllStand, current_link, is_caused}
@@ -34,7 +34,7 @@ use Rattle.session_laws.proofs.Ties.Tied.{HasCourse, Inner, Tied}
 use Rattle.conn_laws.proofs.Internal.Repeats.{HasServed, TiedRepeat}
 use Rattle.mux_conn.specs.Connection.{is_outstanding}
 use Rattle.session_laws.proofs.Internal.Informed.{HasInformed, IsInformed, event_informed}
-use Rattle.shared_session.specs.declared.generations.Generations.{Generations}
+use Rattle.single_session.specs.declared.generations.Generations.{Generations}
 use Rattle.conn_laws.proofs.Managers.Judge.{by_fault_alone, failed_so, old_heard, over_life}
 
 -- no shutdown is heard

@@ -21,13 +21,13 @@ use Rattle.mux_conn.specs.declared.act.LinkAct.{LinkAct}
 use Rattle.mux_conn.specs.declared.life.Life.{Life}
 use Rattle.mux_conn.specs.declared.life.Life.TheVariants.{Resting, Dialing, Wanting, SettingUp, Ready, Ended}
 use Rattle.mux_conn.specs.declared.request.Waiting.{Waiting}
-use Rattle.shared_session.specs.declared.core_state.Core.{Core}
-use Rattle.shared_session.specs.declared.generations.Comeback.{Comeback}
-use Rattle.shared_session.specs.declared.generations.Comeback.TheVariants as comeback
-use Rattle.shared_session.specs.declared.generations.Generations.{Generations}
-use Rattle.shared_session.specs.Generations as machine
-use Rattle.shared_session.specs.Generations.{came_back, comeback_of, comeback_shown, creation_fails, heeded, is_due, rests, wakes}
-use Rattle.shared_session.specs.Turn.{is_bad}
+use Rattle.single_session.specs.declared.core_state.Core.{Core}
+use Rattle.single_session.specs.declared.generations.Comeback.{Comeback}
+use Rattle.single_session.specs.declared.generations.Comeback.TheVariants as comeback
+use Rattle.single_session.specs.declared.generations.Generations.{Generations}
+use Rattle.single_session.specs.Generations as machine
+use Rattle.single_session.specs.Generations.{came_back, comeback_of, comeback_shown, creation_fails, heeded, is_due, rests, wakes}
+use Rattle.single_session.specs.Turn.{is_bad}
 use Rattle.legal_trace.specs.Book.{Book, book, entered, has_generations, rest_after, shuts}
 use Rattle.legal_trace.specs.Story.{is_open}
 use Rattle.legal_trace.proofs.Moves.{lt_test}

@@ -16,8 +16,8 @@ use Rattle.driver_model.specs.declared.config.Config.TheVariants as variant
 use Rattle.driver_model.specs.declared.kind.SessionKind.TheVariants as kind
 use Rattle.driver_model.specs.Config.{connect_timeout, hearing_of, manager_of, hearing_in as hearing_for}
 use Rattle.mux_conn.specs.declared.life.Life.TheVariants.{Resting}
-use Rattle.shared_session.specs.declared.generations.Generations.{Generations}
-use Rattle.shared_session.specs.Generations.{connect_purposes, connect_timed, is_last, repeat_for}
+use Rattle.single_session.specs.declared.generations.Generations.{Generations}
+use Rattle.single_session.specs.Generations.{connect_purposes, connect_timed, is_last, repeat_for}
 use Rattle.legal_trace.specs.Again.{repeats_in}
 use Rattle.legal_trace.specs.Book.{Book, blank_book, book, entered, has_generations, hearing_in, info_in, wanted_in}
 use Rattle.legal_trace.specs.Ledger.{Line, ending, noted, noted_each}

@@ -16,8 +16,8 @@ use Rattle.mux_conn.specs.Requests.{is_admitted_at, is_open_at, is_placed_at, is
 use Rattle.mux_conn.specs.declared.life.Life.TheVariants.{Resting}
 use Rattle.mux_conn.specs.declared.request.Pending.{Pending}
 use Rattle.mux_conn.specs.declared.request.Request.{Request}
-use Rattle.shared_session.specs.declared.generations.Generations.{Generations}
-use Rattle.shared_session.specs.Generations.{failed_behind}
+use Rattle.single_session.specs.declared.generations.Generations.{Generations}
+use Rattle.single_session.specs.Generations.{failed_behind}
 use Rattle.legal_trace.specs.Ledger.{Ledger, blank_ledger}
 use Rattle.legal_trace.specs.Story.{Story, carried, is_open, is_told, packed_in}
 use Rattle.legal_trace.specs.Book.{Book, entered, has_generations, hearing_in, if_own}

@@ -8,9 +8,9 @@ use Rattle.driver_model.specs.declared.action.Action.TheVariants as action
 use Rattle.driver_model.specs.declared.action.Purpose.TheVariants as purpose
 use Rattle.mux_conn.specs.Connection.{in_front, is_ready}
 use Rattle.mux_conn.specs.declared.life.Life.TheVariants.{Resting, Dialing, Wanting, SettingUp, Ready}
-use Rattle.shared_session.specs.declared.core_state.Core.{Core}
-use Rattle.shared_session.specs.declared.generations.Generations.{Generations}
-use Rattle.shared_session.specs.Generations.{begun, begun_with, bound_of, connect_purposes, connect_timed, dialling, failed_behind, is_last_of, rested, repeat_in}
+use Rattle.single_session.specs.declared.core_state.Core.{Core}
+use Rattle.single_session.specs.declared.generations.Generations.{Generations}
+use Rattle.single_session.specs.Generations.{begun, begun_with, bound_of, connect_purposes, connect_timed, dialling, failed_behind, is_last_of, rested, repeat_in}
 use Rattle.legal_trace.specs.Book.{Book, blank_book, book, entered, entered_each}
 use Rattle.legal_trace.specs.Legal.{AllStand, IsShown, NoneEnds, generation_due, word_of}
 use Rattle.conn_laws.proofs.Ties.Ahead.{HasSeats}

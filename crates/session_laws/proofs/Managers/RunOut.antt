@@ -11,12 +11,12 @@ use Rattle.link_laws.proofs.TiedLink.{TiedLink}
 use Rattle.mux_conn.specs.Connection.{is_spent_in, started_in, is_due, is_ready, is_used_up}
 use Rattle.mux_conn.specs.declared.life.Life.{Life}
 use Rattle.mux_conn.specs.declared.life.Life.TheVariants.{Resting, Dialing, Ended, Ready, Wanting, SettingUp}
-use Rattle.shared_session.specs.Replay.{AreGood, AreGoodOn, is_bad_after, is_spent_after, opening_core, run_on, state_after, trace_of, IsSound, AreUnspent, AreUnspentOn}
-use Rattle.shared_session.specs.Turn.{is_bad, has_run_out, spends, next_turn}
-use Rattle.shared_session.specs.declared.core_state.Core.{Core}
+use Rattle.single_session.specs.Replay.{AreGood, AreGoodOn, is_bad_after, is_spent_after, opening_core, run_on, state_after, trace_of, IsSound, AreUnspent, AreUnspentOn}
+use Rattle.single_session.specs.Turn.{is_bad, has_run_out, spends, next_turn}
+use Rattle.single_session.specs.declared.core_state.Core.{Core}
 use Rattle.legal_trace.specs.Book.{Book, book}
 use Rattle.legal_trace.specs.Events.{HasRunOut}
-use Rattle.shared_session.proofs.Replays.{state_after-more, trace_of-more, turns_after}
+use Rattle.single_session.proofs.Replays.{state_after-more, trace_of-more, turns_after}
 use Rattle.session_laws.proofs.Turn.Legality.{turn_behind}
 use Rattle.session_laws.proofs.Turn.Opening.{opening_unasked}
 use Rattle.conn_laws.proofs.Links.Server.{AreRenewed, NoneRenewed, TiedRenewal}

@@ -13,12 +13,12 @@ use Rattle.link_laws.specs.Settles.{awaited_ids}
 use Rattle.mux_conn.specs.declared.connection.MultiplexedConnection.{MultiplexedConnection}
 use Rattle.mux_conn.specs.declared.life.Life.{Life}
 use Rattle.mux_conn.specs.declared.life.Life.TheVariants.{Resting, Dialing, Wanting, SettingUp, Ready, Ended}
-use Rattle.shared_session.specs.declared.core_state.Core.{Core}
-use Rattle.shared_session.specs.declared.generations.Comeback.{Comeback}
-use Rattle.shared_session.specs.declared.generations.Comeback.TheVariants as comeback
-use Rattle.shared_session.specs.declared.generations.Generations.{Generations}
-use Rattle.shared_session.specs.Generations.{came_back, comeback_shown, heeded, heeding}
-use Rattle.shared_session.specs.Turn.{Turning, actions_of, counted, effect, flushed_apart, is_bad, next_turn, numbered, passed_by, shown_behind, shown_each}
+use Rattle.single_session.specs.declared.core_state.Core.{Core}
+use Rattle.single_session.specs.declared.generations.Comeback.{Comeback}
+use Rattle.single_session.specs.declared.generations.Comeback.TheVariants as comeback
+use Rattle.single_session.specs.declared.generations.Generations.{Generations}
+use Rattle.single_session.specs.Generations.{came_back, comeback_shown, heeded, heeding}
+use Rattle.single_session.specs.Turn.{Turning, actions_of, counted, effect, flushed_apart, is_bad, next_turn, numbered, passed_by, shown_behind, shown_each}
 use Rattle.legal_trace.specs.Book.{Book, blank_book, book}
 use Rattle.legal_trace.specs.Legal.{AllStand}
 use Rattle.conn_laws.proofs.Ties.Ahead.{admitted_open}

@@ -14,15 +14,15 @@ use Rattle.mux_conn.specs.declared.life.Life.{Life}
 use Rattle.mux_conn.specs.declared.life.Life.TheVariants.{Resting}
 use Rattle.mux_conn.specs.Passes.{passed}
 use Rattle.mux_conn.specs.declared.request.Waiting.{Waiting}
-use Rattle.shared_session.specs.declared.core_state.Core.{Core}
-use Rattle.shared_session.specs.declared.generations.Comeback.{Comeback}
-use Rattle.shared_session.specs.declared.generations.Comeback.TheVariants as comeback
-use Rattle.shared_session.specs.declared.generations.Generations.{Generations}
-use Rattle.shared_session.specs.Generations as machine
-use Rattle.shared_session.specs.Generations.{begun_with, came_back, comeback_shown, creation_fails, failed_behind, heeded, heeding, is_due, rests, wakes}
-use Rattle.shared_session.specs.Turn.{Turning, actions_of, come_back_behind, counted, effect, ended_apart, flushed_apart, is_bad, is_shutdown, next_turn, numbered, passed_by, shown_behind, shown_each, with_work, work_of}
-use Rattle.shared_session.proofs.Comebacks.{Suits, came_kept, suits_in}
-use Rattle.shared_session.proofs.Spent.{passed_same}
+use Rattle.single_session.specs.declared.core_state.Core.{Core}
+use Rattle.single_session.specs.declared.generations.Comeback.{Comeback}
+use Rattle.single_session.specs.declared.generations.Comeback.TheVariants as comeback
+use Rattle.single_session.specs.declared.generations.Generations.{Generations}
+use Rattle.single_session.specs.Generations as machine
+use Rattle.single_session.specs.Generations.{begun_with, came_back, comeback_shown, creation_fails, failed_behind, heeded, heeding, is_due, rests, wakes}
+use Rattle.single_session.specs.Turn.{Turning, actions_of, come_back_behind, counted, effect, ended_apart, flushed_apart, is_bad, is_shutdown, next_turn, numbered, passed_by, shown_behind, shown_each, with_work, work_of}
+use Rattle.single_session.proofs.Comebacks.{Suits, came_kept, suits_in}
+use Rattle.single_session.proofs.Spent.{passed_same}
 use Rattle.legal_trace.specs.Book.{Book, blank_book, book, shuts}
 use Rattle.legal_trace.specs.Legal.{AllStand, IsShown, NoneEnds, word_of}
 use Rattle.legal_trace.proofs.Moves.{lt_test}

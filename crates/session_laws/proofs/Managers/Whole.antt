@@ -12,14 +12,14 @@ use Rattle.mux_conn.specs.Connection.{work_with}
 use Rattle.mux_conn.specs.declared.act.LinkAct.{LinkAct}
 use Rattle.mux_conn.specs.declared.life.Life.{Life}
 use Rattle.mux_conn.specs.declared.life.Life.TheVariants.{Resting, Dialing, Wanting, SettingUp, Ready, Ended}
-use Rattle.shared_session.specs.declared.core_state.Core.{Core}
-use Rattle.shared_session.specs.declared.generations.Comeback.{Comeback}
-use Rattle.shared_session.specs.declared.generations.Comeback.TheVariants as comeback
-use Rattle.shared_session.specs.declared.generations.Generations.{Generations}
-use Rattle.shared_session.specs.Generations as machine
-use Rattle.shared_session.specs.Generations.{came_back, comeback_in, comeback_of, comeback_shown, comeback_shown_in, heeded, heeding, wakes, wakes_in}
-use Rattle.shared_session.specs.Turn.{Turning, actions_of, come_back_behind, comeback_by, counted, effects_of, ended_apart, flushed_apart, last_acts, next_turn, numbered, own_part, passed_by, return_shown, shown_behind, shown_each, timers_of}
-use Rattle.shared_session.proofs.Quiet.{apart_quiet, no_sources, no_timers}
+use Rattle.single_session.specs.declared.core_state.Core.{Core}
+use Rattle.single_session.specs.declared.generations.Comeback.{Comeback}
+use Rattle.single_session.specs.declared.generations.Comeback.TheVariants as comeback
+use Rattle.single_session.specs.declared.generations.Generations.{Generations}
+use Rattle.single_session.specs.Generations as machine
+use Rattle.single_session.specs.Generations.{came_back, comeback_in, comeback_of, comeback_shown, comeback_shown_in, heeded, heeding, wakes, wakes_in}
+use Rattle.single_session.specs.Turn.{Turning, actions_of, come_back_behind, comeback_by, counted, effects_of, ended_apart, flushed_apart, last_acts, next_turn, numbered, own_part, passed_by, return_shown, shown_behind, shown_each, timers_of}
+use Rattle.single_session.proofs.Quiet.{apart_quiet, no_sources, no_timers}
 use Rattle.legal_trace.specs.Book.{Book, book}
 use Rattle.legal_trace.specs.Legal.{NoneEnds}
 use Rattle.session_laws.proofs.Managers.Comes.{NoneComes}

@@ -25,8 +25,8 @@ use Rattle.mux_conn.specs.declared.request.Request.{Request}
 use Rattle.mux_conn.specs.declared.request.Waiting.{Waiting}
 use Rattle.mux_conn.specs.Requests.{is_open as is_open_progress, is_open_at, name_at, permits_at, with_permits, given_back, closed as closed_conn}
 use Rattle.mux_conn.specs.Effects.{cancelled_in}
-use Rattle.shared_session.specs.declared.core_state.Core.{Core}
-use Rattle.shared_session.specs.Turn.{with_work, heard, is_shutdown, left_by, effect, counted, is_bad}
+use Rattle.single_session.specs.declared.core_state.Core.{Core}
+use Rattle.single_session.specs.Turn.{with_work, heard, is_shutdown, left_by, effect, counted, is_bad}
 use Rattle.legal_trace.specs.Ledger.{ending, hears, noted, Heard, End}
 use Rattle.legal_trace.specs.Story.{Story, is_open, is_told, left}
 use Rattle.legal_trace.specs.Book.{Book, after_event, book, entered, if_own, shuts, submitted_by, timeout_after, kind_in, has_generations}
@@ -57,7 +57,7 @@ use Rattle.conn_laws.proofs.Turn.Heard.{told_life, silent_no_end}
 use Rattle.session_laws.proofs.Turn.Heard.{silent_applied, still_none, tame_between, hushed_still}
 use Rattle.conn_laws.proofs.Links.Said.{carried_tied, setup_on, IsTame, renoticed}
 use Rattle.session_laws.proofs.Managers.Comes.{course_later}
-use Rattle.shared_session.specs.declared.generations.Generations.{Generations}
+use Rattle.single_session.specs.declared.generations.Generations.{Generations}
 use Rattle.conn_laws.proofs.Internal.Repeats.{repeat_alike}
 use Rattle.conn_laws.proofs.Requests.Cancel.{early_cancelled, leave_closes, leave_frees, leave_link, left_creds, left_fit, left_hearing, left_life, left_link, left_others, left_renewal, left_repeat, left_setup, left_stopped, queued_apart, serves_cancelled, silenced_entries, silenced_wanted, still_dials, still_rests, was_ready, was_setting, was_wanting, without_awaited, without_in, without_others, without_rises}
 

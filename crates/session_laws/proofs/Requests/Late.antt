@@ -28,8 +28,8 @@ use Rattle.mux_conn.specs.Connection.{Work, acted, at_life, is_ready, is_resting
 use Rattle.mux_conn.specs.Requests.{is_open_at, name_at, permits_at, given_back, with_permits, closed, answered as answered_in}
 use Rattle.mux_conn.specs.declared.request.Progress.TheVariants as progress
 use Rattle.mux_conn.specs.Effects.{cancelled_in, timed_out}
-use Rattle.shared_session.specs.declared.core_state.Core.{Core}
-use Rattle.shared_session.specs.Turn.{with_work, late_by, effect, counted, is_bad}
+use Rattle.single_session.specs.declared.core_state.Core.{Core}
+use Rattle.single_session.specs.Turn.{with_work, late_by, effect, counted, is_bad}
 use Rattle.legal_trace.specs.Ledger.{hears, is_over, noted}
 use Rattle.legal_trace.specs.Owed.{owed, owed_to_try}
 use Rattle.legal_trace.specs.Story.{Story, answered, awaited_in, bytes_of, fires, is_no_error, is_open, is_told, last_of}

@@ -18,8 +18,8 @@ use Rattle.mux_conn.specs.Passes.{holding, let_in, permits_taken, timer_asked, t
 use Rattle.mux_conn.specs.declared.act.LinkAct.{LinkAct}
 use Rattle.mux_conn.specs.declared.act.LinkAct.TheVariants as act
 use Rattle.mux_conn.specs.declared.connection.MultiplexedConnection.{MultiplexedConnection}
-use Rattle.shared_session.specs.declared.core_state.Core.{Core}
-use Rattle.shared_session.specs.Turn.{sources_of, timers_of}
+use Rattle.single_session.specs.declared.core_state.Core.{Core}
+use Rattle.single_session.specs.Turn.{sources_of, timers_of}
 use Rattle.session_laws.proofs.Ties.Entered.{quiet_sources, quiet_timers, shown_more, timers_more}
 use Rattle.session_laws.proofs.Requests.Settle.{book_of_more, seen, trace_of_acts}
 use Rattle.mux_conn.specs.Requests.{is_open as is_open_progress, is_unbegun, is_waiting, is_waiting_at, name_at, permits_at, with_permits}

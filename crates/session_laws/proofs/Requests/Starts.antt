@@ -15,7 +15,7 @@ use Rattle.mux_conn.specs.declared.life.Life.TheVariants.{Ready}
 use Rattle.mux_conn.specs.Requests.{name_at}
 use Rattle.mux_conn.specs.declared.act.LinkAct.{LinkAct}
 use Rattle.mux_conn.specs.declared.request.Request.{Request}
-use Rattle.shared_session.specs.Turn.{shown_each, sources_of, timers_of}
+use Rattle.single_session.specs.Turn.{shown_each, sources_of, timers_of}
 use Rattle.legal_trace.specs.Book.{Book, book, message_of}
 use Rattle.legal_trace.specs.Ledger.{begins}
 use Rattle.legal_trace.specs.Legal.{MayStart, NoneEnds}

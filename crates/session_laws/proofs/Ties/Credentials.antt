@@ -36,8 +36,8 @@ use Rattle.mux_conn.specs.Connection.{Work, acted, at_life, is_ready, with_link,
 use Rattle.mux_conn.specs.Requests.{answered, is_open_at}
 use Rattle.mux_conn.specs.Renewals.{is_done, renewal_id, renewing, replied, takes_more, is_unanswered}
 use Rattle.mux_conn.specs.Effects.{all_answered, all_fresh, answered_setup, creation_told, given_up, applied, authorized_at, behind_first, broken_at, cancelled_in, come_up, comes_to_want, connected_at, cut_short, failed_at, failed_each, heard_on, judged_by, made_ready, new_link, nobody_waits, opening_failed, overdue_at, parted, read_at, refused_at, set_up_by, sets_up, settled_each, settled_one, shut_at, steps_of, taken_at, timed_out, told_each, unauthorized_at, waiting_failed, with_credentials, dropped_at, dropped_by, ended_by, greeted, greeted_by, greeting_error, is_unreadable, noticed, noticed_each, settled_other, served}
-use Rattle.shared_session.specs.declared.core_state.Core.{Core}
-use Rattle.shared_session.specs.Turn.{Turning, asked_for, counted, effect, fired_by, heard, late_by, left_by, refused_with, requested, submitted, work_of}
+use Rattle.single_session.specs.declared.core_state.Core.{Core}
+use Rattle.single_session.specs.Turn.{Turning, asked_for, counted, effect, fired_by, heard, late_by, left_by, refused_with, requested, submitted, work_of}
 use Rattle.conn_laws.proofs.Links.ComeUp.{made_conn}
 use Rattle.driver_model.specs.Hearing.{hears_pushes, hears_messages, is_watching, felt}
 use Rattle.driver_model.specs.Kind.{has_timeouts}

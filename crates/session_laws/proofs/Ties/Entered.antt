@@ -3,7 +3,7 @@ use Rattle.std.proofs.Common.{◌≡◌, ℕ, ◌+◌, List, [], ◌∷◌, ◌+
 use Rattle.std.proofs.lemmas.List.{append-nil}
 use Rattle.driver_model.specs.declared.action.Action.{Action}
 use Rattle.mux_conn.specs.declared.act.LinkAct.{LinkAct}
-use Rattle.shared_session.specs.Turn.{shown, shown_each, source_of, sources_of, timer_of, timers_of}
+use Rattle.single_session.specs.Turn.{shown, shown_each, source_of, sources_of, timer_of, timers_of}
 use Rattle.legal_trace.specs.Book.{Book, blank_book, book, entered, entered_each}
 use Rattle.legal_trace.specs.Legal.{MayStand, AllStand}
 use Rattle.session_laws.proofs.Ties.Tied.{Inner, Tied, Sound}

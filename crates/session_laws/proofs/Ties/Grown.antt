@@ -7,12 +7,12 @@ use Rattle.driver_model.specs.declared.event.EventKind.{EventKind}
 use Rattle.mux_conn.specs.Connection.{Work, work_with}
 use Rattle.mux_conn.specs.Renewals.{renewed as auth_told}
 use Rattle.mux_conn.specs.Passes.{moved_up_all, passed, started, still_admitted, still_waiting, moved_all}
-use Rattle.shared_session.specs.declared.core_state.Core.{Core}
-use Rattle.shared_session.specs.Turn.{Turning, counted, effect, work_of, next_turn, numbered, passed_by, ended_apart, flushed_on, come_back_behind, own_part}
+use Rattle.single_session.specs.declared.core_state.Core.{Core}
+use Rattle.single_session.specs.Turn.{Turning, counted, effect, work_of, next_turn, numbered, passed_by, ended_apart, flushed_on, come_back_behind, own_part}
 use Rattle.session_laws.proofs.Ties.Credentials.{effect_holds, repeated_holds}
-use Rattle.shared_session.specs.Generations.{came_back, has_ended, heeding}
-use Rattle.shared_session.specs.declared.generations.Comeback.{Comeback}
-use Rattle.shared_session.specs.declared.generations.Comeback.TheVariants as comeback
+use Rattle.single_session.specs.Generations.{came_back, has_ended, heeding}
+use Rattle.single_session.specs.declared.generations.Comeback.{Comeback}
+use Rattle.single_session.specs.declared.generations.Comeback.TheVariants as comeback
 use Rattle.mux_conn.specs.Repeats.{repeated}
 use Rattle.conn_laws.proofs.Ties.Grown.{HasGrown, IsGrown, apart_grown, begun_grown, each_grown, flushed_grown, moved_grown, renewal_grown, started_grown}
 

@@ -12,7 +12,7 @@ use Rattle.mux_conn.specs.declared.renewal.Renewal.{Renewal}
 use Rattle.mux_conn.specs.declared.request.Pending.{Pending}
 use Rattle.mux_conn.specs.Connection.{is_due as is_renewal_due, is_ready}
 use Rattle.mux_conn.specs.Requests.{name_at}
-use Rattle.shared_session.specs.declared.core_state.Core.{Core}
+use Rattle.single_session.specs.declared.core_state.Core.{Core}
 use Rattle.legal_trace.specs.Book.{Book, book, entered, entered_each}
 use Rattle.legal_trace.specs.Legal.{AllStand, CanMove}
 use Rattle.legal_trace.specs.Steps.{any_below, is_ahead, is_taken_before}

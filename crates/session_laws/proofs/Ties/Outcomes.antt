@@ -15,7 +15,7 @@ use Rattle.driver_model.specs.declared.event.EventKind.{EventKind}
 use Rattle.driver_model.specs.declared.event.EventKind.TheVariants as event
 use Rattle.driver_model.specs.declared.event.Submission.{Submission}
 use Rattle.driver_model.specs.declared.outcome.Outcome.{Outcome}
-use Rattle.shared_session.specs.Replay.{if_placed, outcome_at, outcomes_in, told, told_each, with_room}
+use Rattle.single_session.specs.Replay.{if_placed, outcome_at, outcomes_in, told, told_each, with_room}
 use Rattle.legal_trace.specs.Legal.{AllStand, IsOpen, MayStand}
 use Rattle.legal_trace.specs.Story.{Story, answered, clocked, fires, handed_in, holds, is_open, left, tried, waits, carried, rounds}
 use Rattle.session_laws.specs.Outcomes.{last_outcome}

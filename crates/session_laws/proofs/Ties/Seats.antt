@@ -15,8 +15,8 @@ use Rattle.mux_conn.specs.declared.connection.MultiplexedConnection.{Multiplexed
 use Rattle.mux_conn.specs.declared.request.Pending.{Pending}
 use Rattle.mux_conn.specs.Effects.{cancelled_in}
 use Rattle.mux_conn.specs.Requests.{closed, is_open_at}
-use Rattle.shared_session.specs.declared.core_state.Core.{Core}
-use Rattle.shared_session.specs.Turn.{Turning, asked_for, counted, effect, fired_by, heard, late_by, left_by, refused_with, requested, submitted, work_of}
+use Rattle.single_session.specs.declared.core_state.Core.{Core}
+use Rattle.single_session.specs.Turn.{Turning, asked_for, counted, effect, fired_by, heard, late_by, left_by, refused_with, requested, submitted, work_of}
 use Rattle.conn_laws.proofs.Ties.Seats.{AllKeep, KeepsSeats, applied_keeps, cancelled_keeps, timed_keeps}
 
 -- what the event is to submissions

@@ -1,8 +1,8 @@
 -- The session between two turns, and when the event of a turn has had its own effect.
 use Rattle.std.proofs.Common.{◌≡◌, ◌≢◌, ◌⊎◌, ℕ, true, List, [], ◌++◌, length}
 use Rattle.driver_model.specs.declared.action.Action.{Action}
-use Rattle.shared_session.specs.declared.core_state.Core.{Core}
-use Rattle.shared_session.specs.Turn.{Turning, numbered, shown_each}
+use Rattle.single_session.specs.declared.core_state.Core.{Core}
+use Rattle.single_session.specs.Turn.{Turning, numbered, shown_each}
 use Rattle.legal_trace.specs.Book.{blank_book, book}
 use Rattle.legal_trace.specs.Legal.{AllStand, IsShown, NoneEnds, IsSettled}
 use Rattle.session_laws.proofs.Ties.Tied.{IsHeeded, IsRetiring, Sound, inner}

@@ -23,8 +23,8 @@ use Rattle.mux_conn.specs.declared.request.Pending.{Pending}
 use Rattle.mux_conn.specs.declared.request.Request.{Request}
 use Rattle.mux_conn.specs.declared.request.Waiting.{Waiting}
 use Rattle.mux_conn.specs.Requests.{name_at, permits_at, is_open_at, is_unbegun_at}
-use Rattle.shared_session.specs.declared.core_state.Core.{Core}
-use Rattle.shared_session.specs.declared.generations.Generations.{Generations}
+use Rattle.single_session.specs.declared.core_state.Core.{Core}
+use Rattle.single_session.specs.declared.generations.Generations.{Generations}
 use Rattle.sub_tracker.specs.Subscribed.{Request as Call}
 use Rattle.legal_trace.specs.Ledger.{Ledger, Heard, End, blank_ledger}
 use Rattle.legal_trace.specs.Story.{Story}

@@ -22,8 +22,8 @@ use Rattle.mux_conn.specs.declared.connection.MultiplexedConnection.{Multiplexed
 use Rattle.mux_conn.specs.declared.life.Life.{Life}
 use Rattle.mux_conn.specs.declared.life.Life.TheVariants.{Resting, Dialing, Wanting, SettingUp, Ready, Ended}
 use Rattle.mux_conn.specs.declared.request.Request.{Request}
-use Rattle.shared_session.specs.declared.core_state.Core.{Core}
-use Rattle.shared_session.specs.Turn.{is_shutdown, shut_by, exceeds_offer, is_bad}
+use Rattle.single_session.specs.declared.core_state.Core.{Core}
+use Rattle.single_session.specs.Turn.{is_shutdown, shut_by, exceeds_offer, is_bad}
 use Rattle.legal_trace.specs.Ledger.{Ledger, hears, noted, is_over, Heard}
 use Rattle.legal_trace.specs.Story.{fires, has_place}
 use Rattle.legal_trace.specs.Book.{Book, book, entered, if_own, is_clock_of, placed_since, since_after, hearing_in, rest_after, timeout_after, kind_in, has_generations}

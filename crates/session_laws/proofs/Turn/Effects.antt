@@ -13,8 +13,8 @@ use Rattle.driver_model.specs.News.{News, connected, took, came, failed, authori
 use Rattle.mux_conn.specs.declared.life.Life.{Life}
 use Rattle.mux_conn.specs.declared.life.Life.TheVariants.{Resting, Dialing, Ready, Ended, SettingUp, Wanting}
 use Rattle.mux_conn.specs.Effects.{CanTake, applied}
-use Rattle.shared_session.specs.declared.core_state.Core.{Core}
-use Rattle.shared_session.specs.Turn.{with_work, heard, fired_by, late_by, effect, counted, is_no_link, exceeds_offer, is_bad}
+use Rattle.single_session.specs.declared.core_state.Core.{Core}
+use Rattle.single_session.specs.Turn.{with_work, heard, fired_by, late_by, effect, counted, is_no_link, exceeds_offer, is_bad}
 use Rattle.session_laws.proofs.Ties.States.{Between, HasEffect}
 use Rattle.session_laws.proofs.Turn.Announce.{turn_of, turned, IsNewsKind}
 use Rattle.session_laws.proofs.Links.Connect.{connected_applied, dropped_applied, refused_applied, overdue_applied, passed_over}

@@ -9,12 +9,12 @@ use Rattle.mux_conn.specs.declared.renewal.Renewal.{Renewal}
 use Rattle.mux_conn.specs.Connection.{Work, is_ready, is_resting, is_used_up}
 use Rattle.mux_conn.specs.Passes.{passed, said}
 use Rattle.mux_conn.proofs.Kept.{passed_kept}
-use Rattle.shared_session.specs.declared.core_state.Core.{Core}
-use Rattle.shared_session.specs.declared.generations.Comeback.{Comeback}
-use Rattle.shared_session.specs.declared.generations.Comeback.TheVariants as comeback
-use Rattle.shared_session.specs.declared.generations.Generations.{Generations}
-use Rattle.shared_session.specs.Generations.{came_back, comeback_of, is_due, rests}
-use Rattle.shared_session.specs.Turn.{shown_each, sources_of, timers_of}
+use Rattle.single_session.specs.declared.core_state.Core.{Core}
+use Rattle.single_session.specs.declared.generations.Comeback.{Comeback}
+use Rattle.single_session.specs.declared.generations.Comeback.TheVariants as comeback
+use Rattle.single_session.specs.declared.generations.Generations.{Generations}
+use Rattle.single_session.specs.Generations.{came_back, comeback_of, is_due, rests}
+use Rattle.single_session.specs.Turn.{shown_each, sources_of, timers_of}
 use Rattle.legal_trace.specs.Book.{Book, blank_book, book, entered_each}
 use Rattle.legal_trace.specs.Legal.{AllStand}
 use Rattle.session_laws.proofs.Internal.Ahead.{ready_asked}

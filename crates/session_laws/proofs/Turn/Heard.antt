@@ -12,8 +12,8 @@ use Rattle.link_laws.proofs.TiedLink.{TiedLink, told_tied, unheard_tied}
 use Rattle.mux_conn.specs.declared.connection.MultiplexedConnection.{MultiplexedConnection}
 use Rattle.mux_conn.specs.declared.life.Life.{Life}
 use Rattle.mux_conn.specs.declared.life.Life.TheVariants.{Resting, Dialing, Wanting, SettingUp, Ready, Ended}
-use Rattle.shared_session.specs.declared.core_state.Core.{Core}
-use Rattle.shared_session.specs.Turn.{with_work, is_bad, is_shutdown}
+use Rattle.single_session.specs.declared.core_state.Core.{Core}
+use Rattle.single_session.specs.Turn.{with_work, is_bad, is_shutdown}
 use Rattle.legal_trace.specs.Ledger.{Ledger, hears, noted, ending, is_over}
 use Rattle.legal_trace.specs.Book.{Book, book, entered, hearing_in, has_generations}
 use Rattle.legal_trace.specs.Story.{Story}

@@ -24,17 +24,17 @@ use Rattle.driver_model.specs.declared.event.Submission.{Submission}
 use Rattle.mux_conn.specs.declared.act.LinkAct.{LinkAct}
 use Rattle.mux_conn.specs.declared.act.LinkAct.TheVariants as act
 use Rattle.mux_conn.specs.declared.request.Pending.{Pending}
-use Rattle.shared_session.specs.Replay.{AreGood, AreGoodOn, as_managed, single_core, is_bad_after, opening_core, opening_actions, outcome_at, outcomes_in, run_on, state_after, trace_of, turns_on, IsSound, begun_as, connect_asked, AreUnspent, AreUnspentOn}
-use Rattle.shared_session.specs.declared.generations.Comeback.{Comeback}
-use Rattle.shared_session.specs.declared.generations.Comeback.TheVariants as comeback
-use Rattle.shared_session.specs.declared.generations.Generations.{Generations}
-use Rattle.shared_session.specs.Generations.{comeback_shown_in, connect_timed, generation_shown, generations_at}
-use Rattle.shared_session.specs.Turn.{Turning, actions_of, comeback_by, effects_of, last_acts, shown_behind, asked_for, counted, effect, fired_by, heard, is_bad, late_by, left_by, moved_on, refused_with, shown_each, submitted, next_turn, numbered, source_of, sources_of, timer_of, timers_of, work_of, spends, has_run_out, passed_by}
-use Rattle.shared_session.proofs.Plain.{plain_effects, plain_turn}
-use Rattle.shared_session.proofs.Replays.{trace_of-more}
-use Rattle.shared_session.proofs.Spent.{passed_same, room_left, spent_next}
-use Rattle.shared_session.proofs.Stays.{turn_plain}
-use Rattle.shared_session.specs.declared.core_state.Core.{Core}
+use Rattle.single_session.specs.Replay.{AreGood, AreGoodOn, as_managed, single_core, is_bad_after, opening_core, opening_actions, outcome_at, outcomes_in, run_on, state_after, trace_of, turns_on, IsSound, begun_as, connect_asked, AreUnspent, AreUnspentOn}
+use Rattle.single_session.specs.declared.generations.Comeback.{Comeback}
+use Rattle.single_session.specs.declared.generations.Comeback.TheVariants as comeback
+use Rattle.single_session.specs.declared.generations.Generations.{Generations}
+use Rattle.single_session.specs.Generations.{comeback_shown_in, connect_timed, generation_shown, generations_at}
+use Rattle.single_session.specs.Turn.{Turning, actions_of, comeback_by, effects_of, last_acts, shown_behind, asked_for, counted, effect, fired_by, heard, is_bad, late_by, left_by, moved_on, refused_with, shown_each, submitted, next_turn, numbered, source_of, sources_of, timer_of, timers_of, work_of, spends, has_run_out, passed_by}
+use Rattle.single_session.proofs.Plain.{plain_effects, plain_turn}
+use Rattle.single_session.proofs.Replays.{trace_of-more}
+use Rattle.single_session.proofs.Spent.{passed_same, room_left, spent_next}
+use Rattle.single_session.proofs.Stays.{turn_plain}
+use Rattle.single_session.specs.declared.core_state.Core.{Core}
 use Rattle.legal_trace.specs.Book.{blank_book, book}
 use Rattle.legal_trace.specs.Events.{is_bad_event}
 use Rattle.legal_trace.specs.Legal.{AllStand, Legal, causes, event_causes}

@@ -17,9 +17,9 @@ use Rattle.driver_model.specs.declared.action.Purpose.{Purpose}
 use Rattle.driver_model.specs.declared.action.Purpose.TheVariants as purpose
 use Rattle.link_laws.proofs.TiedLink.{asked_tied, fresh_tied}
 use Rattle.mux_conn.specs.declared.life.Life.TheVariants.{Dialing}
-use Rattle.shared_session.specs.Replay.{IsSound, begun_as, connect_asked, connect_timers, first_link, opening_core, opening_actions, single_core, timer_asked, as_managed}
-use Rattle.shared_session.proofs.Plain.{plain_opening}
-use Rattle.shared_session.specs.declared.core_state.Core.{Core}
+use Rattle.single_session.specs.Replay.{IsSound, begun_as, connect_asked, connect_timers, first_link, opening_core, opening_actions, single_core, timer_asked, as_managed}
+use Rattle.single_session.proofs.Plain.{plain_opening}
+use Rattle.single_session.specs.declared.core_state.Core.{Core}
 use Rattle.legal_trace.specs.Book.{Book, blank_book, book, entered, has_generations}
 use Rattle.legal_trace.specs.Managers.{is_last, is_lazy, settings_in}
 use Rattle.legal_trace.specs.Again.{repeats_in}

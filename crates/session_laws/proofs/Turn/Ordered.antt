@@ -25,9 +25,9 @@ use Rattle.mux_conn.specs.declared.request.Pending.{Pending}
 use Rattle.mux_conn.specs.Connection.{Work, are_some, is_due as is_renewal_due, is_ready}
 use Rattle.mux_conn.specs.Repeats.{repeated}
 use Rattle.mux_conn.specs.Requests.{name_at}
-use Rattle.shared_session.specs.declared.core_state.Core.{Core}
-use Rattle.shared_session.proofs.Spent.{passed_same}
-use Rattle.shared_session.specs.Turn.{Turning, asked_for, counted, effect, fired_by, heard, late_by, left_by, refused_with, shown_each, submitted, work_of}
+use Rattle.single_session.specs.declared.core_state.Core.{Core}
+use Rattle.single_session.proofs.Spent.{passed_same}
+use Rattle.single_session.specs.Turn.{Turning, asked_for, counted, effect, fired_by, heard, late_by, left_by, refused_with, shown_each, submitted, work_of}
 use Rattle.legal_trace.specs.Book.{Book, blank_book, book, due_since, entered, entered_each}
 use Rattle.legal_trace.specs.Ledger.{Ledger, hears, noted, renewal_due}
 use Rattle.legal_trace.specs.Legal.{AllStand}

@@ -2,7 +2,7 @@ use Rattle.std.proofs.Common.{arith, sym, max, ◌≡◌, ◌++◌, List, ap, �
 use Rattle.driver_model.specs.declared.action.Action.{Action}
 use Rattle.driver_model.specs.declared.config.Config.{Config}
 use Rattle.session_callers.specs.Rule.{Each}
-use Rattle.shared_session.specs.Replay.{opening_actions}
+use Rattle.single_session.specs.Replay.{opening_actions}
 use Rattle.live_lines.specs.Flights.{IsBare}
 use Rattle.live_lines.proofs.Planned.{none_refused}
 use Rattle.live_lines.proofs.RunningOut.{none_submitted}

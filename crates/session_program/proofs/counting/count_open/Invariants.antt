@@ -1,5 +1,5 @@
 use Rattle.std.proofs.Common.{◌≡◌, ◌≤◌, ◌+◌, drop}
-use Rattle.shared_session.specs.Replay.{trace_of, outcomes_in}
+use Rattle.single_session.specs.Replay.{trace_of, outcomes_in}
 use Rattle.session_program.specs.Notes.{open_from}
 use Rattle.session_program.proofs.counting.count_open.Given as goal
 

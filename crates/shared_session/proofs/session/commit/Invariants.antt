@@ -1,5 +1,5 @@
 use Rattle.std.proofs.Common.{◌≡◌, length}
-use Rattle.shared_session.specs.Done.{put_each}
+use Rattle.single_session.specs.Done.{put_each}
 use Rattle.shared_session.proofs.session.commit.Given as goal
 
 abbrev pub invariant-loop-next : goal.invariant-loop-next

@@ -4,11 +4,11 @@ use Rattle.driver_model.specs.declared.action.Action.TheVariants as action
 use Rattle.driver_model.specs.declared.action.Cause.TheVariants as cause
 use Rattle.driver_model.specs.declared.outcome.Outcome.{Outcome}
 use Rattle.shared_session.specs.History.{History}
-use Rattle.shared_session.specs.declared.core_state.Core.{Core}
-use Rattle.shared_session.specs.Turn.{next_turn, effects_of, actions_of, is_bad}
-use Rattle.shared_session.specs.Replay.{state_after, is_bad_after, is_spent_after}
-use Rattle.shared_session.specs.Done.{put_each, done_each}
-use Rattle.shared_session.proofs.Replays.{state_kept, outcomes_kept, few_kept, few_turns, unspent_step, shown_kept, turn_numbered, fraction_kept}
+use Rattle.single_session.specs.declared.core_state.Core.{Core}
+use Rattle.single_session.specs.Turn.{next_turn, effects_of, actions_of, is_bad}
+use Rattle.single_session.specs.Replay.{state_after, is_bad_after, is_spent_after}
+use Rattle.single_session.specs.Done.{put_each, done_each}
+use Rattle.single_session.proofs.Replays.{state_kept, outcomes_kept, few_kept, few_turns, unspent_step, shown_kept, turn_numbered, fraction_kept}
 use Rattle.shared_session.proofs.session.Session.make.Goals as goal
 
 pub make_turn-requires-clause-grows : goal.make_turn-requires-clause-grows

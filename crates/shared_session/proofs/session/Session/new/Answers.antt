@@ -1,5 +1,5 @@
 use Rattle.std.proofs.Common.{length, arith, ap, ◌∙◌, sym}
-use Rattle.shared_session.proofs.Replays.{opened_is, outcomes-none, unspent_opening, fewer_opening, counted_opening, sound_opening}
+use Rattle.single_session.proofs.Replays.{opened_is, outcomes-none, unspent_opening, fewer_opening, counted_opening, sound_opening}
 use Rattle.shared_session.proofs.session.Session.new.Goals as goal
 
 pub invariant_of-result : goal.invariant_of-result

@@ -1,4 +1,4 @@
-use Rattle.shared_session.proofs.Replays.{actions_told}
+use Rattle.single_session.proofs.Replays.{actions_told}
 use Rattle.shared_session.proofs.session.Session.step.Goals as goal
 
 pub returns-in-Ok-take-clause-actions : goal.returns-in-Ok-take-clause-actions

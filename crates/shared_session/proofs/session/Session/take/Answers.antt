@@ -1,6 +1,6 @@
 use Rattle.std.proofs.Common.{◌+◌, ◌^◌, ◌<◌, length, subst, arith}
 use Rattle.shared_session.specs.History.{History}
-use Rattle.shared_session.proofs.Replays.{turns_few}
+use Rattle.single_session.proofs.Replays.{turns_few}
 use Rattle.shared_session.proofs.session.Session.take.Goals as goal
 
 pub make-requires-clause-few : goal.make-requires-clause-few

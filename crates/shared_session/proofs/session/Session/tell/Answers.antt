@@ -2,7 +2,7 @@ use Rattle.std.proofs.Common.{◌≡◌, ◌+◌, [], ◌∷◌, ◌++◌, lengt
 use Rattle.driver_model.specs.declared.action.Action.TheVariants as action
 use Rattle.driver_model.specs.declared.action.Cause.TheVariants as cause
 use Rattle.shared_session.specs.History.{History}
-use Rattle.shared_session.proofs.Replays.{line_told}
+use Rattle.single_session.proofs.Replays.{line_told}
 use Rattle.shared_session.proofs.session.Session.tell.Goals as goal
 
 pub returns-clause-told : goal.returns-clause-told

@@ -1,7 +1,0 @@
-use Rattle.std.proofs.Common.{◌≡◌, ◌++◌, drop}
-use Rattle.shared_session.specs.Turn.{timers_of}
-use Rattle.shared_session.proofs.core_state.note_timers.Given as goal
-
--- what is kept and what is left are the whole
-abbrev pub invariant-loop-act : goal.invariant-loop-act
-invariant-loop-act l = l.timers ++ timers_of l.link (drop l.act-index l.acts) ≡ l.fn.timers ++ timers_of l.link l.acts

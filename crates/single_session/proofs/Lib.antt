@@ -1,0 +1,12 @@
+pub mod Within
+pub mod Quiet
+pub mod Comebacks
+pub mod Spent
+pub mod Replays
+pub mod Effects
+pub mod Made
+pub mod Stays
+pub mod Plain
+pub mod Threads
+pub mod Tracked
+pub mod Ended
