@@ -154,13 +154,9 @@ fn add_sender<R: Wait>(
     players: &mut Vec<Player>,
 ) -> Result<(), AllocError>
     requires table { caller.old.table ≡ shared.now.table.shared.table_id }
-    requires players {
-        All (λ player. player.caller.table ≡ shared.now.table.shared.table_id) players.old.items
-    }
+    requires players { All (λ player. player.caller.table ≡ shared.now.table.shared.table_id) players.old.items }
     ensures table { caller.new.table ≡ caller.old.table }
-    ensures players {
-        All (λ player. player.caller.table ≡ shared.now.table.shared.table_id) players.new.items
-    }
+    ensures players { All (λ player. player.caller.table ≡ shared.now.table.shared.table_id) players.new.items }
 {
     match shared.join(rt, caller) {
         Ok(caller) => players.push(Player {
@@ -181,13 +177,9 @@ fn add_senders<R: Wait>(
     players: &mut Vec<Player>,
 ) -> Result<(), AllocError>
     requires table { caller.old.table ≡ shared.now.table.shared.table_id }
-    requires players {
-        All (λ player. player.caller.table ≡ shared.now.table.shared.table_id) players.old.items
-    }
+    requires players { All (λ player. player.caller.table ≡ shared.now.table.shared.table_id) players.old.items }
     ensures table { caller.new.table ≡ caller.old.table }
-    ensures players {
-        All (λ player. player.caller.table ≡ shared.now.table.shared.table_id) players.new.items
-    }
+    ensures players { All (λ player. player.caller.table ≡ shared.now.table.shared.table_id) players.new.items }
 {
     takes(rt, alloc, shared, caller, Told::Connected(0))?;
     add_sender(rt, shared, caller, "a", players)?;
