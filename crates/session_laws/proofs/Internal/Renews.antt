@@ -105,7 +105,7 @@ time_tied b t link last number ms none due within h =
     let l = b.link t.link in
     let r = t.renewal in
     let what = purpose.Renewal t.link r.asked in
-    let k = numbers_kept b b.link b.story b.tracked b.errors b.placed b.since (on_link t link) (Ready link) t.free t.requests t.waiting t.admitted t.fresh t.moved t.letting [] t.started h.numbers in
+    let k = numbers_kept b b.link b.story b.tracked b.errors b.placed b.since (on_link t link) (Ready link) t.free t.requests t.waiting t.admitted t.fresh t.moved t.being_admitted [] t.started h.numbers in
     tied_by (entered b (action.Timer number ms what)) (record (on_link t link) { timers = t.timers ++ what ∷ []; renewal = asked_next r last }) (noted l times) (mine_noted l t.link times) (record {
       numbers = record {
         turns = k.turns;
@@ -206,7 +206,7 @@ auth_tied b t link c cs due pending waits h =
     let plain : is_watching t.hears ≡ true → ⊥ = λ w. (let no : [] ≡ c ∷ cs = sym (h.numbers.quiet w).unrenewed ∙ waits in cc) in
     let unwatched : is_watching l.hearing ≡ false = by_test (is_watching l.hearing) _ (λ w. absurd (plain (ap is_watching (sym h.notices.hearing_is) ∙ w))) (λ f. f) in
     let few : length t.requests ≤ renewal_id = omega (arith, h.names.few, h.numbers.few) in
-    let k = numbers_kept b b.link b.story b.tracked b.errors b.placed b.since (on_link t link) (Ready (begun link q)) t.free t.requests t.waiting t.admitted t.fresh t.moved t.letting [] (t.started ++ renewal_id ∷ []) h.numbers in
+    let k = numbers_kept b b.link b.story b.tracked b.errors b.placed b.since (on_link t link) (Ready (begun link q)) t.free t.requests t.waiting t.admitted t.fresh t.moved t.being_admitted [] (t.started ++ renewal_id ∷ []) h.numbers in
     tied_by (entered b (auth_action t link c)) (after_auth t link c cs) (noted l (begins s)) (mine_noted l t.link (begins (message_of b t.link owner.Auth)) ∙ ap (λ x. noted l (begins x)) told) (record {
       numbers = record {
         turns = k.turns;

@@ -244,7 +244,7 @@ repeat_tied b t link packed of_shape h =
     let few : length t.requests ≤ repeat_id = omega (arith, h.names.few, h.numbers.few) in
     let now = entered b (repeat_action t link packed of_shape) in
     let behind = record (due_on t (begun link q) packed of_shape true) { started = t.started ++ repeat_id ∷ [] } in
-    let numbers : TiedNumbers now behind = numbers_kept b now.link now.story b.tracked b.errors now.placed now.since (due_on t link packed of_shape true) (Ready (begun link q)) t.free t.requests t.waiting t.admitted t.fresh t.moved t.letting [] (t.started ++ repeat_id ∷ []) h.numbers in
+    let numbers : TiedNumbers now behind = numbers_kept b now.link now.story b.tracked b.errors now.placed now.since (due_on t link packed of_shape true) (Ready (begun link q)) t.free t.requests t.waiting t.admitted t.fresh t.moved t.being_admitted [] (t.started ++ repeat_id ∷ []) h.numbers in
     tied_by (entered b (repeat_action t link packed of_shape)) (after_repeat t link packed of_shape) (noted l (begins s)) (mine_noted l t.link (begins (message_of b t.link owner.Resub)) ∙ ap (λ x. noted l (begins x)) told) (record {
       numbers = again_numbers now behind again.Sent refl numbers;
       others = others_kept b t.link (begins (message_of b t.link owner.Resub)) h.others;

@@ -198,7 +198,7 @@ retires before c started word kind n acts links placed since l h is other u last
       started = refl;
       fresh = numbers_is conn.waiting;
       free = refl;
-      letting = refl;
+      being_admitted = refl;
       rounds_is = h0.rounds.rounds_is;
       waiting = early;
       holds = λ p o. h0.permits.none p (waits p o) (λ i. i);

@@ -189,7 +189,7 @@ over_begins b t e number h over untold parting few comes one nobody closed some 
 -- behind none
 --
 -- the first begins of a session that waits for its first submission, where all its permits are free, and all that wait came in this turn
-pub first_begins : (b : Book) (t : Inner) (number : ℕ) → Tied b t → t.life ≡ Resting → t.pending ≡ [] → t.letting ≡ [] → t.moved ≡ [] → t.admitted ≡ [] → t.untold ≡ [] → t.parting ≡ false → t.free ≡ unwrap_or t.limit 0 → t.fresh ≡ waiting_ids t.waiting → (b.link t.link).creds.over ≡ false → number ≢ 0
+pub first_begins : (b : Book) (t : Inner) (number : ℕ) → Tied b t → t.life ≡ Resting → t.pending ≡ [] → t.being_admitted ≡ [] → t.moved ≡ [] → t.admitted ≡ [] → t.untold ≡ [] → t.parting ≡ false → t.free ≡ unwrap_or t.limit 0 → t.fresh ≡ waiting_ids t.waiting → (b.link t.link).creds.over ≡ false → number ≢ 0
     → Tied (entered b (action.Generation number)) (at_rest (begun_in t number))
 first_begins b t number h rests settled alone still nobody untold parting free fresh unended some =
     let n = h.numbers in

@@ -64,7 +64,7 @@ pub record HasNoLink (b : Book) (t : Inner) : Type 0 where
 
 -- such a session, as it goes on
 abbrev pub at_rest : Inner → Inner
-at_rest t = record t { life = Resting; untold = []; parting = false; admitted = []; moved = []; letting = []; pending = []; started = [] }
+at_rest t = record t { life = Resting; untold = []; parting = false; admitted = []; moved = []; being_admitted = []; pending = []; started = [] }
 
 -- it is tied to its book
 pub rest_tied : (b : Book) (t : Inner) → HasNoLink b t → Tied b (at_rest t)

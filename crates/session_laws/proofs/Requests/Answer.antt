@@ -163,7 +163,7 @@ answer_apart b t p pending o calm tracked open_is apart told h =
     let known : n < b.submissions = (let within = name_within t.table t.requests p h.names l in let e = h.numbers.submissions in omega arith) in
     let own : (entered b (action.Outcome n o)).story n ≡ closed n = taken_if (n == n) (closed n) (b.story n) (eq_test n n refl) in
     record {
-      numbers = numbers_kept b b.link (entered b (action.Outcome n o)).story (entered b (action.Outcome n o)).tracked (entered b (action.Outcome n o)).errors (entered b (action.Outcome n o)).placed b.since now t.life (given_back t.limit t.free (permits_at t.requests p)) (with_permits t.requests p progress.Closed 0) t.waiting t.admitted t.fresh t.moved t.letting pending t.started h.numbers;
+      numbers = numbers_kept b b.link (entered b (action.Outcome n o)).story (entered b (action.Outcome n o)).tracked (entered b (action.Outcome n o)).errors (entered b (action.Outcome n o)).placed b.since now t.life (given_back t.limit t.free (permits_at t.requests p)) (with_permits t.requests p progress.Closed 0) t.waiting t.admitted t.fresh t.moved t.being_admitted pending t.started h.numbers;
       others = h.others;
       notices = h.notices;
       life = h.life;
@@ -186,7 +186,7 @@ answer_apart b t p pending o calm tracked open_is apart told h =
           let j = awaited_in q link.queue i in
           let k = rising_in 0 (requests_in t.started ++ (queue ++ kept)) (length t.requests) q h.lines.line (in_right q (requests_in t.started) (queue ++ kept) (in_left q queue kept j)) in
           ((λ same. apart (in_right p rows queue (subst (λ m. IsIn m queue) (sym same) j))), k.1, i)) h.waits;
-      permits = permits_closed b.story (entered b (action.Outcome n o)).story t.table b.submissions t.requests t.link t.limit t.free t.letting p h.names l known (r.on open_is) r.permits_is (λ m other. closed_other b.story t.requests p closed m other)
+      permits = permits_closed b.story (entered b (action.Outcome n o)).story t.table b.submissions t.requests t.link t.limit t.free t.being_admitted p h.names l known (r.on open_is) r.permits_is (λ m other. closed_other b.story t.requests p closed m other)
           (ap (λ (s : Story). s.permits) own) (ap (λ (s : Story). s.link) own ∙ r.on open_is) h.permits;
       rounds = rounds_closed b.story t.requests t.fresh p closed l c h.rounds;
       early = early_closed t.requests t.again t.life p l h.early;

@@ -368,7 +368,7 @@ watching_done b t link h e fit held =
     ]
 
 -- on a link that takes requests what is in the queue is held back, those that wait for a place find it full, and the others no permit
-up_moves_none : (b : Book) (t : Inner) → Tied b t → IsRunning t → t.letting ≡ [] → ((link_in t.life).queue ≡ []) ⊎ (holds_back (link_in t.life) ≡ true) → (t.admitted ≡ []) ⊎ (is_full_beside (link_in t.life) (in_front t.renewal) ≡ true)
+up_moves_none : (b : Book) (t : Inner) → Tied b t → IsRunning t → t.being_admitted ≡ [] → ((link_in t.life).queue ≡ []) ⊎ (holds_back (link_in t.life) ≡ true) → (t.admitted ≡ []) ⊎ (is_full_beside (link_in t.life) (in_front t.renewal) ≡ true)
     → (t.waiting ≡ []) ⊎ (has_no_permit t.limit t.free ≡ true) → AreBegun t.rounds t.again t.life t.requests → (n : ℕ) → CanMove b n → ⊥
 up_moves_none b t h r nobody still full none begun n m =
     let l = moves_later b t n h r m in
@@ -388,7 +388,7 @@ up_moves_none b t h r nobody still full none begun n m =
     ]
 
 -- and where the rounds of all before it have begun, that of a request may begin
-pub first_round : (b : Book) (t : Inner) (p : ℕ) → Tied b t → IsRunning t → t.letting ≡ [] → ((link_in t.life).queue ≡ []) ⊎ (holds_back (link_in t.life) ≡ true) → (t.admitted ≡ []) ⊎ (is_full_beside (link_in t.life) (in_front t.renewal) ≡ true)
+pub first_round : (b : Book) (t : Inner) (p : ℕ) → Tied b t → IsRunning t → t.being_admitted ≡ [] → ((link_in t.life).queue ≡ []) ⊎ (holds_back (link_in t.life) ≡ true) → (t.admitted ≡ []) ⊎ (is_full_beside (link_in t.life) (in_front t.renewal) ≡ true)
     → (t.waiting ≡ []) ⊎ (has_no_permit t.limit t.free ≡ true) → p < length t.requests → ((m : ℕ) → m < p → is_unbegun_at t.requests m ≡ false) → IsFirstToMove b (name_at t.requests p)
 first_round b t p h r nobody still full none within begun n before m =
     let l = moves_later b t n h r m in
@@ -409,7 +409,7 @@ first_round b t p h r nobody still full none within begun n before m =
     ]
 
 -- where nothing is to be answered, nothing must end, nothing moves, and no generation begins
-pub is_moved : (b : Book) (t : Inner) → Tied b t → t.pending ≡ [] → IsToldIn t → t.letting ≡ [] → NoneEnds b → ((link : LinkState) → t.life ≡ Ready link → IsFit t.size t.bound link) → (serves t.life t.again ≡ false → t.admitted ≡ [])
+pub is_moved : (b : Book) (t : Inner) → Tied b t → t.pending ≡ [] → IsToldIn t → t.being_admitted ≡ [] → NoneEnds b → ((link : LinkState) → t.life ≡ Ready link → IsFit t.size t.bound link) → (serves t.life t.again ≡ false → t.admitted ≡ [])
     → ((link : LinkState) → t.life ≡ Ready link → (link.queue ≡ []) ⊎ (holds_back link ≡ true)) → ((link : LinkState) → t.life ≡ Ready link → (t.admitted ≡ []) ⊎ (is_full_beside link (in_front t.renewal) ≡ true))
     → ((link : LinkState) → t.life ≡ Ready link → is_outstanding t.again ≡ false → (t.waiting ≡ []) ⊎ (has_no_permit t.limit t.free ≡ true)) → (has_ended t.life ≡ true → t.waiting ≡ []) → IsHushedIn t → StaysPut b t.life
     → ((link : LinkState) (greeting : Greeting) → t.life ≡ SettingUp link greeting → IsFit t.size t.bound link) → ((link : LinkState) (greeting : Greeting) → t.life ≡ SettingUp link greeting → (link.queue ≡ []) ⊎ (holds_back link ≡ true))

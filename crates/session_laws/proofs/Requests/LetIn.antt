@@ -56,18 +56,18 @@ use Rattle.conn_laws.proofs.Changes.Kept.{took_conn}
 --
 -- the session where that request waits on, its round begun, and these are let in
 abbrev pub waits_on : Inner → ℕ → ℕ → ℕ → List Purpose → List ℕ → Inner
-waits_on t p count free timers letting = record t { requests = with_permits t.requests p progress.Begun count; free = free; timers = timers; letting = letting }
+waits_on t p count free timers being_admitted = record t { requests = with_permits t.requests p progress.Begun count; free = free; timers = timers; being_admitted = being_admitted }
 
 -- so it is with that request let in so far
 abbrev pub lets : Inner → ℕ → ℕ → ℕ → List Purpose → Inner
 lets t p count free timers = waits_on t p count free timers (p ∷ [])
 
 -- it is tied to the book with these stories and timers, where its waits, its permits and its rounds are
-pub waits_on_tied : (b : Book) (t : Inner) (p count free : ℕ) (g : ℕ → Story) (placed : ℕ → Option ℕ) (since : ℕ → ℕ) (noted timers : List Purpose) (letting : List ℕ) → serves t.life t.again ≡ true → is_waiting_at t.requests p ≡ true → AreEased b.story g (name_at t.requests p) → (g (name_at t.requests p)).permits ≡ count
-    → TiedNumbers (record b { story = g; timers = noted; placed = placed; since = since }) (waits_on t p count free timers letting) → (let requests = with_permits t.requests p progress.Begun count in
-    TiedWaits g requests t.again t.life t.fresh t.moved → TiedPermits g b.submissions requests t.link t.limit free letting → TiedRounds (has_generations b) g requests (serves t.life t.again) t.fresh t.rounds → Tied b t
-    → Tied (record b { story = g; timers = noted; placed = placed; since = since }) (waits_on t p count free timers letting))
-waits_on_tied b t p count free g placed since noted timers letting ready w eased has numbers waits permits rounds h = record {
+pub waits_on_tied : (b : Book) (t : Inner) (p count free : ℕ) (g : ℕ → Story) (placed : ℕ → Option ℕ) (since : ℕ → ℕ) (noted timers : List Purpose) (being_admitted : List ℕ) → serves t.life t.again ≡ true → is_waiting_at t.requests p ≡ true → AreEased b.story g (name_at t.requests p) → (g (name_at t.requests p)).permits ≡ count
+    → TiedNumbers (record b { story = g; timers = noted; placed = placed; since = since }) (waits_on t p count free timers being_admitted) → (let requests = with_permits t.requests p progress.Begun count in
+    TiedWaits g requests t.again t.life t.fresh t.moved → TiedPermits g b.submissions requests t.link t.limit free being_admitted → TiedRounds (has_generations b) g requests (serves t.life t.again) t.fresh t.rounds → Tied b t
+    → Tied (record b { story = g; timers = noted; placed = placed; since = since }) (waits_on t p count free timers being_admitted))
+waits_on_tied b t p count free g placed since noted timers being_admitted ready w eased has numbers waits permits rounds h = record {
   numbers = numbers;
   others = h.others;
   notices = h.notices;
@@ -95,13 +95,13 @@ waits_on_tied b t p count free g placed since noted timers letting ready w eased
 }
 
 -- so it is while it is let in
-let_tied : (b : Book) (t : Inner) (p count free : ℕ) (g : ℕ → Story) (placed : ℕ → Option ℕ) (since : ℕ → ℕ) (noted timers : List Purpose) → serves t.life t.again ≡ true → is_waiting_at t.requests p ≡ true → HasBegun t p → ((m : ℕ) → IsIn m t.letting → p ≡ m) → AreEased b.story g (name_at t.requests p) → AreStill b.story g
+let_tied : (b : Book) (t : Inner) (p count free : ℕ) (g : ℕ → Story) (placed : ℕ → Option ℕ) (since : ℕ → ℕ) (noted timers : List Purpose) → serves t.life t.again ≡ true → is_waiting_at t.requests p ≡ true → HasBegun t p → ((m : ℕ) → IsIn m t.being_admitted → p ≡ m) → AreEased b.story g (name_at t.requests p) → AreStill b.story g
     → (g (name_at t.requests p)).permits ≡ count → ((k : ℕ) → t.limit ≡ Some k → permits_held g t.link b.submissions + free ≡ k) → TiedNumbers (record b { story = g; timers = noted; placed = placed; since = since }) (lets t p count free timers) → Tied b t
     → Tied (record b { story = g; timers = noted; placed = placed; since = since }) (lets t p count free timers)
 let_tied b t p count free g placed since noted timers ready w begun alone eased still has sum numbers h =
     let o = waiting_open t.requests p w in
     waits_on_tied b t p count free g placed since noted timers (p ∷ []) ready w eased has numbers (waits_let b.story g t.requests t.again t.life t.fresh t.moved p count w still.waiting h.waits)
-    (permits_eased b.story g t.table b.submissions t.requests t.link t.limit t.free free t.letting p count h.names w alone eased sum h.permits)
+    (permits_eased b.story g t.table b.submissions t.requests t.link t.limit t.free free t.being_admitted p count h.names w alone eased sum h.permits)
     (rounds_with b.story g t.requests t.fresh p progress.Begun count (there_within is_waiting t.requests p w) refl still.rounded (λ shows unclosed. h.rounds.begun p shows o (begun shows)) h.rounds) h
 
 -- whose step is first
@@ -177,7 +177,7 @@ taken_some free Confirmation k some = let no_zero : free ≢ 0 = some in (omega 
 taken_some free (Pipeline offset count transaction) k some = let no_zero : free ≢ 0 = some in (omega arith, omega arith)
 
 -- it may take them
-may_take : (b : Book) (t : Inner) (link : LinkState) (q : Waiting) (qs : List Waiting) (k : ℕ) → IsOpening t link q qs → t.letting ≡ [] → t.limit ≡ Some k → t.free ≢ 0 → Tied b t → NoneEnds b
+may_take : (b : Book) (t : Inner) (link : LinkState) (q : Waiting) (qs : List Waiting) (k : ℕ) → IsOpening t link q qs → t.being_admitted ≡ [] → t.limit ≡ Some k → t.free ≢ 0 → Tied b t → NoneEnds b
     → MayTake b (name_at t.requests q.number) t.link (min t.free (permits_for q.shape k))
 may_take b t link q qs k o alone e some h ends =
     let p = q.number in
@@ -206,7 +206,7 @@ still_at f n c waits rounds = record {
 }
 
 -- what it takes is shown
-take_tied : (b : Book) (t : Inner) (p count : ℕ) → serves t.life t.again ≡ true → is_waiting_at t.requests p ≡ true → HasBegun t p → t.letting ≡ [] → count ≤ t.free → Tied b t
+take_tied : (b : Book) (t : Inner) (p count : ℕ) → serves t.life t.again ≡ true → is_waiting_at t.requests p ≡ true → HasBegun t p → t.being_admitted ≡ [] → count ≤ t.free → Tied b t
     → Tied (entered b (action.Took (owner.Try (name_at t.requests p) 0) t.link count)) (lets t p count (t.free - count) t.timers)
 take_tied b t p count ready w begun alone most h =
     let n = name_at t.requests p in
@@ -229,7 +229,7 @@ take_tied b t p count ready w begun alone most h =
     (numbers_kept b b.link g b.tracked b.errors (entered b taken).placed b.since t t.life (t.free - count) (with_permits t.requests p progress.Begun count) t.waiting t.admitted t.fresh t.moved (p ∷ []) t.pending t.started h.numbers) h
 
 -- where permits aren't counted nothing is
-free_tied : (b : Book) (t : Inner) (p : ℕ) → serves t.life t.again ≡ true → is_waiting_at t.requests p ≡ true → HasBegun t p → t.letting ≡ [] → t.limit ≡ None → Tied b t → Tied b (lets t p 0 (t.free - 0) t.timers)
+free_tied : (b : Book) (t : Inner) (p : ℕ) → serves t.life t.again ≡ true → is_waiting_at t.requests p ≡ true → HasBegun t p → t.being_admitted ≡ [] → t.limit ≡ None → Tied b t → Tied b (lets t p 0 (t.free - 0) t.timers)
 free_tied b t p ready w begun alone e h =
     let n = name_at t.requests p in
     let within = there_within is_waiting t.requests p w in
@@ -265,7 +265,7 @@ may_time b t link q qs number ms o h ends counted has time none =
     }
 
 -- and is
-ask_tied : (b : Book) (t : Inner) (p number ms : ℕ) → serves t.life t.again ≡ true → is_waiting_at t.requests p ≡ true → HasBegun t p → ((m : ℕ) → IsIn m t.letting → p ≡ m) → Tied b t
+ask_tied : (b : Book) (t : Inner) (p number ms : ℕ) → serves t.life t.again ≡ true → is_waiting_at t.requests p ≡ true → HasBegun t p → ((m : ℕ) → IsIn m t.being_admitted → p ≡ m) → Tied b t
     → Tied (entered b (action.Timer number ms (purpose.Response (owner.Try (name_at t.requests p) 0)))) (lets t p (permits_at t.requests p) t.free (t.timers ++ purpose.Response (owner.Try (name_at t.requests p) 0) ∷ []))
 ask_tied b t p number ms ready w begun alone h =
     let n = name_at t.requests p in

@@ -156,11 +156,11 @@ round_tied b t p ready shows u h =
     let w = unbegun_waits requests p u in
     let g = rounds_at n b.story in
     let holding = λ (m : ℕ). chosen (IsHolding (b.story m)) (n == m) (rounds (b.story m)) (b.story m) (λ t1. record { link = refl; permits = refl; timeout = refl; clock = refl }) (λ f. holding_same (b.story m)) in
-    waits_on_tied b t p (permits_at requests p) t.free g (entered b (round_action t p)).placed b.since b.timers t.timers t.letting ready w (round_eased b.story n)
+    waits_on_tied b t p (permits_at requests p) t.free g (entered b (round_action t p)).placed b.since b.timers t.timers t.being_admitted ready w (round_eased b.story n)
     (ap (λ (s : Story). s.permits) (round_own b.story n) ∙ (request_story b t p h (there_within is_waiting requests p w)).permits_is)
-    (numbers_kept b b.link g b.tracked b.errors (entered b (round_action t p)).placed b.since t t.life t.free (at_progress requests p progress.Begun) t.waiting t.admitted t.fresh t.moved t.letting t.pending t.started h.numbers)
+    (numbers_kept b b.link g b.tracked b.errors (entered b (round_action t p)).placed b.since t t.life t.free (at_progress requests p progress.Begun) t.waiting t.admitted t.fresh t.moved t.being_admitted t.pending t.started h.numbers)
     (round_waits b t p h ready u (h.rounds.new p shows ready u))
-    (round_permits g b.submissions requests t.link t.limit t.free t.letting p w (permits_same b.story g b.submissions requests t.link t.limit t.free t.letting holding h.permits))
+    (round_permits g b.submissions requests t.link t.limit t.free t.being_admitted p w (permits_same b.story g b.submissions requests t.link t.limit t.free t.being_admitted holding h.permits))
     (round_rounds b t p h u) h
 
 -- it may stand, where its step is the first

@@ -73,7 +73,7 @@ seen f acts conn pending started = record {
   fresh = conn.fresh;
   moved = conn.moved;
   rounds = conn.rounds;
-  letting = [];
+  being_admitted = [];
   pending = pending;
   started = started;
 }

@@ -248,7 +248,7 @@ start_tied b t link q qs h =
       lines = lines_started b.story t.requests link t.waiting t.admitted t.started q qs t.link link.started other h.lines;
       told = λ e. told_started b t link q qs t.link link.started (h.told refl);
       waits = waits_started b t link q qs t.link link.started h;
-      permits = permits_same b.story (tried_at n t.link link.started b.story) b.submissions t.requests t.link t.limit t.free t.letting (tried_holds n t.link link.started b.story) h.permits;
+      permits = permits_same b.story (tried_at n t.link link.started b.story) b.submissions t.requests t.link t.limit t.free t.being_admitted (tried_holds n t.link link.started b.story) h.permits;
       rounds = rounds_same b.story (tried_at n t.link link.started b.story) t.requests t.fresh (tried_rounds n t.link link.started b.story) h.rounds;
       early = λ unserved alive. absurd (let no : q ∷ qs ≡ [] = (h.early unserved alive).empty in cc);
       late = λ p o e. h.late p o (sym (tried_late n t.link link.started b.story (name_at t.requests p)) ∙ e);

@@ -103,7 +103,7 @@ wait_tied b t p kind moved fresh within h new waits =
     let same = waits_submissions n kind b.story in
     let answers = waits_outcomes n kind b.story in
     record {
-      numbers = numbers_kept b b.link after b.tracked b.errors (entered b (wait_action n kind)).placed b.since t t.life t.free t.requests t.waiting t.admitted fresh moved t.letting t.pending t.started h.numbers;
+      numbers = numbers_kept b b.link after b.tracked b.errors (entered b (wait_action n kind)).placed b.since t t.life t.free t.requests t.waiting t.admitted fresh moved t.being_admitted t.pending t.started h.numbers;
       others = h.others;
       notices = h.notices;
       life = h.life;
@@ -129,7 +129,7 @@ wait_tied b t p kind moved fresh within h new waits =
       };
       told = λ up. queued_still b.story after t.requests t.link (link_in t.life) same answers (waits_tries n kind b.story) (λ m. sym (waits_holding n kind b.story m).link) (h.told up);
       waits = waits;
-      permits = permits_same b.story after b.submissions t.requests t.link t.limit t.free t.letting (waits_holding n kind b.story) h.permits;
+      permits = permits_same b.story after b.submissions t.requests t.link t.limit t.free t.being_admitted (waits_holding n kind b.story) h.permits;
       rounds = rounds_new after t.requests t.fresh fresh new (rounds_same b.story after t.requests t.fresh (waits_rounds n kind b.story) h.rounds);
       early = h.early;
       late = λ q o late. h.late q o (sym (waits_late n kind b.story (name_at t.requests q)) ∙ late);
@@ -138,7 +138,7 @@ wait_tied b t p kind moved fresh within h new waits =
 -- a session whose event has had its effect, and in which nothing moves
 pub record IsQuiet (t : Inner) : Type 0 where
   pub settled : t.pending ≡ []
-  pub alone : t.letting ≡ []
+  pub alone : t.being_admitted ≡ []
   pub fit : (link : LinkState) → t.life ≡ Ready link → IsFit t.size t.bound link
   pub setup_fit : (link : LinkState) (greeting : Greeting) → t.life ≡ SettingUp link greeting → IsFit t.size t.bound link
   pub none : serves t.life t.again ≡ false → t.admitted ≡ []

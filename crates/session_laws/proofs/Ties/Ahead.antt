@@ -350,7 +350,7 @@ free_is : (b : Book) (t : Inner) (k : ℕ) → Tied b t → t.limit ≡ Some k �
 free_is b t k h e = let sum = h.permits.counted k e in omega arith
 
 -- where permits are counted, it takes some, or waits for one
-early_step : (b : Book) (t : Inner) (p k : ℕ) → Tied b t → IsRunning t → is_waiting_at t.requests p ≡ true → HasBegun t p → (IsIn p t.letting → ⊥) → t.limit ≡ Some k
+early_step : (b : Book) (t : Inner) (p k : ℕ) → Tied b t → IsRunning t → is_waiting_at t.requests p ≡ true → HasBegun t p → (IsIn p t.being_admitted → ⊥) → t.limit ≡ Some k
     → next_step b (name_at t.requests p) ≡ step_taking t.free (permits_for (shape (b.story (name_at t.requests p))) k)
 early_step b t p k h r w begun out e =
     let n = name_at t.requests p in
@@ -366,7 +366,7 @@ early_step b t p k h r w begun out e =
     ∙ ap (λ f. step_taking f (permits_for (shape s) k)) (free_is b t k h e)
 
 -- it waits for one where none is free
-pub permit_step : (b : Book) (t : Inner) (p : ℕ) → Tied b t → IsRunning t → is_waiting_at t.requests p ≡ true → HasBegun t p → (IsIn p t.letting → ⊥) → has_no_permit t.limit t.free ≡ true → next_step b (name_at t.requests p) ≡ waits wait.Permit
+pub permit_step : (b : Book) (t : Inner) (p : ℕ) → Tied b t → IsRunning t → is_waiting_at t.requests p ≡ true → HasBegun t p → (IsIn p t.being_admitted → ⊥) → has_no_permit t.limit t.free ≡ true → next_step b (name_at t.requests p) ≡ waits wait.Permit
 permit_step b t p h r w begun out none = by_limit t.limit refl none
   where
     by_limit : (x : Option ℕ) → t.limit ≡ x → has_no_permit x t.free ≡ true → next_step b (name_at t.requests p) ≡ waits wait.Permit
@@ -374,7 +374,7 @@ permit_step b t p h r w begun out none = by_limit t.limit refl none
     by_limit (Some k) e n = early_step b t p k h r w begun out e ∙ ap (λ f. step_taking f (permits_for (shape (b.story (name_at t.requests p))) k)) (eq_from t.free 0 n)
 
 -- and takes some where some are
-pub take_step : (b : Book) (t : Inner) (p k : ℕ) → Tied b t → IsRunning t → is_waiting_at t.requests p ≡ true → HasBegun t p → (IsIn p t.letting → ⊥) → t.limit ≡ Some k → t.free ≢ 0
+pub take_step : (b : Book) (t : Inner) (p k : ℕ) → Tied b t → IsRunning t → is_waiting_at t.requests p ≡ true → HasBegun t p → (IsIn p t.being_admitted → ⊥) → t.limit ≡ Some k → t.free ≢ 0
     → next_step b (name_at t.requests p) ≡ takes (min t.free (permits_for (shape (b.story (name_at t.requests p))) k))
 take_step b t p k h r w begun out e some = early_step b t p k h r w begun out e ∙ taking_is t.free (permits_for (shape (b.story (name_at t.requests p))) k) some
   where

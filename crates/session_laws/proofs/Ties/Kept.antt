@@ -36,7 +36,7 @@ pub record TiedBy (b : Book) (t : Inner) (l : Ledger) : Type 0 where
   pub lines : TiedLines b.story t.requests (link_in t.life) t.waiting t.admitted t.pending t.started
   pub told : has_ended t.life ≡ false → AreQueued b.story t.requests t.link (link_in t.life)
   pub waits : TiedWaits b.story t.requests t.again t.life t.fresh t.moved
-  pub permits : TiedPermits b.story b.submissions t.requests t.link t.limit t.free t.letting
+  pub permits : TiedPermits b.story b.submissions t.requests t.link t.limit t.free t.being_admitted
   pub rounds : TiedRounds (has_generations b) b.story t.requests (serves t.life t.again) t.fresh t.rounds
   pub early : AreEarly t.requests t.again t.life
   pub late : AreLate b.story t.requests t.pending

@@ -79,7 +79,7 @@ pub record Inner : Type 0 where
   pub fresh : List ℕ
   pub moved : List ℕ
   pub rounds : Bool
-  pub letting : List ℕ
+  pub being_admitted : List ℕ
   pub pending : List ℕ
   pub started : List ℕ
 
@@ -217,7 +217,7 @@ pub record Tied (b : Book) (t : Inner) : Type 0 where
   pub lines : TiedLines b.story t.requests (link_in t.life) t.waiting t.admitted t.pending t.started
   pub told : has_ended t.life ≡ false → AreQueued b.story t.requests t.link (link_in t.life)
   pub waits : TiedWaits b.story t.requests t.again t.life t.fresh t.moved
-  pub permits : TiedPermits b.story b.submissions t.requests t.link t.limit t.free t.letting
+  pub permits : TiedPermits b.story b.submissions t.requests t.link t.limit t.free t.being_admitted
   pub rounds : TiedRounds (has_generations b) b.story t.requests (serves t.life t.again) t.fresh t.rounds
   pub early : AreEarly t.requests t.again t.life
   pub late : AreLate b.story t.requests t.pending
@@ -253,7 +253,7 @@ pub record IsRetiring (b : Book) (t : Inner) : Type 0 where
   pub started : t.started ≡ []
   pub fresh : t.fresh ≡ waiting_ids t.waiting
   pub free : t.free ≡ unwrap_or t.limit 0
-  pub letting : t.letting ≡ []
+  pub being_admitted : t.being_admitted ≡ []
   pub rounds_is : has_generations b ≡ t.rounds
   pub waiting : (p : ℕ) → is_open_at t.requests p ≡ true → is_unbegun_at t.requests p ≡ true
   pub holds : (p : ℕ) → is_open_at t.requests p ≡ true → (permits_at t.requests p ≡ 0) × ((b.story (name_at t.requests p)).clock ≡ None)
@@ -302,15 +302,15 @@ inner c started = record {
   fresh = c.single.connection.fresh;
   moved = c.single.connection.moved;
   rounds = c.single.connection.rounds;
-  letting = [];
+  being_admitted = [];
   pending = [];
   started = started;
 }
 
 -- the numbers, where only links, stories, what is subscribed, errors, since when places are had and new credentials are due, and the connection change
-pub numbers_kept : (b : Book) (link : ℕ → Ledger) (story : ℕ → Story) (tracked : List Call) (errors : List RedisError) (placed : ℕ → Option ℕ) (since : ℕ → ℕ) (t : Inner) (life : Life) (free : ℕ) (requests : List Request) (waiting admitted : List Waiting) (fresh moved letting pending started : List ℕ) → TiedNumbers b t
-    → TiedNumbers (record b { link = link; story = story; tracked = tracked; errors = errors; placed = placed; since = since }) (record t { life = life; free = free; requests = requests; waiting = waiting; admitted = admitted; fresh = fresh; moved = moved; letting = letting; pending = pending; started = started })
-numbers_kept b link story tracked errors placed since t life free requests waiting admitted fresh moved letting pending started h = record {
+pub numbers_kept : (b : Book) (link : ℕ → Ledger) (story : ℕ → Story) (tracked : List Call) (errors : List RedisError) (placed : ℕ → Option ℕ) (since : ℕ → ℕ) (t : Inner) (life : Life) (free : ℕ) (requests : List Request) (waiting admitted : List Waiting) (fresh moved being_admitted pending started : List ℕ) → TiedNumbers b t
+    → TiedNumbers (record b { link = link; story = story; tracked = tracked; errors = errors; placed = placed; since = since }) (record t { life = life; free = free; requests = requests; waiting = waiting; admitted = admitted; fresh = fresh; moved = moved; being_admitted = being_admitted; pending = pending; started = started })
+numbers_kept b link story tracked errors placed since t life free requests waiting admitted fresh moved being_admitted pending started h = record {
   turns = h.turns;
   links = h.links;
   timers = h.timers;
@@ -342,7 +342,7 @@ pub relined : (b : Book) (t : Inner) (waiting admitted : List Waiting) (fresh mo
     → TiedRounds (has_generations b) b.story t.requests (serves t.life t.again) fresh t.rounds → AreLate b.story t.requests pending
     → Tied b (record t { waiting = waiting; admitted = admitted; fresh = fresh; moved = moved; pending = pending })
 relined b t waiting admitted fresh moved pending h lines waits rounds late = record {
-  numbers = numbers_kept b b.link b.story b.tracked b.errors b.placed b.since t t.life t.free t.requests waiting admitted fresh moved t.letting pending t.started h.numbers;
+  numbers = numbers_kept b b.link b.story b.tracked b.errors b.placed b.since t t.life t.free t.requests waiting admitted fresh moved t.being_admitted pending t.started h.numbers;
   others = h.others;
   notices = h.notices;
   life = h.life;
