@@ -22,7 +22,7 @@ use Rattle.conn_laws.proofs.Ties.Numbers.{IsIn}
 use Rattle.conn_laws.proofs.Ties.Owes.{lives}
 use Rattle.session_laws.proofs.Ties.Owes.{not_empty, request_story}
 use Rattle.conn_laws.proofs.Ties.Tied.{IsRequest, has_ended}
-use Rattle.session_laws.proofs.Ties.Tied.{AreCalm, Inner, StaysCalm, Tied}
+use Rattle.session_laws.proofs.Ties.Tied.{AreCalm, TurnState, StaysCalm, Tied}
 
 -- lists
 --
@@ -75,7 +75,7 @@ late_calm : (o : Outcome) → IsCalm (Some (outcome.Fault (error.Io kinds.TimedO
 late_calm o e = let same : outcome.Fault (error.Io kinds.TimedOut) ≡ o = cc in subst (λ (x : Outcome). AreCalm (faults_in x)) same refl
 
 -- so no answer to an open request is
-pub owed_calm : (b : Book) (t : Inner) (p : ℕ) (o : Outcome) → Tied b t → is_open_at t.requests p ≡ true → has_ended t.life ≡ false → t.shut ≡ false → IsCalm (owed b (name_at t.requests p)) o
+pub owed_calm : (b : Book) (t : TurnState) (p : ℕ) (o : Outcome) → Tied b t → is_open_at t.requests p ≡ true → has_ended t.life ≡ false → t.shut ≡ false → IsCalm (owed b (name_at t.requests p)) o
 owed_calm b t p o h e up open_still =
     subst (λ (x : Option Outcome). IsCalm x o) (sym (left_if s.late _ _ r.in_time ∙ left_if s.unspoken _ _ r.spoken ∙ left_if (length (bytes_of s) == 0) _ _ (not_empty (bytes_of s) r.some)))
     (chosen (λ (x : Option Outcome). IsCalm x o) s.overdue (Some (outcome.Fault (error.Io kinds.TimedOut))) (owed_to_try b s (last_of s.tries)) (λ t. late_calm o) (λ f. by_start (in_or_not p t.started)))

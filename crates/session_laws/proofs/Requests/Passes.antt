@@ -45,15 +45,15 @@ use Rattle.conn_laws.proofs.Requests.Starts.{each_fit, each_held, shown_is, show
 use Rattle.session_laws.proofs.Requests.Starts.{each_going, shows_sources, shows_timers}
 use Rattle.conn_laws.proofs.Ties.States.{IsFit}
 use Rattle.conn_laws.proofs.Ties.Tied.{queue_ids, waiting_ids, link_in}
-use Rattle.session_laws.proofs.Ties.Tied.{Inner, Tied}
+use Rattle.session_laws.proofs.Ties.Tied.{TurnState, Tied}
 use Rattle.conn_laws.proofs.Requests.Passes.{AreAmong, entering, fit_enqueued, found_full, free_link, let_in_is, being_admitted, order_next, renewed_enqueued, seated_keeps, seated_once, seats_enqueued}
 
 -- the session with this connection, of which these wait for a place, and these for the connection, when these acts are shown
-abbrev pub moving : Core → List LinkAct → MultiplexedConnection → List Waiting → List Waiting → List ℕ → Inner
+abbrev pub moving : Core → List LinkAct → MultiplexedConnection → List Waiting → List Waiting → List ℕ → TurnState
 moving f acts conn admitted waiting started = seen f acts (record conn { admitted = admitted; waiting = waiting }) [] started
 
 -- the same while this one is being let in
-abbrev pub admitting_in : Core → List LinkAct → MultiplexedConnection → List Waiting → List Waiting → List ℕ → List ℕ → Inner
+abbrev pub admitting_in : Core → List LinkAct → MultiplexedConnection → List Waiting → List Waiting → List ℕ → List ℕ → TurnState
 admitting_in f acts conn admitted waiting being_admitted started = record (moving f acts conn admitted waiting started) { being_admitted = being_admitted }
 
 -- a connection that is up, between two moves: what is in its queue is held back, if anything is; these wait still for
@@ -100,7 +100,7 @@ up_going before f w admitted waiting being_admitted next h = subst (λ (x : Life
 -- one takes its place
 --
 -- where nobody awaits its reply it may be told
-tell_may : (b : Book) (t : Inner) (link : LinkState) (q : Waiting) (waiting admitted : List Waiting) → q.awaited ≡ false → IsFit t.size t.bound link → HasSeats t.moved (in_front t.renewal) link t.size → (link.queue ≡ []) ⊎ (holds_back link ≡ true) → is_full_beside link (in_front t.renewal) ≡ false
+tell_may : (b : Book) (t : TurnState) (link : LinkState) (q : Waiting) (waiting admitted : List Waiting) → q.awaited ≡ false → IsFit t.size t.bound link → HasSeats t.moved (in_front t.renewal) link t.size → (link.queue ≡ []) ⊎ (holds_back link ≡ true) → is_full_beside link (in_front t.renewal) ≡ false
     → IsNext b.story t.requests t.limit t.being_admitted t.moved t.waiting t.admitted q waiting admitted → is_outstanding t.again ≡ false → Tied b (on_link t link) → NoneEnds b → HasRenewed t.renewal (Ready link) → MayTell b (name_at t.requests q.number) (outcome.One Nil)
 tell_may b t link q waiting admitted not_awaited fit seats held room next served h ends renewed =
     let was = on_link t link in
@@ -118,7 +118,7 @@ tell_may b t link q waiting admitted not_awaited fit seats held room next served
     }
 
 -- it is, and has its place
-told_going : (trace : List Action) (t : Inner) (link : LinkState) (q : Waiting) (waiting admitted : List Waiting) → q.awaited ≡ false → IsFit t.size t.bound link → HasSeats t.moved (in_front t.renewal) link t.size → (link.queue ≡ []) ⊎ (holds_back link ≡ true) → is_full_beside link (in_front t.renewal) ≡ false
+told_going : (trace : List Action) (t : TurnState) (link : LinkState) (q : Waiting) (waiting admitted : List Waiting) → q.awaited ≡ false → IsFit t.size t.bound link → HasSeats t.moved (in_front t.renewal) link t.size → (link.queue ≡ []) ⊎ (holds_back link ≡ true) → is_full_beside link (in_front t.renewal) ≡ false
     → IsNext (book trace).story t.requests t.limit t.being_admitted t.moved t.waiting t.admitted q waiting admitted → IsGoing trace (on_link t link)
     → IsGoing (trace ++ action.Outcome (name_at t.requests q.number) (outcome.One Nil) ∷ []) (with_told t link q waiting admitted)
 told_going trace t link q waiting admitted not_awaited fit seats held room next h =
@@ -129,7 +129,7 @@ told_going trace t link q waiting admitted not_awaited fit seats held room next 
     h.ended (renewed_enqueued t.renewal link (message_of q) h.renewed) (λ up. h.served refl)
 
 -- one whose reply is awaited has its place
-placed_going : (trace : List Action) (t : Inner) (link : LinkState) (q : Waiting) (waiting admitted : List Waiting) → q.awaited ≡ true → IsNext (book trace).story t.requests t.limit t.being_admitted t.moved t.waiting t.admitted q waiting admitted → IsGoing trace (on_link t link)
+placed_going : (trace : List Action) (t : TurnState) (link : LinkState) (q : Waiting) (waiting admitted : List Waiting) → q.awaited ≡ true → IsNext (book trace).story t.requests t.limit t.being_admitted t.moved t.waiting t.admitted q waiting admitted → IsGoing trace (on_link t link)
     → IsGoing trace (with_place t link q waiting admitted)
 placed_going trace t link q waiting admitted yes_awaited next h = record {
   sound = record { stands = h.sound.stands; tied = place_tied (book trace) t link q waiting admitted yes_awaited next (h.served refl) h.sound.tied };
@@ -174,7 +174,7 @@ told_up before f w q was_admitted was_waiting admitted waiting being_admitted ne
     let twice : with_permits w.conn.requests p progress.Closed 0 ≡ with_permits placed p progress.Closed 0 = sym (permits_twice w.conn.requests p progress.Placed progress.Closed (permits_at w.conn.requests p) 0) in
     let back : given_back w.conn.limit w.conn.free (permits_at w.conn.requests p) ≡ given_back w.conn.limit w.conn.free (permits_at placed p) = ap (given_back w.conn.limit w.conn.free) (sym (permits_still w.conn.requests p p progress.Placed within)) in
     let acts = w.acts ++ a ∷ [] in
-    let closed_one : Inner = record after { requests = with_permits placed p progress.Closed 0; free = given_back w.conn.limit w.conn.free (permits_at placed p) } in
+    let closed_one : TurnState = record after { requests = with_permits placed p progress.Closed 0; free = given_back w.conn.limit w.conn.free (permits_at placed p) } in
     let here = subst (IsGoing (trace_of_acts before f acts)) (quiet_asks f closed_one w.acts a refl refl)
     (subst (λ n. IsGoing (trace_of_acts before f acts) (record after { requests = with_permits placed p progress.Closed 0; free = n })) back (subst (λ (x : List Request). IsGoing (trace_of_acts before f acts) (record after { requests = x })) twice there)) in
     let order = subst (λ (x : List Request). Rising 0 ((w.conn.moved ++ p ∷ []) ++ next) (length x)) twice (subst (λ n. Rising 0 ((w.conn.moved ++ p ∷ []) ++ next) n) (length_still w.conn.requests p progress.Placed ∙ sym (length_with w.conn.requests p progress.Closed 0)) (order_next w.conn.moved p next w.conn.requests progress.Placed h.order)) in

@@ -39,7 +39,7 @@ use Rattle.session_laws.proofs.Requests.Rounded.{rounds_closed}
 use Rattle.conn_laws.proofs.Requests.Start.{not_setting, not_wanting}
 use Rattle.session_laws.proofs.Requests.Start.{on_link}
 use Rattle.conn_laws.proofs.Ties.Tied.{IsOf, IsPacked, IsQueued, owner_of, queue_ids, shown_wait, waiting_ids}
-use Rattle.session_laws.proofs.Ties.Tied.{Inner, Tied, relined, numbers_kept}
+use Rattle.session_laws.proofs.Ties.Tied.{TurnState, Tied, relined, numbers_kept}
 use Rattle.conn_laws.proofs.Ties.Ahead.{admitted_open, early_open}
 use Rattle.session_laws.proofs.Managers.Calm.{calm_more}
 use Rattle.conn_laws.proofs.Requests.Place.{IsNext, entries_further, late_further, line_next, line_without, lines_enqueued, lines_further, lines_next, next_apart, open_further, packs_further, queue_ids-push, queued_further, shown_early, shown_further, story_further, told_further, tries_further, waits_admitted, waits_enqueued, waits_placed}
@@ -47,7 +47,7 @@ use Rattle.conn_laws.proofs.Requests.Place.{IsNext, entries_further, late_furthe
 -- those that wait no longer are passed over
 --
 -- where it doesn't wait for one
-pub passed_admitted : (b : Book) (t : Inner) (link : LinkState) (q : Waiting) (qs : List Waiting) → is_admitted_at t.requests q.number ≡ false → Tied b (record (on_link t link) { admitted = q ∷ qs }) → Tied b (record (on_link t link) { admitted = qs })
+pub passed_admitted : (b : Book) (t : TurnState) (link : LinkState) (q : Waiting) (qs : List Waiting) → is_admitted_at t.requests q.number ≡ false → Tied b (record (on_link t link) { admitted = q ∷ qs }) → Tied b (record (on_link t link) { admitted = qs })
 passed_admitted b t link q qs gone h =
     relined b (record (on_link t link) { admitted = q ∷ qs }) t.waiting qs t.fresh t.moved [] h (record {
       line = line_without (requests_in t.started) (queue_ids link.queue) q qs t.waiting (length t.requests) h.lines.line;
@@ -65,7 +65,7 @@ passed_admitted b t link q qs gone h =
     }) h.waits h.rounds h.late
 
 -- or for the connection
-pub passed_waiting : (b : Book) (t : Inner) (link : LinkState) (q : Waiting) (qs : List Waiting) → is_waiting_at t.requests q.number ≡ false → Tied b (record (on_link t link) { waiting = q ∷ qs }) → Tied b (record (on_link t link) { waiting = qs })
+pub passed_waiting : (b : Book) (t : TurnState) (link : LinkState) (q : Waiting) (qs : List Waiting) → is_waiting_at t.requests q.number ≡ false → Tied b (record (on_link t link) { waiting = q ∷ qs }) → Tied b (record (on_link t link) { waiting = qs })
 passed_waiting b t link q qs gone h =
     let hi = length t.requests in
     let queue = queue_ids link.queue in
@@ -91,7 +91,7 @@ passed_waiting b t link q qs gone h =
 -- the next that is moved
 --
 -- it is the first of those that wait for a place
-pub next_admitted : (b : Book) (t : Inner) (link : LinkState) (q : Waiting) (qs : List Waiting) → is_admitted_at t.requests q.number ≡ true → Rising 0 (t.moved ++ q.number ∷ []) (length t.requests) → Tied b (record (on_link t link) { admitted = q ∷ qs; being_admitted = [] })
+pub next_admitted : (b : Book) (t : TurnState) (link : LinkState) (q : Waiting) (qs : List Waiting) → is_admitted_at t.requests q.number ≡ true → Rising 0 (t.moved ++ q.number ∷ []) (length t.requests) → Tied b (record (on_link t link) { admitted = q ∷ qs; being_admitted = [] })
     → IsNext b.story t.requests t.limit [] t.moved t.waiting (q ∷ qs) q t.waiting qs
 next_admitted b t link q qs a last h = record {
   open_at = (admitted_open t.requests q.number a).0;
@@ -111,7 +111,7 @@ next_admitted b t link q qs a last h = record {
 }
 
 -- or of those that wait for the connection, where none waits for a place, and it is being let in
-pub next_waiting : (b : Book) (t : Inner) (link : LinkState) (q : Waiting) (qs : List Waiting) → is_waiting_at t.requests q.number ≡ true → is_unbegun_at t.requests q.number ≡ false → is_let_in t.limit (b.story (name_at t.requests q.number)) ≡ true → Rising 0 (t.moved ++ q.number ∷ []) (length t.requests)
+pub next_waiting : (b : Book) (t : TurnState) (link : LinkState) (q : Waiting) (qs : List Waiting) → is_waiting_at t.requests q.number ≡ true → is_unbegun_at t.requests q.number ≡ false → is_let_in t.limit (b.story (name_at t.requests q.number)) ≡ true → Rising 0 (t.moved ++ q.number ∷ []) (length t.requests)
     → Tied b (record (on_link t link) { admitted = []; waiting = q ∷ qs; being_admitted = q.number ∷ [] }) → IsNext b.story t.requests t.limit (q.number ∷ []) t.moved (q ∷ qs) [] q qs []
 next_waiting b t link q qs w begun is last h = record {
   open_at = waiting_open t.requests q.number w;
@@ -133,7 +133,7 @@ next_waiting b t link q qs w begun is last h = record {
 -- the session
 --
 -- with the request in its place, where these wait still
-abbrev pub with_place : Inner → LinkState → Waiting → List Waiting → List Waiting → Inner
+abbrev pub with_place : TurnState → LinkState → Waiting → List Waiting → List Waiting → TurnState
 with_place t link q waiting admitted = record (on_link t (enqueued link (message_of q))) {
   requests = at_progress t.requests q.number progress.Placed;
   waiting = waiting;
@@ -143,7 +143,7 @@ with_place t link q waiting admitted = record (on_link t (enqueued link (message
 }
 
 -- and with one that is answered at its place, and gives its permits back
-abbrev pub with_told : Inner → LinkState → Waiting → List Waiting → List Waiting → Inner
+abbrev pub with_told : TurnState → LinkState → Waiting → List Waiting → List Waiting → TurnState
 with_told t link q waiting admitted = record (on_link t (enqueued link (message_of q))) {
   free = given_back t.limit t.free (permits_at t.requests q.number);
   requests = with_permits t.requests q.number progress.Closed 0;
@@ -159,7 +159,7 @@ awaited_only true p n e i = i
 awaited_only false p n e i = cc
 
 -- one whose reply is awaited has its place
-pub place_tied : (b : Book) (t : Inner) (link : LinkState) (q : Waiting) (waiting admitted : List Waiting) → q.awaited ≡ true → IsNext b.story t.requests t.limit t.being_admitted t.moved t.waiting t.admitted q waiting admitted → is_outstanding t.again ≡ false → Tied b (on_link t link)
+pub place_tied : (b : Book) (t : TurnState) (link : LinkState) (q : Waiting) (waiting admitted : List Waiting) → q.awaited ≡ true → IsNext b.story t.requests t.limit t.being_admitted t.moved t.waiting t.admitted q waiting admitted → is_outstanding t.again ≡ false → Tied b (on_link t link)
     → Tied b (with_place t link q waiting admitted)
 place_tied b t link q waiting admitted yes_awaited next none h =
     let p = q.number in
@@ -215,7 +215,7 @@ place_tied b t link q waiting admitted yes_awaited next none h =
     }
 
 -- it is none of the link
-apart_from_link : (b : Book) (t : Inner) (link : LinkState) (q : Waiting) (waiting admitted : List Waiting) → IsNext b.story t.requests t.limit t.being_admitted t.moved t.waiting t.admitted q waiting admitted → Tied b (on_link t link)
+apart_from_link : (b : Book) (t : TurnState) (link : LinkState) (q : Waiting) (waiting admitted : List Waiting) → IsNext b.story t.requests t.limit t.being_admitted t.moved t.waiting t.admitted q waiting admitted → Tied b (on_link t link)
     → IsIn q.number (wanted link.row ++ queue_ids link.queue) → ⊥
 apart_from_link b t link q waiting admitted next h i =
     let p = q.number in
@@ -233,7 +233,7 @@ apart_from_link b t link q waiting admitted next h i =
     ]
 
 -- one whose reply nobody awaits has its place, and is answered there
-pub tell_tied : (b : Book) (t : Inner) (link : LinkState) (q : Waiting) (waiting admitted : List Waiting) → q.awaited ≡ false → IsNext b.story t.requests t.limit t.being_admitted t.moved t.waiting t.admitted q waiting admitted → is_outstanding t.again ≡ false → Tied b (on_link t link)
+pub tell_tied : (b : Book) (t : TurnState) (link : LinkState) (q : Waiting) (waiting admitted : List Waiting) → q.awaited ≡ false → IsNext b.story t.requests t.limit t.being_admitted t.moved t.waiting t.admitted q waiting admitted → is_outstanding t.again ≡ false → Tied b (on_link t link)
     → Tied (entered b (action.Outcome (name_at t.requests q.number) (outcome.One Nil))) (with_told t link q waiting admitted)
 tell_tied b t link q waiting admitted not_awaited next none h =
     let p = q.number in
@@ -307,7 +307,7 @@ tell_tied b t link q waiting admitted not_awaited next none h =
     }
 
 -- one that waits for the connection waits for a place behind the others
-pub admit_tied : (b : Book) (t : Inner) (link : LinkState) (q : Waiting) (qs : List Waiting) → is_waiting_at t.requests q.number ≡ true → is_unbegun_at t.requests q.number ≡ false → is_let_in t.limit (b.story (name_at t.requests q.number)) ≡ true → Rising 0 (t.moved ++ q.number ∷ []) (length t.requests)
+pub admit_tied : (b : Book) (t : TurnState) (link : LinkState) (q : Waiting) (qs : List Waiting) → is_waiting_at t.requests q.number ≡ true → is_unbegun_at t.requests q.number ≡ false → is_let_in t.limit (b.story (name_at t.requests q.number)) ≡ true → Rising 0 (t.moved ++ q.number ∷ []) (length t.requests)
     → is_outstanding t.again ≡ false → Tied b (record (on_link t link) { waiting = q ∷ qs; being_admitted = q.number ∷ [] }) → Tied b (record (on_link t link) { requests = at_progress t.requests q.number progress.Admitted; waiting = qs; admitted = t.admitted ++ q ∷ []; moved = t.moved ++ q.number ∷ []; being_admitted = [] })
 admit_tied b t link q qs w begun is last none h =
     let p = q.number in

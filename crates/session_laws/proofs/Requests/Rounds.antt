@@ -28,7 +28,7 @@ use Rattle.conn_laws.proofs.Ties.Numbers.{IsIn, Rising, in_right}
 use Rattle.session_laws.proofs.Ties.Owes.{open_on, request_story}
 use Rattle.conn_laws.proofs.Ties.Permits.{IsHolding, holding_same, permits_same}
 use Rattle.conn_laws.proofs.Ties.Tied.{TiedRounds, TiedWaits, link_in, shown_wait, waiting_ids}
-use Rattle.session_laws.proofs.Ties.Tied.{IsToldIn, Inner, Tied, numbers_kept}
+use Rattle.session_laws.proofs.Ties.Tied.{IsToldIn, TurnState, Tied, numbers_kept}
 use Rattle.conn_laws.proofs.Requests.Waits.{awaited_placed, waiting_apart}
 use Rattle.session_laws.proofs.Requests.Waits.{waiting_there}
 use Rattle.conn_laws.proofs.Internal.Repeats.{serves}
@@ -36,7 +36,7 @@ use Rattle.conn_laws.proofs.Internal.Serving.{answered_serves, serves_ready, ser
 use Rattle.conn_laws.proofs.Requests.Rounds.{round_permits}
 
 -- the action that shows it
-abbrev pub round_action : Inner → ℕ → Action
+abbrev pub round_action : TurnState → ℕ → Action
 round_action t p = action.Round (owner.Try (name_at t.requests p) 0) (Some t.link)
 
 -- the stories then
@@ -44,7 +44,7 @@ abbrev rounds_at : ℕ → (ℕ → Story) → ℕ → Story
 rounds_at m story n = if_own (m == n) (rounds (story n)) (story n)
 
 -- the session then
-abbrev pub with_round : Inner → ℕ → Inner
+abbrev pub with_round : TurnState → ℕ → TurnState
 with_round t p = record t { requests = at_progress t.requests p progress.Begun }
 
 -- it changes its round and its wait alone
@@ -60,7 +60,7 @@ round_other : (story : ℕ → Story) (n m : ℕ) → n ≢ m → rounds_at n st
 round_other story n m other = left_if (n == m) (rounds (story m)) (story m) (ne_test n m other)
 
 -- the wait of another request is as it was
-other_shown : (b : Book) (t : Inner) (p m : ℕ) → Tied b t → p < length t.requests → m < length t.requests → p ≢ m → shown_wait (rounds_at (name_at t.requests p) b.story) (at_progress t.requests p progress.Begun) m ≡ shown_wait b.story t.requests m
+other_shown : (b : Book) (t : TurnState) (p m : ℕ) → Tied b t → p < length t.requests → m < length t.requests → p ≢ m → shown_wait (rounds_at (name_at t.requests p) b.story) (at_progress t.requests p progress.Begun) m ≡ shown_wait b.story t.requests m
 other_shown b t p m h within inside other =
     let n = name_at t.requests p in
     ap (λ k. (rounds_at n b.story k).waiting) (name_still t.requests p progress.Begun m)
@@ -73,7 +73,7 @@ own_shown story requests p =
     ap (λ k. (rounds_at n story k).waiting) (name_still requests p progress.Begun p) ∙ ap (λ (s : Story). s.waiting) (round_own story n)
 
 -- the waits, on a link that takes requests: its own is to be shown anew
-round_waits : (b : Book) (t : Inner) (p : ℕ) → Tied b t → serves t.life t.again ≡ true → is_unbegun_at t.requests p ≡ true → IsIn p t.fresh → TiedWaits (rounds_at (name_at t.requests p) b.story) (at_progress t.requests p progress.Begun) t.again t.life t.fresh t.moved
+round_waits : (b : Book) (t : TurnState) (p : ℕ) → Tied b t → serves t.life t.again ≡ true → is_unbegun_at t.requests p ≡ true → IsIn p t.fresh → TiedWaits (rounds_at (name_at t.requests p) b.story) (at_progress t.requests p progress.Begun) t.again t.life t.fresh t.moved
 round_waits b t p h serving u anew =
     let ready = serves_ready t.life t.again serving in
     let answered = serves_answered t.life t.again serving in
@@ -124,7 +124,7 @@ round_waits b t p h serving u anew =
     }
 
 -- the rounds: its own has begun
-round_rounds : (b : Book) (t : Inner) (p : ℕ) → Tied b t → is_unbegun_at t.requests p ≡ true
+round_rounds : (b : Book) (t : TurnState) (p : ℕ) → Tied b t → is_unbegun_at t.requests p ≡ true
     → TiedRounds (has_generations b) (rounds_at (name_at t.requests p) b.story) (at_progress t.requests p progress.Begun) (serves t.life t.again) t.fresh t.rounds
 round_rounds b t p h u =
     let requests = t.requests in
@@ -149,7 +149,7 @@ round_rounds b t p h u =
     }
 
 -- so the session is tied with it, on a link that takes requests
-round_tied : (b : Book) (t : Inner) (p : ℕ) → serves t.life t.again ≡ true → t.rounds ≡ true → is_unbegun_at t.requests p ≡ true → Tied b t → Tied (entered b (round_action t p)) (with_round t p)
+round_tied : (b : Book) (t : TurnState) (p : ℕ) → serves t.life t.again ≡ true → t.rounds ≡ true → is_unbegun_at t.requests p ≡ true → Tied b t → Tied (entered b (round_action t p)) (with_round t p)
 round_tied b t p ready shows u h =
     let requests = t.requests in
     let n = name_at requests p in
@@ -164,7 +164,7 @@ round_tied b t p ready shows u h =
     (round_rounds b t p h u) h
 
 -- it may stand, where its step is the first
-round_may : (b : Book) (t : Inner) (p : ℕ) → IsRunning t → IsToldIn t → HasRenewed t.renewal t.life → t.rounds ≡ true → is_unbegun_at t.requests p ≡ true → IsFirstToMove b (name_at t.requests p) → NoneEnds b → Tied b t → MayRound b (name_at t.requests p) t.link
+round_may : (b : Book) (t : TurnState) (p : ℕ) → IsRunning t → IsToldIn t → HasRenewed t.renewal t.life → t.rounds ≡ true → is_unbegun_at t.requests p ≡ true → IsFirstToMove b (name_at t.requests p) → NoneEnds b → Tied b t → MayRound b (name_at t.requests p) t.link
 round_may b t p r told renewed shows u first ended h =
     let o = waiting_open t.requests p (unbegun_waits t.requests p u) in
     record {
@@ -176,7 +176,7 @@ round_may b t p r told renewed shows u first ended h =
     }
 
 -- and it begins
-pub round_going : (trace : List Action) (t : Inner) (p : ℕ) → IsRunning t → IsToldIn t → t.rounds ≡ true → is_unbegun_at t.requests p ≡ true → IsFirstToMove (book trace) (name_at t.requests p) → IsGoing trace t
+pub round_going : (trace : List Action) (t : TurnState) (p : ℕ) → IsRunning t → IsToldIn t → t.rounds ≡ true → is_unbegun_at t.requests p ≡ true → IsFirstToMove (book trace) (name_at t.requests p) → IsGoing trace t
     → IsGoing (trace ++ round_action t p ∷ []) (with_round t p)
 round_going trace t p r told shows u first h =
     let b = book trace in

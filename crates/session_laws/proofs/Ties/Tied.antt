@@ -47,7 +47,7 @@ use Rattle.conn_laws.proofs.Ties.Tied.{AreAside, AreEarly, AreLate, AreQueued, A
 -- those that wait for the connection, those that wait for a place, those that came in this turn and those that were moved in it,
 -- whose waits aren't shown yet; whether rounds are shown; the one that is being let in; the requests that are settled and not answered yet; and the numbers
 -- of the messages that started behind the setups, in order: a request's, or the driver's own
-pub record Inner : Type 0 where
+pub record TurnState : Type 0 where
   pub manager : Option Generations
   pub turns : ℕ
   pub links : ℕ
@@ -145,7 +145,7 @@ IsHeeded rest failed life (Some g) = HasHeeded rest failed life g
 -- before it, for a submission, or for the wait behind a failed attempt, and one was asked for each bounded connect; where it waits for
 -- its first submission it was created; what doesn't come back opens its link once; what is told to its server is to be answered within the
 -- configured time; and no more numbers were given to submissions than there are
-pub record TiedNumbers (b : Book) (t : Inner) : Type 0 where
+pub record TiedNumbers (b : Book) (t : TurnState) : Type 0 where
   pub turns : b.turns ≡ t.turns
   pub links : b.links ≡ t.links
   pub submissions : b.submissions ≡ length t.table
@@ -185,7 +185,7 @@ HasCourse is_last end links link shut manager last opened info address (Ready st
 HasCourse is_last end links link shut manager last opened info address (Ended e) = (links ≡ link + 1) × (is_begun manager ≡ true) × IsOver end shut opened
 
 -- of a session, by whether the ledger of its link says that no other attempt follows, and by its end
-abbrev pub TiedCourse : Bool → Option End → Inner → Type 0
+abbrev pub TiedCourse : Bool → Option End → TurnState → Type 0
 TiedCourse is_last end t = HasCourse is_last end t.links t.link t.shut t.manager t.last t.opened t.info t.address t.life
 
 -- none of these errors is a cause for the next generation, where the opening of a link has not failed
@@ -197,7 +197,7 @@ abbrev pub StaysCalm : List RedisError → Bool → Life → Type 0
 StaysCalm errors shut life = has_ended life ≡ false → shut ≡ false → AreCalm errors
 
 -- the session is tied to the book
-pub record Tied (b : Book) (t : Inner) : Type 0 where
+pub record Tied (b : Book) (t : TurnState) : Type 0 where
   pub numbers : TiedNumbers b t
   pub others : AreAside t.link t.links b.link t.hears t.renewal.within b.created
   pub notices : TiedNotices (hearing_in b.config) t.hears (hearing_at t.life t.hears (b.link t.link).hearing) (b.link t.link).notices (b.link t.link).told (b.link t.link).end (b.link t.link).parted (b.link t.link).strange (is_reading (b.link t.link)) t.untold t.parting
@@ -226,7 +226,7 @@ pub record Tied (b : Book) (t : Inner) : Type 0 where
 -- (`Resting`), and the ledger of its link says that it ended as an attempt; the next one isn't asked for. Nothing was ever told there but
 -- what is said before requests, nothing of it is still to be told, and all that are open wait, and are to show that anew. This is no `Tied`
 -- session: it is one again with the timer of the wait, with which they go to the next link
-pub record IsRetiring (b : Book) (t : Inner) : Type 0 where
+pub record IsRetiring (b : Book) (t : TurnState) : Type 0 where
   pub numbers : TiedNumbers b t
   pub rests : t.life ≡ Resting
   pub comes : is_some t.manager ≡ true
@@ -260,16 +260,16 @@ pub record IsRetiring (b : Book) (t : Inner) : Type 0 where
   pub late : AreLate b.story t.requests []
 
 -- all that came is told, and so is the end of the link
-abbrev pub IsToldIn : Inner → Type 0
+abbrev pub IsToldIn : TurnState → Type 0
 IsToldIn t = (t.untold ≡ []) × (t.parting ≡ false)
 
 -- each action of the trace stands where it may, and the session is tied to its book
-pub record Sound (trace : List Action) (t : Inner) : Type 0 where
+pub record Sound (trace : List Action) (t : TurnState) : Type 0 where
   pub stands : AllStand blank_book trace
   pub tied : Tied (book trace) t
 
 -- the session between turns
-abbrev pub inner : Core → List ℕ → Inner
+abbrev pub inner : Core → List ℕ → TurnState
 inner c started = record {
   manager = c.manager;
   turns = c.turns;
@@ -308,7 +308,7 @@ inner c started = record {
 }
 
 -- the numbers, where only links, stories, what is subscribed, errors, since when places are had and new credentials are due, and the connection change
-pub numbers_kept : (b : Book) (link : ℕ → Ledger) (story : ℕ → Story) (tracked : List Call) (errors : List RedisError) (placed : ℕ → Option ℕ) (since : ℕ → ℕ) (t : Inner) (life : Life) (free : ℕ) (requests : List Request) (waiting admitted : List Waiting) (fresh moved being_admitted pending started : List ℕ) → TiedNumbers b t
+pub numbers_kept : (b : Book) (link : ℕ → Ledger) (story : ℕ → Story) (tracked : List Call) (errors : List RedisError) (placed : ℕ → Option ℕ) (since : ℕ → ℕ) (t : TurnState) (life : Life) (free : ℕ) (requests : List Request) (waiting admitted : List Waiting) (fresh moved being_admitted pending started : List ℕ) → TiedNumbers b t
     → TiedNumbers (record b { link = link; story = story; tracked = tracked; errors = errors; placed = placed; since = since }) (record t { life = life; free = free; requests = requests; waiting = waiting; admitted = admitted; fresh = fresh; moved = moved; being_admitted = being_admitted; pending = pending; started = started })
 numbers_kept b link story tracked errors placed since t life free requests waiting admitted fresh moved being_admitted pending started h = record {
   turns = h.turns;
@@ -337,7 +337,7 @@ numbers_kept b link story tracked errors placed since t life free requests waiti
 -- requests move between those that wait for the connection, those that wait for a place, those whose wait isn't shown yet,
 -- and those that are to be answered: the session stays tied where its lines and its waits are, and who is late is to be
 -- answered
-pub relined : (b : Book) (t : Inner) (waiting admitted : List Waiting) (fresh moved pending : List ℕ) → Tied b t
+pub relined : (b : Book) (t : TurnState) (waiting admitted : List Waiting) (fresh moved pending : List ℕ) → Tied b t
     → TiedLines b.story t.requests (link_in t.life) waiting admitted pending t.started → TiedWaits b.story t.requests t.again t.life fresh moved
     → TiedRounds (has_generations b) b.story t.requests (serves t.life t.again) fresh t.rounds → AreLate b.story t.requests pending
     → Tied b (record t { waiting = waiting; admitted = admitted; fresh = fresh; moved = moved; pending = pending })

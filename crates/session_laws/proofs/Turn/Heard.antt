@@ -22,7 +22,7 @@ use Rattle.conn_laws.proofs.Links.Said.{setup_on, setup_unheard, BringsNothing, 
 use Rattle.session_laws.proofs.Links.Said.{is_tame}
 use Rattle.conn_laws.proofs.Links.Server.{TiedCreds, TiedSetup, TiedRenewal}
 use Rattle.conn_laws.proofs.Ties.Tied.{link_in, carried, whole_link, TiedLife, TiedLines, AreQueued, TiedWaits, has_ended, TiedRounds, AreEarly}
-use Rattle.session_laws.proofs.Ties.Tied.{Inner, inner, Tied, HasCourse}
+use Rattle.session_laws.proofs.Ties.Tied.{TurnState, inner, Tied, HasCourse}
 use Rattle.session_laws.proofs.Managers.Comes.{course_alike}
 use Rattle.conn_laws.proofs.Ties.States.{IsFitIn, IsStopped}
 use Rattle.session_laws.proofs.Ties.States.{IsHushed, Between, HasApplied}
@@ -46,7 +46,7 @@ abbrev pub lives_as : Core → Life → MultiplexedConnection
 lives_as c life = record c.single.connection { life = life }
 
 -- no link must end where the connection's need not
-pub none_ends : (b : Book) (t : Inner) → Tied b t → ending (b.link t.link) ≡ None → NoneEnds b
+pub none_ends : (b : Book) (t : TurnState) → Tied b t → ending (b.link t.link) ≡ None → NoneEnds b
 none_ends b t h e m = by_test (m == t.link) _
     (λ same. subst (λ n. ending (b.link n) ≡ None) (sym (eq_from m t.link same)) e)
     (λ other. aside_ends (b.link m) (h.others m (ne_from m t.link other)))
