@@ -34,7 +34,7 @@ use Rattle.conn_laws.proofs.Ties.Names.{get_more}
 use Rattle.session_laws.proofs.Ties.Past.{is_past, unended_over}
 use Rattle.session_laws.proofs.Managers.Reopen.{at_rest, rest_tied, rested_in, rests_tied}
 use Rattle.conn_laws.proofs.Ties.Tied.{TiedLife, has_ended}
-use Rattle.session_laws.proofs.Ties.Tied.{AreAimed, ComesBack, HasCourse, TurnState, IsAim, IsRetiring, IsToldIn, Sound, Tied, TiedManager, is_begun}
+use Rattle.session_laws.proofs.Ties.Tied.{AreAimed, ComesBack, HasCourse, TurnState, IsAim, AfterFailedAttempt, IsToldIn, Sound, Tied, TiedManager, is_begun}
 use Rattle.session_laws.proofs.Internal.Informed.{HasInformed}
 use Rattle.conn_laws.proofs.Internal.Subscribes.{RepeatsNext}
 use Rattle.session_laws.proofs.Internal.Subscribes.{repeats_next}
@@ -104,7 +104,7 @@ pub record IsResting (trace : List Action) (t : TurnState) : Type 0 where
 -- behind an attempt that failed
 --
 -- the timer of the wait may stand
-rest_may : (b : Book) (t : TurnState) (g : Generations) (timer ms number : ℕ) → IsRetiring b t → IsShown b → t.manager ≡ Some g → timer ≡ length t.timers → number ≡ g.number → ms ≡ backoff g.settings g.attempt (word_of b.running) → MayRest b timer ms (purpose.Backoff number)
+rest_may : (b : Book) (t : TurnState) (g : Generations) (timer ms number : ℕ) → AfterFailedAttempt b t → IsShown b → t.manager ≡ Some g → timer ≡ length t.timers → number ≡ g.number → ms ≡ backoff g.settings g.attempt (word_of b.running) → MayRest b timer ms (purpose.Backoff number)
 rest_may b t g timer ms number h shown is next same long =
     let k = comes_so b.config b.generation b.attempt t.manager g is h.numbers.comes_back in
     record {
@@ -122,7 +122,7 @@ rest_may b t g timer ms number h shown is next same long =
     both false y e f = cc
 
 -- and then the session rests
-pub rests_on : (trace : List Action) (t : TurnState) (g : Generations) (timer ms number : ℕ) → AllStand blank_book trace → IsRetiring (book trace) t → IsShown (book trace) → t.manager ≡ Some g → timer ≡ length t.timers → number ≡ g.number → ms ≡ backoff g.settings g.attempt (word_of (book trace).running)
+pub rests_on : (trace : List Action) (t : TurnState) (g : Generations) (timer ms number : ℕ) → AllStand blank_book trace → AfterFailedAttempt (book trace) t → IsShown (book trace) → t.manager ≡ Some g → timer ≡ length t.timers → number ≡ g.number → ms ≡ backoff g.settings g.attempt (word_of (book trace).running)
     → IsResting (trace ++ action.Timer timer ms (purpose.Backoff number) ∷ []) (at_rest (rested_in t number g.attempt timer))
 rests_on trace t g timer ms number stands h shown is next same long =
     let b = book trace in

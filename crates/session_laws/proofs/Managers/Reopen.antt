@@ -31,7 +31,7 @@ use Rattle.conn_laws.proofs.Ties.Owes.{answered_closed}
 use Rattle.conn_laws.proofs.Requests.Rounded.{admitted_begun, placed_begun}
 use Rattle.conn_laws.proofs.Links.Server.{NoneRenewed, TiedCreds, TiedSetup}
 use Rattle.conn_laws.proofs.Ties.Tied.{AreAside, AreLate, AreUses, IsAside, IsRefused, IsRequest, IsUnknown, IsUse, TiedCreation, TiedLines, TiedLife, TiedNames, TiedNotices, TiedTries, TiedPermits, TiedRounds, TiedStory, TiedWaits, no_link, owner_of, is_reading, waiting_ids}
-use Rattle.session_laws.proofs.Ties.Tied.{AreCalm, TurnState, IsAim, IsRetiring, Tied, TiedManager, TiedNumbers}
+use Rattle.session_laws.proofs.Ties.Tied.{AreCalm, TurnState, IsAim, AfterFailedAttempt, Tied, TiedManager, TiedNumbers}
 use Rattle.conn_laws.proofs.Managers.Reopen.{IsMovedTo, none_held, on_blank, told_closed}
 
 -- a session without a link
@@ -166,7 +166,7 @@ abbrev pub rested_in : TurnState → ℕ → ℕ → ℕ → TurnState
 rested_in t number attempt timer = record t { manager = option_map (λ g. failed_behind g attempt timer) t.manager; timers = t.timers ++ purpose.Backoff number ∷ []; link = t.links }
 
 -- with the timer of the wait the session has no link, and all that are open go to the next one
-pub rests_tied : (b : Book) (t : TurnState) (timer ms number : ℕ) → IsRetiring b t → ArePast b → HasNoLink (entered b (action.Timer timer ms (purpose.Backoff number))) (rested_in t number b.attempt timer)
+pub rests_tied : (b : Book) (t : TurnState) (timer ms number : ℕ) → AfterFailedAttempt b t → ArePast b → HasNoLink (entered b (action.Timer timer ms (purpose.Backoff number))) (rested_in t number b.attempt timer)
 rests_tied b t timer ms number h past =
     let n = h.numbers in
     let d : Book = entered b (action.Timer timer ms (purpose.Backoff number)) in

@@ -27,7 +27,7 @@ use Rattle.session_laws.proofs.Turn.Announce.{turn_of}
 use Rattle.session_laws.proofs.Managers.Return as return
 use Rattle.session_laws.proofs.Requests.Settle.{seen}
 use Rattle.session_laws.proofs.Requests.Settled.{IsBetween, returned_between}
-use Rattle.session_laws.proofs.Ties.Tied.{HasCourse, TurnState, IsHeeded, IsRetiring, Sound, Tied, TiedManager, TiedNumbers, inner, is_begun}
+use Rattle.session_laws.proofs.Ties.Tied.{HasCourse, TurnState, IsHeeded, AfterFailedAttempt, Sound, Tied, TiedManager, TiedNumbers, inner, is_begun}
 use Rattle.session_laws.proofs.Links.Write.{HasReturned}
 use Rattle.session_laws.proofs.Internal.Informed.{IsInformed}
 
@@ -101,7 +101,7 @@ tied_with b t m same managed h = record {
 }
 
 -- also behind a failed attempt
-retiring_with : (b : Book) (t : TurnState) (m : Option Generations) → AreAlike t.manager m → TiedManager b.config b.generation b.attempt m → IsRetiring b t → IsRetiring b (record t { manager = m })
+retiring_with : (b : Book) (t : TurnState) (m : Option Generations) → AreAlike t.manager m → TiedManager b.config b.generation b.attempt m → AfterFailedAttempt b t → AfterFailedAttempt b (record t { manager = m })
 retiring_with b t m same managed h = record {
   numbers = numbers_with b t m same managed h.numbers;
   rests = h.rests;
@@ -149,7 +149,7 @@ heeded_managed b kind acts (Some g) h = record { whole = h.whole; told = h.told;
 pub heeds_tied : (b : Book) (u : Core) (kind : EventKind) (acts : List LinkAct) (started : List ℕ) → Tied b (inner u started) → Tied b (inner (heeding u kind acts) started)
 heeds_tied b u kind acts started h = tied_with b (inner u started) (option_map (λ g. heeded g kind acts) u.manager) (heeded_alike kind acts u.manager) (heeded_managed b kind acts u.manager h.numbers.comes_back) h
 
-pub heeds_retiring : (b : Book) (u : Core) (kind : EventKind) (acts : List LinkAct) → IsRetiring b (inner u []) → IsRetiring b (inner (heeding u kind acts) [])
+pub heeds_retiring : (b : Book) (u : Core) (kind : EventKind) (acts : List LinkAct) → AfterFailedAttempt b (inner u []) → AfterFailedAttempt b (inner (heeding u kind acts) [])
 heeds_retiring b u kind acts h = retiring_with b (inner u []) (option_map (λ g. heeded g kind acts) u.manager) (heeded_alike kind acts u.manager) (heeded_managed b kind acts u.manager h.numbers.comes_back) h
 
 -- bytes and waits

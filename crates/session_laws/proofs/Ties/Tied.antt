@@ -226,7 +226,7 @@ pub record Tied (b : Book) (t : TurnState) : Type 0 where
 -- (`Resting`), and the ledger of its link says that it ended as an attempt; the next one isn't asked for. Nothing was ever told there but
 -- what is said before requests, nothing of it is still to be told, and all that are open wait, and are to show that anew. This is no `Tied`
 -- session: it is one again with the timer of the wait, with which they go to the next link
-pub record IsRetiring (b : Book) (t : TurnState) : Type 0 where
+pub record AfterFailedAttempt (b : Book) (t : TurnState) : Type 0 where
   pub numbers : TiedNumbers b t
   pub rests : t.life ≡ Resting
   pub comes : is_some t.manager ≡ true
