@@ -22,7 +22,7 @@ use Rattle.legal_trace.specs.Owed.{owed_by, owed_unstarted}
 use Rattle.legal_trace.specs.Story.{Story, is_open, waits}
 use Rattle.conn_laws.proofs.Ties.Owes.{is_asked, lives}
 use Rattle.conn_laws.proofs.Ties.Tied.{IsOver, TiedLife, has_ended}
-use Rattle.session_laws.proofs.Ties.Tied.{AreCalm, HasCourse, TurnState, Tied, TiedManager, is_begun}
+use Rattle.session_laws.proofs.Ties.Tied.{NoReconnectCause, HasCourse, TurnState, Tied, TiedManager, is_begun}
 use Rattle.link_core.specs.Link.{LinkState}
 
 -- no generation begins, and no link is asked for
@@ -143,7 +143,7 @@ pub none_rests : (b : Book) (t : TurnState) → Tied b t → rest_due b ≡ fals
 none_rests b t h = ap (λ x. has_generations b && x) (ap (λ l. is_attempt (b.link l).end) h.numbers.current_is ∙ no_attempt (b.link t.link) b.created t.life h.life) ∙ and-false (has_generations b)
 
 -- nothing of this turn is a cause for the next generation
-pub none_caused : (b : Book) → (current_link b).end ≡ None → AreCalm b.errors → is_caused b ≡ false
+pub none_caused : (b : Book) → (current_link b).end ≡ None → NoReconnectCause b.errors → is_caused b ≡ false
 none_caused b alive calm =
     let lost : is_lost b ≡ false = ap (λ (end : Option End). is_resp3 (info_in b.config).protocol && is_lost_in (b.turns - 1) end) alive ∙ and-false (is_resp3 (info_in b.config).protocol) in
     (λ i. lost i || list_any (is_cause (alive i)) b.errors) ∙ calm

@@ -31,7 +31,7 @@ use Rattle.conn_laws.proofs.Ties.Owes.{answered_closed}
 use Rattle.conn_laws.proofs.Requests.Rounded.{admitted_begun, placed_begun}
 use Rattle.conn_laws.proofs.Links.Server.{NoneRenewed, TiedCreds, TiedSetup}
 use Rattle.conn_laws.proofs.Ties.Tied.{AreAside, AreLate, AreUses, IsAside, IsRefused, IsRequest, IsUnknown, IsUse, TiedCreation, TiedLines, TiedLife, TiedNames, TiedNotices, TiedTries, TiedPermits, TiedRounds, TiedStory, TiedWaits, no_link, owner_of, is_reading, waiting_ids}
-use Rattle.session_laws.proofs.Ties.Tied.{AreCalm, TurnState, IsAim, AfterFailedAttempt, Tied, TiedManager, TiedNumbers}
+use Rattle.session_laws.proofs.Ties.Tied.{NoReconnectCause, TurnState, IsAim, AfterFailedAttempt, Tied, TiedManager, TiedNumbers}
 use Rattle.conn_laws.proofs.Managers.Reopen.{IsMovedTo, none_held, on_blank, told_closed}
 
 -- a session without a link
@@ -46,7 +46,7 @@ pub record HasNoLink (b : Book) (t : TurnState) : Type 0 where
   pub others : AreAside t.link t.links b.link t.hears t.renewal.within b.created
   pub unknown : IsUnknown (b.link t.link)
   pub heard_is : hearing_in b.config ≡ t.hears
-  pub calm : AreCalm b.errors
+  pub calm : NoReconnectCause b.errors
   pub creation : TiedCreation b.created t.told
   pub uses : AreUses t.sources t.link false false
   pub renewal : NoneRenewed blank_ledger t.renewal

@@ -23,7 +23,7 @@ use Rattle.conn_laws.proofs.Requests.Rounded.{early_closed}
 use Rattle.session_laws.proofs.Requests.Rounded.{rounds_closed}
 use Rattle.conn_laws.proofs.Ties.Numbers.{IsIn, in_either, in_right, in_left, Rising, rising_in, requests_in, request_in}
 use Rattle.conn_laws.proofs.Ties.Tied.{link_in, queue_ids, TiedNames, AreQueued, TiedLines, has_ended}
-use Rattle.session_laws.proofs.Ties.Tied.{AreCalm, TurnState, Tied, relined, numbers_kept}
+use Rattle.session_laws.proofs.Ties.Tied.{NoReconnectCause, TurnState, Tied, relined, numbers_kept}
 use Rattle.conn_laws.proofs.Links.Said.{carried_tied}
 use Rattle.session_laws.proofs.Links.Said.{sources_asked}
 use Rattle.conn_laws.proofs.Ties.Names.{name_within, open_within, earlier_name, owners_with, names_with, with_then}
@@ -146,7 +146,7 @@ closed_in t p pending = record t { requests = with_permits t.requests p progress
 
 -- one that is to be answered is, and is neither in the row nor in the queue; who is told and has not started is there; and the answer
 -- is no cause for the next generation, until the link ends, and confirms nothing while what is subscribed again isn't answered
-pub answer_apart : (b : Book) (t : TurnState) (p : ℕ) (pending : List ℕ) (o : Outcome) → (has_ended t.life ≡ false → t.shut ≡ false → AreCalm (faults_in o)) → (has_ended t.life ≡ false → is_outstanding t.again ≡ true → confirmed (b.story (name_at t.requests p)).submission o ≡ []) → is_open_at t.requests p ≡ true → (IsIn p (wanted (link_in t.life).row ++ queue_ids (link_in t.life).queue) → ⊥)
+pub answer_apart : (b : Book) (t : TurnState) (p : ℕ) (pending : List ℕ) (o : Outcome) → (has_ended t.life ≡ false → t.shut ≡ false → NoReconnectCause (faults_in o)) → (has_ended t.life ≡ false → is_outstanding t.again ≡ true → confirmed (b.story (name_at t.requests p)).submission o ≡ []) → is_open_at t.requests p ≡ true → (IsIn p (wanted (link_in t.life).row ++ queue_ids (link_in t.life).queue) → ⊥)
     → (has_ended t.life ≡ false → AreQueued (entered b (action.Outcome (name_at t.requests p) o)).story (with_permits t.requests p progress.Closed 0) t.link (link_in t.life)) → Tied b (record t { pending = p ∷ pending })
     → Tied (entered b (action.Outcome (name_at t.requests p) o)) (closed_in t p pending)
 answer_apart b t p pending o calm tracked open_is apart told h =

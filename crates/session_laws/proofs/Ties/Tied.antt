@@ -189,12 +189,12 @@ abbrev pub TiedCourse : Bool → Option End → TurnState → Type 0
 TiedCourse is_last end t = HasCourse is_last end t.links t.link t.shut t.manager t.last t.opened t.info t.address t.life
 
 -- none of these errors is a cause for the next generation, where the opening of a link has not failed
-abbrev pub AreCalm : List RedisError → Type 0
-AreCalm errors = list_any (is_cause None) errors ≡ false
+abbrev pub NoReconnectCause : List RedisError → Type 0
+NoReconnectCause errors = list_any (is_cause None) errors ≡ false
 
 -- so it is of all with which submissions were answered in the turn that runs, until the link ends or everything is shut down
 abbrev pub StaysCalm : List RedisError → Bool → Life → Type 0
-StaysCalm errors shut life = has_ended life ≡ false → shut ≡ false → AreCalm errors
+StaysCalm errors shut life = has_ended life ≡ false → shut ≡ false → NoReconnectCause errors
 
 -- the session is tied to the book
 pub record Tied (b : Book) (t : TurnState) : Type 0 where
@@ -238,7 +238,7 @@ pub record AfterFailedAttempt (b : Book) (t : TurnState) : Type 0 where
   pub others : AreAside t.link t.links b.link t.hears t.renewal.within b.created
   pub own : IsAside t.links t.link (b.link t.link) t.hears t.renewal.within b.created
   pub heard_is : hearing_in b.config ≡ t.hears
-  pub calm : AreCalm b.errors
+  pub calm : NoReconnectCause b.errors
   pub creation : TiedCreation b.created t.told
   pub uses : AreUses t.sources t.link (b.link t.link).creds.asked (b.link t.link).creds.renews
   pub renewal : NoneRenewed blank_ledger t.renewal
