@@ -248,10 +248,10 @@ tries_let l f g requests link started p count eased before =
     owners_let (m ∷ ms) = λ i. owners_with requests p progress.Begun count i m ∷ owners_let ms i
 
 -- the permits
-pub permits_eased : (f g : ℕ → Story) (table : List (Option Pending)) (submissions : ℕ) (requests : List Request) (link : ℕ) (limit : Option ℕ) (free now : ℕ) (letting : List ℕ) (p count : ℕ) → TiedNames table requests → is_waiting_at requests p ≡ true
-    → ((m : ℕ) → IsIn m letting → p ≡ m) → AreEased f g (name_at requests p) → ((k : ℕ) → limit ≡ Some k → permits_held g link submissions + now ≡ k) → TiedPermits f submissions requests link limit free letting
+pub permits_eased : (f g : ℕ → Story) (table : List (Option Pending)) (submissions : ℕ) (requests : List Request) (link : ℕ) (limit : Option ℕ) (free now : ℕ) (being_admitted : List ℕ) (p count : ℕ) → TiedNames table requests → is_waiting_at requests p ≡ true
+    → ((m : ℕ) → IsIn m being_admitted → p ≡ m) → AreEased f g (name_at requests p) → ((k : ℕ) → limit ≡ Some k → permits_held g link submissions + now ≡ k) → TiedPermits f submissions requests link limit free being_admitted
     → TiedPermits g submissions (with_permits requests p progress.Begun count) link limit now (p ∷ [])
-permits_eased f g table submissions requests link limit free now letting p count names w alone eased sum h =
+permits_eased f g table submissions requests link limit free now being_admitted p count names w alone eased sum h =
     let within = there_within is_waiting requests p w in
     let ss = with_permits requests p progress.Begun count in
     let own : (m : ℕ) → m < length requests → p ≢ m → g (name_at ss m) ≡ f (name_at requests m) = λ m inside o.

@@ -142,8 +142,8 @@ moved_up_waits w (q ∷ qs) =
 -- a request that is let in
 --
 -- the connection while it is, as one that waits still, behind its round
-abbrev pub letting : Work → Waiting → Work
-letting w q =
+abbrev pub being_admitted : Work → Waiting → Work
+being_admitted w q =
     let count = permits_taken w.conn.limit w.conn.free q.shape in
     record { conn = record w.conn { requests = with_permits w.conn.requests q.number progress.Begun count; free = w.conn.free - count }; acts = (let_in w q).acts }
 
@@ -156,12 +156,12 @@ pub let_in_is : (w : Work) (q : Waiting) → let_in w q ≡ entering w q
 let_in_is w q = ap (λ (c : MultiplexedConnection). record { conn = c; acts = (let_in w q).acts }) (let_in_conn w q)
 
 -- one that has a place at once is as one that waited for it
-pub seated_once : (w : Work) (q : Waiting) (link : LinkState) → w.conn.life ≡ Ready link → is_waiting_at w.conn.requests q.number ≡ true → seated (entering w q) q ≡ seated (letting w q) q
+pub seated_once : (w : Work) (q : Waiting) (link : LinkState) → w.conn.life ≡ Ready link → is_waiting_at w.conn.requests q.number ≡ true → seated (entering w q) q ≡ seated (being_admitted w q) q
 seated_once w q link e wt =
     let p = q.number in
     let count = permits_taken w.conn.limit w.conn.free q.shape in
     let v = entering w q in
-    let g = letting w q in
+    let g = being_admitted w q in
     let u = with_link (noted g p) (enqueued link (message_of q)) in
     let within = open_within w.conn.requests p (waiting_open w.conn.requests p wt) in
     let placed : (now : Progress) → at_progress (with_permits w.conn.requests p now count) p progress.Placed ≡ with_permits w.conn.requests p progress.Placed count = λ now.

@@ -144,11 +144,11 @@ shown_further story requests p now m = ap (λ n. (story n).waiting) (name_still 
 --
 -- it is the first of those that wait, with these behind it, and was let in, alone, behind its round; no room was shown of it; and it is above
 -- all that were moved in this turn
-pub record IsNext (story : ℕ → Story) (requests : List Request) (limit : Option ℕ) (letting moved : List ℕ) (was_waiting was_admitted : List Waiting) (q : Waiting) (waiting admitted : List Waiting) : Type 0 where
+pub record IsNext (story : ℕ → Story) (requests : List Request) (limit : Option ℕ) (being_admitted moved : List ℕ) (was_waiting was_admitted : List Waiting) (q : Waiting) (waiting admitted : List Waiting) : Type 0 where
   pub open_at : is_open_at requests q.number ≡ true
   pub let_in : is_let_in limit (story (name_at requests q.number)) ≡ true
   pub begun : is_unbegun_at requests q.number ≡ false
-  pub alone : (p : ℕ) → IsIn p letting → q.number ≡ p
+  pub alone : (p : ℕ) → IsIn p being_admitted → q.number ≡ p
   pub first : kept_ids was_admitted was_waiting ≡ q.number ∷ kept_ids admitted waiting
   pub packed : IsPacked story requests q
   pub packs : AllByRecursion (IsPacked story requests) waiting
@@ -194,9 +194,9 @@ awaited_last n qs m i = elim (in_either n (awaited_ids qs) (awaited_ids (m ∷ [
 ]
 
 -- it is none of the queue
-pub next_apart : (story : ℕ → Story) (requests : List Request) (link : LinkState) (limit : Option ℕ) (letting moved : List ℕ) (was_waiting was_admitted : List Waiting) (started : List ℕ) (q : Waiting) (waiting admitted : List Waiting)
-    → IsNext story requests limit letting moved was_waiting was_admitted q waiting admitted → TiedLines story requests link was_waiting was_admitted [] started → IsIn q.number (queue_ids link.queue) → ⊥
-next_apart story requests link limit letting moved was_waiting was_admitted started q waiting admitted next h i =
+pub next_apart : (story : ℕ → Story) (requests : List Request) (link : LinkState) (limit : Option ℕ) (being_admitted moved : List ℕ) (was_waiting was_admitted : List Waiting) (started : List ℕ) (q : Waiting) (waiting admitted : List Waiting)
+    → IsNext story requests limit being_admitted moved was_waiting was_admitted q waiting admitted → TiedLines story requests link was_waiting was_admitted [] started → IsIn q.number (queue_ids link.queue) → ⊥
+next_apart story requests link limit being_admitted moved was_waiting was_admitted started q waiting admitted next h i =
     let queue = queue_ids link.queue in
     let kept = kept_ids was_admitted was_waiting in
     let line = rising_right 0 (requests_in started) (queue ++ kept) (length requests) h.line in
@@ -204,9 +204,9 @@ next_apart story requests link limit letting moved was_waiting was_admitted star
     omega arith
 
 -- it waits no longer, and is to be answered or placed
-pub lines_next : (story : ℕ → Story) (requests : List Request) (link : LinkState) (limit : Option ℕ) (letting moved : List ℕ) (was_waiting was_admitted : List Waiting) (started : List ℕ) (q : Waiting) (waiting admitted : List Waiting)
-    → IsNext story requests limit letting moved was_waiting was_admitted q waiting admitted → TiedLines story requests link was_waiting was_admitted [] started → TiedLines story requests link waiting admitted (q.number ∷ []) started
-lines_next story requests link limit letting moved was_waiting was_admitted started q waiting admitted next h =
+pub lines_next : (story : ℕ → Story) (requests : List Request) (link : LinkState) (limit : Option ℕ) (being_admitted moved : List ℕ) (was_waiting was_admitted : List Waiting) (started : List ℕ) (q : Waiting) (waiting admitted : List Waiting)
+    → IsNext story requests limit being_admitted moved was_waiting was_admitted q waiting admitted → TiedLines story requests link was_waiting was_admitted [] started → TiedLines story requests link waiting admitted (q.number ∷ []) started
+lines_next story requests link limit being_admitted moved was_waiting was_admitted started q waiting admitted next h =
     let queue = queue_ids link.queue in
     let kept = kept_ids admitted waiting in
     record {

@@ -10,9 +10,9 @@ use Rattle.conn_laws.proofs.Ties.Names.{name_still, permits_still, there_within}
 use Rattle.conn_laws.proofs.Ties.Tied.{TiedPermits}
 
 -- the permits are as they were
-pub round_permits : (story : ℕ → Story) (submissions : ℕ) (requests : List Request) (link : ℕ) (limit : Option ℕ) (free : ℕ) (letting : List ℕ) (p : ℕ) → is_waiting_at requests p ≡ true → TiedPermits story submissions requests link limit free letting
-    → TiedPermits story submissions (at_progress requests p progress.Begun) link limit free letting
-round_permits story submissions requests link limit free letting p w h =
+pub round_permits : (story : ℕ → Story) (submissions : ℕ) (requests : List Request) (link : ℕ) (limit : Option ℕ) (free : ℕ) (being_admitted : List ℕ) (p : ℕ) → is_waiting_at requests p ≡ true → TiedPermits story submissions requests link limit free being_admitted
+    → TiedPermits story submissions (at_progress requests p progress.Begun) link limit free being_admitted
+round_permits story submissions requests link limit free being_admitted p w h =
     let named = name_still requests p progress.Begun in
     let count = permits_at requests p in
     record {

@@ -68,9 +68,9 @@ pub let_in_same : (limit : Option ℕ) (s t : Story) → IsHolding s t → is_le
 let_in_same limit s t h = λ i. (is_none limit || nat_lt 0 (h.permits i)) && (is_none (h.timeout i) || is_some (h.clock i))
 
 -- so all is as it was
-pub permits_same : (f g : ℕ → Story) (submissions : ℕ) (requests : List Request) (link : ℕ) (limit : Option ℕ) (free : ℕ) (letting : List ℕ) → ((n : ℕ) → IsHolding (f n) (g n))
-    → TiedPermits f submissions requests link limit free letting → TiedPermits g submissions requests link limit free letting
-permits_same f g submissions requests link limit free letting same h = record {
+pub permits_same : (f g : ℕ → Story) (submissions : ℕ) (requests : List Request) (link : ℕ) (limit : Option ℕ) (free : ℕ) (being_admitted : List ℕ) → ((n : ℕ) → IsHolding (f n) (g n))
+    → TiedPermits f submissions requests link limit free being_admitted → TiedPermits g submissions requests link limit free being_admitted
+permits_same f g submissions requests link limit free being_admitted same h = record {
   counted = λ k e. let sum = held_same f g link submissions (λ m less. (λ i. if (same m).link i == link then (same m).permits i else 0)) in let was = h.counted k e in omega arith;
   none = λ p w out. let k = h.none p w out in (k.0, (same (name_at requests p)).clock ∙ k.1);
   let_in = λ p e. let_in_same limit (f (name_at requests p)) (g (name_at requests p)) (same (name_at requests p)) ∙ h.let_in p e;
@@ -79,9 +79,9 @@ permits_same f g submissions requests link limit free letting same h = record {
 -- a request comes further
 --
 -- one that was let in waits for the connection no longer
-pub permits_further : (story : ℕ → Story) (submissions : ℕ) (requests : List Request) (link : ℕ) (limit : Option ℕ) (free : ℕ) (letting : List ℕ) (p : ℕ) (now : Progress) → p < length requests → is_waiting now ≡ false
-    → is_let_in limit (story (name_at requests p)) ≡ true → ((m : ℕ) → IsIn m letting → p ≡ m) → TiedPermits story submissions requests link limit free letting → TiedPermits story submissions (at_progress requests p now) link limit free []
-permits_further story submissions requests link limit free letting p now l gone is only h = record {
+pub permits_further : (story : ℕ → Story) (submissions : ℕ) (requests : List Request) (link : ℕ) (limit : Option ℕ) (free : ℕ) (being_admitted : List ℕ) (p : ℕ) (now : Progress) → p < length requests → is_waiting now ≡ false
+    → is_let_in limit (story (name_at requests p)) ≡ true → ((m : ℕ) → IsIn m being_admitted → p ≡ m) → TiedPermits story submissions requests link limit free being_admitted → TiedPermits story submissions (at_progress requests p now) link limit free []
+permits_further story submissions requests link limit free being_admitted p now l gone is only h = record {
   counted = h.counted;
   none = λ m w out.
       let k = there_then is_waiting requests p m now gone l w in
@@ -95,9 +95,9 @@ permits_further story submissions requests link limit free letting p now l gone 
 }
 
 -- who was being let in waits no longer
-pub permits_let : (story : ℕ → Story) (submissions : ℕ) (requests : List Request) (link : ℕ) (limit : Option ℕ) (free : ℕ) (letting : List ℕ) (p : ℕ) → is_waiting_at requests p ≡ false → ((m : ℕ) → IsIn m letting → p ≡ m)
-    → TiedPermits story submissions requests link limit free letting → TiedPermits story submissions requests link limit free []
-permits_let story submissions requests link limit free letting p gone only h = record {
+pub permits_let : (story : ℕ → Story) (submissions : ℕ) (requests : List Request) (link : ℕ) (limit : Option ℕ) (free : ℕ) (being_admitted : List ℕ) (p : ℕ) → is_waiting_at requests p ≡ false → ((m : ℕ) → IsIn m being_admitted → p ≡ m)
+    → TiedPermits story submissions requests link limit free being_admitted → TiedPermits story submissions requests link limit free []
+permits_let story submissions requests link limit free being_admitted p gone only h = record {
   counted = h.counted;
   none = λ m w out. h.none m w (λ i. not_both (is_waiting_at requests m) (ap (is_waiting_at requests) (sym (only m i)) ∙ gone) w);
   let_in = h.let_in;
@@ -113,11 +113,11 @@ back_is limit k free count e le = ap (λ (x : Option ℕ). min (unwrap_or x 0) (
     min_right a b le = by_test (nat_le b a) _ (λ t. omega arith) (λ f. omega arith)
 
 -- the sum
-pub permits_closed : (f g : ℕ → Story) (table : List (Option Pending)) (submissions : ℕ) (requests : List Request) (link : ℕ) (limit : Option ℕ) (free : ℕ) (letting : List ℕ) (p : ℕ) → TiedNames table requests → p < length requests
+pub permits_closed : (f g : ℕ → Story) (table : List (Option Pending)) (submissions : ℕ) (requests : List Request) (link : ℕ) (limit : Option ℕ) (free : ℕ) (being_admitted : List ℕ) (p : ℕ) → TiedNames table requests → p < length requests
     → name_at requests p < submissions → (f (name_at requests p)).link ≡ link → (f (name_at requests p)).permits ≡ permits_at requests p
     → ((m : ℕ) → name_at requests p ≢ m → g m ≡ f m) → (g (name_at requests p)).permits ≡ 0 → (g (name_at requests p)).link ≡ link
-    → TiedPermits f submissions requests link limit free letting → TiedPermits g submissions (with_permits requests p progress.Closed 0) link limit (given_back limit free (permits_at requests p)) letting
-permits_closed f g table submissions requests link limit free letting p names l within on held others gone still h =
+    → TiedPermits f submissions requests link limit free being_admitted → TiedPermits g submissions (with_permits requests p progress.Closed 0) link limit (given_back limit free (permits_at requests p)) being_admitted
+permits_closed f g table submissions requests link limit free being_admitted p names l within on held others gone still h =
     let n = name_at requests p in
     let own : (m : ℕ) → m < length requests → p ≢ m → g (name_at (with_permits requests p progress.Closed 0) m) ≡ f (name_at requests m) = λ m inside o.
     ap g (name_with requests p progress.Closed 0 m) ∙ others (name_at requests m) (λ e. o (same_name table requests p m names l inside e)) in

@@ -339,9 +339,9 @@ pub record TiedWaits (story : ℕ → Story) (requests : List Request) (a : Agai
 -- where permits are counted, those that submissions hold and those that are free are all; who waits for the
 -- connection, or for a permit, holds none and has no timer, but for the one that is being let in; and who waits for a
 -- place or has one was let in
-pub record TiedPermits (story : ℕ → Story) (submissions : ℕ) (requests : List Request) (link : ℕ) (limit : Option ℕ) (free : ℕ) (letting : List ℕ) : Type 0 where
+pub record TiedPermits (story : ℕ → Story) (submissions : ℕ) (requests : List Request) (link : ℕ) (limit : Option ℕ) (free : ℕ) (being_admitted : List ℕ) : Type 0 where
   pub counted : (k : ℕ) → limit ≡ Some k → permits_held story link submissions + free ≡ k
-  pub none : (p : ℕ) → is_waiting_at requests p ≡ true → (IsIn p letting → ⊥) → (permits_at requests p ≡ 0) × ((story (name_at requests p)).clock ≡ None)
+  pub none : (p : ℕ) → is_waiting_at requests p ≡ true → (IsIn p being_admitted → ⊥) → (permits_at requests p ≡ 0) × ((story (name_at requests p)).clock ≡ None)
   pub let_in : (p : ℕ) → (is_admitted_at requests p ≡ true) ⊎ (is_placed_at requests p ≡ true) → is_let_in limit (story (name_at requests p)) ≡ true
 
 -- rounds are shown where the session has generations. Of who waits and whose round has not begun none was shown, and of any other

@@ -37,10 +37,10 @@ use Rattle.session_laws.proofs.Ties.Ordered.{AreOrdered, ordered_on}
 use Rattle.session_laws.proofs.Ties.Places.{known, since_begun}
 use Rattle.conn_laws.proofs.Ties.States.{IsFit}
 use Rattle.conn_laws.proofs.Ties.Tied.{queue_ids}
-use Rattle.session_laws.proofs.Ties.Tied.{HasCourse, Inner, Sound, Tied}
+use Rattle.session_laws.proofs.Ties.Tied.{HasCourse, TurnState, Sound, Tied}
 
 -- the link of a session that is ready was asked for
-pub ready_asked : (b : Book) (t : Inner) (link : LinkState) → Tied b t → t.life ≡ Ready link → t.link < b.links
+pub ready_asked : (b : Book) (t : TurnState) (link : LinkState) → Tied b t → t.life ≡ Ready link → t.link < b.links
 ready_asked b t link h e =
     let course = subst (HasCourse (b.link t.link).last (b.link t.link).end t.links t.link t.shut t.manager t.last t.opened t.info t.address) e h.course in
     let next : t.links ≡ t.link + 1 = course.0 in
@@ -48,12 +48,12 @@ ready_asked b t link h e =
     omega (arith, next, links)
 
 -- who is ahead is, behind one more action in a turn
-pub ordered_more : (b : Book) (t : Inner) (link : LinkState) (a : Action) (last : Option ℕ) → Tied b t → t.life ≡ Ready link → Knows b → SinceBegun b → MayStand b a → (entered b a).since t.link ≡ b.since t.link → AreOrdered b t.link t.table last → AreOrdered (entered b a) t.link t.table last
+pub ordered_more : (b : Book) (t : TurnState) (link : LinkState) (a : Action) (last : Option ℕ) → Tied b t → t.life ≡ Ready link → Knows b → SinceBegun b → MayStand b a → (entered b a).since t.link ≡ b.since t.link → AreOrdered b t.link t.table last → AreOrdered (entered b a) t.link t.table last
 ordered_more b t link a last h e k begun may same ordered =
     ordered_on b (a ∷ []) t.link t.table last (may, tt) k begun (ready_asked b t link h e) (let counted : b.submissions ≡ length t.table = h.numbers.submissions in omega (arith, counted)) same ordered
 
 -- new credentials are to be told, and have their timer
-pub record IsTelling (trace : List Action) (t : Inner) : Type 0 where
+pub record IsTelling (trace : List Action) (t : TurnState) : Type 0 where
   pub sound : Sound trace t
   pub ended : NoneEnds (book trace)
   pub due : is_renewal_due t.renewal ≡ true
@@ -61,7 +61,7 @@ pub record IsTelling (trace : List Action) (t : Inner) : Type 0 where
   pub ordered : AreOrdered (book trace) t.link t.table t.renewal.last
 
 -- the first of the queue is ahead of them, where it may start and is up to that one
-first_ahead : (b : Book) (t : Inner) (link : LinkState) (q : Queued) (qs : List Queued) → IsRunning (on_link t (with_queue link (q ∷ qs))) → holds_back link ≡ false → is_up_to t.renewal.last q.id ≡ true → Tied b (on_link t (with_queue link (q ∷ qs))) → AreOrdered b t.link t.table t.renewal.last
+first_ahead : (b : Book) (t : TurnState) (link : LinkState) (q : Queued) (qs : List Queued) → IsRunning (on_link t (with_queue link (q ∷ qs))) → holds_back link ≡ false → is_up_to t.renewal.last q.id ≡ true → Tied b (on_link t (with_queue link (q ∷ qs))) → AreOrdered b t.link t.table t.renewal.last
     → is_renewal_held b t.link ≡ true
 first_ahead b t link q qs running free up h ordered =
     let was = on_link t (with_queue link (q ∷ qs)) in
@@ -79,7 +79,7 @@ first_ahead b t link q qs running free up h ordered =
     ap (λ x. is_held_back b (b.link t.link) || x) (any_of (is_ahead b t.link) b.submissions n (omega (arith, below, counted)) ahead) ∙ or_true (is_held_back b (b.link t.link))
 
 -- so it may start
-ahead_may : (b : Book) (t : Inner) (link : LinkState) (q : Queued) (qs : List Queued) → IsFit t.size t.bound (with_queue link (q ∷ qs)) → t.moved ≡ [] → is_outstanding t.again ≡ false → holds_back link ≡ false → is_up_to t.renewal.last q.id ≡ true → t.renewal.pending ≡ true
+ahead_may : (b : Book) (t : TurnState) (link : LinkState) (q : Queued) (qs : List Queued) → IsFit t.size t.bound (with_queue link (q ∷ qs)) → t.moved ≡ [] → is_outstanding t.again ≡ false → holds_back link ≡ false → is_up_to t.renewal.last q.id ≡ true → t.renewal.pending ≡ true
     → Tied b (on_link t (with_queue link (q ∷ qs))) → NoneEnds b → AreOrdered b t.link t.table t.renewal.last → MayStart b t.link link.started (name_at t.requests q.id) (need_of q.shape) (length q.packed)
 ahead_may b t link q qs fit none served free up pending h ended ordered =
     let was = on_link t (with_queue link (q ∷ qs)) in
@@ -98,7 +98,7 @@ ahead_may b t link q qs fit none served free up pending h ended ordered =
     }
 
 -- it does
-ahead_going : (trace : List Action) (t : Inner) (link : LinkState) (q : Queued) (qs : List Queued) → IsFit t.size t.bound (with_queue link (q ∷ qs)) → t.moved ≡ [] → is_outstanding t.again ≡ false → holds_back link ≡ false → is_up_to t.renewal.last q.id ≡ true
+ahead_going : (trace : List Action) (t : TurnState) (link : LinkState) (q : Queued) (qs : List Queued) → IsFit t.size t.bound (with_queue link (q ∷ qs)) → t.moved ≡ [] → is_outstanding t.again ≡ false → holds_back link ≡ false → is_up_to t.renewal.last q.id ≡ true
     → IsTelling trace (on_link t (with_queue link (q ∷ qs))) → IsTelling (trace ++ start_action t link q ∷ []) (after_start t link q qs)
 ahead_going trace t link q qs fit none served free up h =
     let b : Book = book trace in
@@ -121,7 +121,7 @@ not_false true e = refl
 not_false false e = cc
 
 -- what is in a queue starts as long as it is up to that one, and nothing holds it back
-pub each_ahead : (before : List Action) (n c : ℕ) (acts : List LinkAct) (t : Inner) (s : Starting) (qs : List Queued) → IsFit t.size t.bound (with_queue s.link qs) → t.moved ≡ [] → (is_outstanding t.again ≡ true → qs ≡ [])
+pub each_ahead : (before : List Action) (n c : ℕ) (acts : List LinkAct) (t : TurnState) (s : Starting) (qs : List Queued) → IsFit t.size t.bound (with_queue s.link qs) → t.moved ≡ [] → (is_outstanding t.again ≡ true → qs ≡ [])
     → IsTelling (before ++ shown_each t.link n c (acts ++ shows t.requests s.out)) (on_link t (with_queue s.link qs))
     → (done : List ℕ) × IsTelling (before ++ shown_each t.link n c (acts ++ shows t.requests (started_to_each t.renewal.last s qs).out)) (record (on_link t (started_to_each t.renewal.last s qs).link) { started = done })
 each_ahead before n c acts t s [] fit none served h = (t.started, h)

@@ -10,11 +10,11 @@ use Rattle.conn_laws.proofs.Turn.Announce.{heard_starts}
 use Rattle.conn_laws.proofs.Internal.Repeats.{IsHeld, again_hear, held_alike}
 use Rattle.session_laws.proofs.Links.Said.{ready_life}
 use Rattle.conn_laws.proofs.Ties.Tied.{has_ended}
-use Rattle.session_laws.proofs.Ties.Tied.{Inner, Tied, inner}
+use Rattle.session_laws.proofs.Ties.Tied.{TurnState, Tied, inner}
 use Rattle.conn_laws.proofs.Internal.Held.{early_held}
 
 -- nor is its link ready
-pub unready_repeats_not : (b : Book) (t : Inner) → Tied b t → is_ready_life t.life ≡ false → is_repeating (b.link t.link) ≡ false
+pub unready_repeats_not : (b : Book) (t : TurnState) → Tied b t → is_ready_life t.life ≡ false → is_repeating (b.link t.link) ≡ false
 unready_repeats_not b t h unready =
     let l = b.link t.link in
     by_test (is_ready l) _

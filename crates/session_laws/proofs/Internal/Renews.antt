@@ -51,7 +51,7 @@ use Rattle.session_laws.proofs.Requests.Starts.{shows_sources, shows_timers}
 use Rattle.conn_laws.proofs.Ties.States.{IsFit}
 use Rattle.conn_laws.proofs.Links.Server.{TiedRenewal}
 use Rattle.conn_laws.proofs.Ties.Tied.{IsEntry, has_ended, link_in, owner_of, queue_ids}
-use Rattle.session_laws.proofs.Ties.Tied.{AreAimed, Inner, IsAim, Tied, numbers_kept}
+use Rattle.session_laws.proofs.Ties.Tied.{AreAimed, TurnState, IsAim, Tied, numbers_kept}
 use Rattle.conn_laws.proofs.Links.Took.{queue_waits}
 use Rattle.mux_conn.specs.declared.life.Greeting.TheVariants as greet
 use Rattle.driver_model.specs.Hearing.{is_watching}
@@ -74,7 +74,7 @@ aims_renewed timers link count number h k what e = let own : link ≤ link = ome
 ]
 
 -- it may be asked for
-may_time_renewal : (b : Book) (t : Inner) (link : LinkState) (number ms : ℕ) → number ≡ length t.timers → t.renewal.pending ≡ false → is_renewal_due t.renewal ≡ true → t.renewal.within ≡ Some ms → IsFit t.size t.bound link → HasRepeated t.again (Ready link) → Tied b (on_link t link) → NoneEnds b
+may_time_renewal : (b : Book) (t : TurnState) (link : LinkState) (number ms : ℕ) → number ≡ length t.timers → t.renewal.pending ≡ false → is_renewal_due t.renewal ≡ true → t.renewal.within ≡ Some ms → IsFit t.size t.bound link → HasRepeated t.again (Ready link) → Tied b (on_link t link) → NoneEnds b
     → MayTimeRenewal b number ms (purpose.Renewal t.link t.renewal.asked)
 may_time_renewal b t link number ms counted none due within fit repeated h ended =
     let was = on_link t link in
@@ -99,13 +99,13 @@ may_time_renewal b t link number ms counted none due within fit repeated h ended
     }
 
 -- and is
-time_tied : (b : Book) (t : Inner) (link : LinkState) (last : Option ℕ) (number ms : ℕ) → t.renewal.pending ≡ false → is_renewal_due t.renewal ≡ true → t.renewal.within ≡ Some ms → Tied b (on_link t link)
+time_tied : (b : Book) (t : TurnState) (link : LinkState) (last : Option ℕ) (number ms : ℕ) → t.renewal.pending ≡ false → is_renewal_due t.renewal ≡ true → t.renewal.within ≡ Some ms → Tied b (on_link t link)
     → Tied (entered b (action.Timer number ms (purpose.Renewal t.link t.renewal.asked))) (record (on_link t link) { timers = t.timers ++ purpose.Renewal t.link t.renewal.asked ∷ []; renewal = asked_next t.renewal last })
 time_tied b t link last number ms none due within h =
     let l = b.link t.link in
     let r = t.renewal in
     let what = purpose.Renewal t.link r.asked in
-    let k = numbers_kept b b.link b.story b.tracked b.errors b.placed b.since (on_link t link) (Ready link) t.free t.requests t.waiting t.admitted t.fresh t.moved t.letting [] t.started h.numbers in
+    let k = numbers_kept b b.link b.story b.tracked b.errors b.placed b.since (on_link t link) (Ready link) t.free t.requests t.waiting t.admitted t.fresh t.moved t.being_admitted [] t.started h.numbers in
     tied_by (entered b (action.Timer number ms what)) (record (on_link t link) { timers = t.timers ++ what ∷ []; renewal = asked_next r last }) (noted l times) (mine_noted l t.link times) (record {
       numbers = record {
         turns = k.turns;
@@ -161,15 +161,15 @@ auth_some : (c : Credentials) → auth_bytes c.username c.password ≢ []
 auth_some c e = cc
 
 -- what shows it
-abbrev auth_action : Inner → LinkState → Credentials → Action
+abbrev auth_action : TurnState → LinkState → Credentials → Action
 auth_action t link c = action.Start t.link link.started owner.Auth (need_of Confirmation) (length (auth_bytes c.username c.password))
 
 -- the session then
-abbrev after_auth : Inner → LinkState → Credentials → List Credentials → Inner
+abbrev after_auth : TurnState → LinkState → Credentials → List Credentials → TurnState
 after_auth t link c cs = record (on_link t (begun link (renewal_queued c))) { renewal = told_next t.renewal cs; started = t.started ++ renewal_id ∷ [] }
 
 -- it may start, where nothing holds the link back, and nobody is ahead
-may_renew : (b : Book) (t : Inner) (link : LinkState) (c : Credentials) (cs : List Credentials) → is_renewal_due t.renewal ≡ true → t.renewal.pending ≡ true → t.renewal.waiting ≡ c ∷ cs → IsFit t.size t.bound link → holds_back link ≡ false → any_below (is_ahead b t.link) b.submissions ≡ false → HasRepeated t.again (Ready link) → Tied b (on_link t link) → NoneEnds b
+may_renew : (b : Book) (t : TurnState) (link : LinkState) (c : Credentials) (cs : List Credentials) → is_renewal_due t.renewal ≡ true → t.renewal.pending ≡ true → t.renewal.waiting ≡ c ∷ cs → IsFit t.size t.bound link → holds_back link ≡ false → any_below (is_ahead b t.link) b.submissions ≡ false → HasRepeated t.again (Ready link) → Tied b (on_link t link) → NoneEnds b
     → MayRenew b t.link link.started (need_of Confirmation) (length (auth_bytes c.username c.password))
 may_renew b t link c cs due pending waits fit free nobody repeated h ended =
     let was = on_link t link in
@@ -194,7 +194,7 @@ may_renew b t link c cs due pending waits fit free nobody repeated h ended =
     none_due m other none some = let no : ◌≡◌ {A = Option Credentials} None (Some other) = sym none ∙ some in cc
 
 -- the session is tied to the book with it
-auth_tied : (b : Book) (t : Inner) (link : LinkState) (c : Credentials) (cs : List Credentials) → is_renewal_due t.renewal ≡ true → t.renewal.pending ≡ true → t.renewal.waiting ≡ c ∷ cs → Tied b (on_link t link) → Tied (entered b (auth_action t link c)) (after_auth t link c cs)
+auth_tied : (b : Book) (t : TurnState) (link : LinkState) (c : Credentials) (cs : List Credentials) → is_renewal_due t.renewal ≡ true → t.renewal.pending ≡ true → t.renewal.waiting ≡ c ∷ cs → Tied b (on_link t link) → Tied (entered b (auth_action t link c)) (after_auth t link c cs)
 auth_tied b t link c cs due pending waits h =
     let l = b.link t.link in
     let q = renewal_queued c in
@@ -206,7 +206,7 @@ auth_tied b t link c cs due pending waits h =
     let plain : is_watching t.hears ≡ true → ⊥ = λ w. (let no : [] ≡ c ∷ cs = sym (h.numbers.quiet w).unrenewed ∙ waits in cc) in
     let unwatched : is_watching l.hearing ≡ false = by_test (is_watching l.hearing) _ (λ w. absurd (plain (ap is_watching (sym h.notices.hearing_is) ∙ w))) (λ f. f) in
     let few : length t.requests ≤ renewal_id = omega (arith, h.names.few, h.numbers.few) in
-    let k = numbers_kept b b.link b.story b.tracked b.errors b.placed b.since (on_link t link) (Ready (begun link q)) t.free t.requests t.waiting t.admitted t.fresh t.moved t.letting [] (t.started ++ renewal_id ∷ []) h.numbers in
+    let k = numbers_kept b b.link b.story b.tracked b.errors b.placed b.since (on_link t link) (Ready (begun link q)) t.free t.requests t.waiting t.admitted t.fresh t.moved t.being_admitted [] (t.started ++ renewal_id ∷ []) h.numbers in
     tied_by (entered b (auth_action t link c)) (after_auth t link c cs) (noted l (begins s)) (mine_noted l t.link (begins (message_of b t.link owner.Auth)) ∙ ap (λ x. noted l (begins x)) told) (record {
       numbers = record {
         turns = k.turns;
@@ -307,7 +307,7 @@ asked_told before f w started link life holds ended fit moved repeated stays due
     b : Book
     b = book trace
 
-    t : Inner
+    t : TurnState
     t = seen f w.acts w.conn [] started
 
     last : Option ℕ

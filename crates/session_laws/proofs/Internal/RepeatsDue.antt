@@ -18,17 +18,17 @@ use Rattle.conn_laws.proofs.Internal.Repeats.{IsRepeated, TiedRepeat, to_start_i
 use Rattle.conn_laws.proofs.Links.Server.{AreSought, HasSaid}
 use Rattle.conn_laws.proofs.Links.SetUp.{not_set_up, lacking_unset}
 use Rattle.conn_laws.proofs.Ties.Tied.{TiedLife, carried, has_ended, owner_of, whole_link}
-use Rattle.session_laws.proofs.Ties.Tied.{Inner, Tied}
+use Rattle.session_laws.proofs.Ties.Tied.{TurnState, Tied}
 use Rattle.conn_laws.proofs.Internal.RepeatsDue.{timed_there}
 
 -- it is on a link that is set up, and the connection says so
-pub record IsDueThere (t : Inner) : Type 0 where
+pub record IsDueThere (t : TurnState) : Type 0 where
   pub link : LinkState
   pub life : t.life ≡ Ready link
   pub starts : is_to_start t.again ≡ true
 
 -- where the ledger of the session's link does
-pub due_there : (b : Book) (t : Inner) → Tied b t → again_due (b.link t.link) ≡ true → IsDueThere t
+pub due_there : (b : Book) (t : TurnState) → Tied b t → again_due (b.link t.link) ≡ true → IsDueThere t
 due_there b t h due = by_life t.life refl
   where
     l : Ledger
@@ -53,14 +53,14 @@ due_there b t h due = by_life t.life refl
     by_life (Ended x) e = absurd (not_both l.up (lived (Ended x) e).0 (again_is_up l due))
 
 -- so it has its timer in the book
-pub repeating_timed : (b : Book) (t : Inner) → Tied b t → HasRepeated t.again t.life → RepeatsAreTimed b
+pub repeating_timed : (b : Book) (t : TurnState) → Tied b t → HasRepeated t.again t.life → RepeatsAreTimed b
 repeating_timed b t h repeated = repeats_timed b t h (λ some due.
     let d = due_there b t h due in
     let repeat : IsRepeated (b.link t.link) b.tracked t.renewal.within t.again = subst (TiedRepeat (b.link t.link) b.tracked t.renewal.within t.again) d.life h.repeat in
     timed_there (b.link t.link) b.tracked t.renewal.within t.again repeat d.starts (repeated d.link d.life d.starts).0 some)
 
 -- and waits for its link, which is held back
-pub repeating_started : (b : Book) (t : Inner) → Tied b t → ((link : LinkState) → t.life ≡ Ready link → link.boundary ≡ t.bound) → HasRepeated t.again t.life → RepeatsAreStarted b
+pub repeating_started : (b : Book) (t : TurnState) → Tied b t → ((link : LinkState) → t.life ≡ Ready link → link.boundary ≡ t.bound) → HasRepeated t.again t.life → RepeatsAreStarted b
 repeating_started b t h bound repeated = repeats_started b t h (λ due.
     let d = due_there b t h due in
     let tied : TiedLink (owner_of t.requests) (b.link t.link) d.link = subst (λ (x : Life). TiedLink (carried x t.requests) (b.link t.link) (whole_link x)) d.life (h.link (ap has_ended d.life)) in

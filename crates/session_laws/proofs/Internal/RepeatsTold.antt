@@ -47,16 +47,16 @@ use Rattle.session_laws.proofs.Requests.Start.{on_link}
 use Rattle.conn_laws.proofs.Requests.Starts.{begins_ends_none}
 use Rattle.conn_laws.proofs.Ties.States.{IsFit}
 use Rattle.conn_laws.proofs.Ties.Tied.{IsEntry, owner_of, queue_ids}
-use Rattle.session_laws.proofs.Ties.Tied.{Inner, Tied, TiedNumbers, numbers_kept}
+use Rattle.session_laws.proofs.Ties.Tied.{TurnState, Tied, TiedNumbers, numbers_kept}
 use Rattle.conn_laws.proofs.Links.Took.{queue_waits}
 use Rattle.conn_laws.proofs.Internal.RepeatsTold.{again_waits}
 
 -- the session on this link, with this to be subscribed again, whose timer was asked for or not
-abbrev pub due_on : Inner → LinkState → List ℕ → Shape → Bool → Inner
+abbrev pub due_on : TurnState → LinkState → List ℕ → Shape → Bool → TurnState
 due_on t link packed of_shape timed = record (on_link t link) { again = again.Due packed of_shape timed }
 
 -- and the numbers: it is none of a server in monitor mode
-again_numbers : (b : Book) (t : Inner) (a : Again) → is_outstanding t.again ≡ true → TiedNumbers b t → TiedNumbers b (record t { again = a })
+again_numbers : (b : Book) (t : TurnState) (a : Again) → is_outstanding t.again ≡ true → TiedNumbers b t → TiedNumbers b (record t { again = a })
 again_numbers b t a goes h = record {
   turns = h.turns;
   links = h.links;
@@ -82,13 +82,13 @@ again_numbers b t a goes h = record {
 }
 
 -- so it is to start by the ledger
-due_now : (b : Book) (t : Inner) (link : LinkState) (packed : List ℕ) (of_shape : Shape) (timed : Bool) → Tied b (due_on t link packed of_shape timed) → again_due (b.link t.link) ≡ true
+due_now : (b : Book) (t : TurnState) (link : LinkState) (packed : List ℕ) (of_shape : Shape) (timed : Bool) → Tied b (due_on t link packed of_shape timed) → again_due (b.link t.link) ≡ true
 due_now b t link packed of_shape timed h = to_start_is (b.link t.link) b.tracked t.renewal.within (again.Due packed of_shape timed) (λ i. h.life.1 i && h.setup.said.well i) h.repeat
 
 -- its timer
 --
 -- it may be asked for
-may_time_repeat : (b : Book) (t : Inner) (link : LinkState) (packed : List ℕ) (of_shape : Shape) (number ms : ℕ) → number ≡ length t.timers → t.renewal.within ≡ Some ms → Tied b (due_on t link packed of_shape false) → NoneEnds b
+may_time_repeat : (b : Book) (t : TurnState) (link : LinkState) (packed : List ℕ) (of_shape : Shape) (number ms : ℕ) → number ≡ length t.timers → t.renewal.within ≡ Some ms → Tied b (due_on t link packed of_shape false) → NoneEnds b
     → MayTimeRepeat b number ms (purpose.Resubscription t.link)
 may_time_repeat b t link packed of_shape number ms counted within h ended =
     let was = due_on t link packed of_shape false in
@@ -107,7 +107,7 @@ may_time_repeat b t link packed of_shape number ms counted within h ended =
     }
 
 -- and is
-repeat_time_tied : (b : Book) (t : Inner) (link : LinkState) (packed : List ℕ) (of_shape : Shape) (number ms : ℕ) → t.renewal.within ≡ Some ms → Tied b (due_on t link packed of_shape false)
+repeat_time_tied : (b : Book) (t : TurnState) (link : LinkState) (packed : List ℕ) (of_shape : Shape) (number ms : ℕ) → t.renewal.within ≡ Some ms → Tied b (due_on t link packed of_shape false)
     → Tied (entered b (action.Timer number ms (purpose.Resubscription t.link))) (record (due_on t link packed of_shape true) { timers = t.timers ++ purpose.Resubscription t.link ∷ [] })
 repeat_time_tied b t link packed of_shape number ms within h =
     let l = b.link t.link in
@@ -163,7 +163,7 @@ repeat_time_tied b t link packed of_shape number ms within h =
     })
 
 -- or it is to be answered within no time
-untimed_tied : (b : Book) (t : Inner) (link : LinkState) (packed : List ℕ) (of_shape : Shape) → t.renewal.within ≡ None → Tied b (due_on t link packed of_shape false) → Tied b (due_on t link packed of_shape true)
+untimed_tied : (b : Book) (t : TurnState) (link : LinkState) (packed : List ℕ) (of_shape : Shape) → t.renewal.within ≡ None → Tied b (due_on t link packed of_shape false) → Tied b (due_on t link packed of_shape true)
 untimed_tied b t link packed of_shape within h =
     let l = b.link t.link in
     let due : IsRepeatDue l b.tracked None packed of_shape false = subst (λ o. IsRepeatDue l b.tracked o packed of_shape false) within h.repeat in
@@ -197,11 +197,11 @@ untimed_tied b t link packed of_shape within h =
 -- its message
 --
 -- what shows it
-abbrev repeat_action : Inner → LinkState → List ℕ → Shape → Action
+abbrev repeat_action : TurnState → LinkState → List ℕ → Shape → Action
 repeat_action t link packed of_shape = action.Start t.link link.started owner.Resub (need_of of_shape) (length packed)
 
 -- the session then
-abbrev after_repeat : Inner → LinkState → List ℕ → Shape → Inner
+abbrev after_repeat : TurnState → LinkState → List ℕ → Shape → TurnState
 after_repeat t link packed of_shape = record (on_link t (begun link (repeat_queued packed of_shape))) { again = again.Sent; started = t.started ++ repeat_id ∷ [] }
 
 -- where a time is set, its timer was asked for
@@ -210,7 +210,7 @@ due_timed l b None packed of_shape h some = absurd (some refl)
 due_timed l b (Some ms) packed of_shape h some = h.timed_is
 
 -- it may start, where nothing holds the link back
-may_repeat : (b : Book) (t : Inner) (link : LinkState) (packed : List ℕ) (of_shape : Shape) → IsFit t.size t.bound link → holds_back link ≡ false → Tied b (due_on t link packed of_shape true) → NoneEnds b
+may_repeat : (b : Book) (t : TurnState) (link : LinkState) (packed : List ℕ) (of_shape : Shape) → IsFit t.size t.bound link → holds_back link ≡ false → Tied b (due_on t link packed of_shape true) → NoneEnds b
     → MayRepeat b t.link link.started (need_of of_shape) (length packed)
 may_repeat b t link packed of_shape fit free h ended =
     let was = due_on t link packed of_shape true in
@@ -230,7 +230,7 @@ may_repeat b t link packed of_shape fit free h ended =
     }
 
 -- the session is tied to the book with it
-repeat_tied : (b : Book) (t : Inner) (link : LinkState) (packed : List ℕ) (of_shape : Shape) → Tied b (due_on t link packed of_shape true) → Tied (entered b (repeat_action t link packed of_shape)) (after_repeat t link packed of_shape)
+repeat_tied : (b : Book) (t : TurnState) (link : LinkState) (packed : List ℕ) (of_shape : Shape) → Tied b (due_on t link packed of_shape true) → Tied (entered b (repeat_action t link packed of_shape)) (after_repeat t link packed of_shape)
 repeat_tied b t link packed of_shape h =
     let l = b.link t.link in
     let q = repeat_queued packed of_shape in
@@ -244,7 +244,7 @@ repeat_tied b t link packed of_shape h =
     let few : length t.requests ≤ repeat_id = omega (arith, h.names.few, h.numbers.few) in
     let now = entered b (repeat_action t link packed of_shape) in
     let behind = record (due_on t (begun link q) packed of_shape true) { started = t.started ++ repeat_id ∷ [] } in
-    let numbers : TiedNumbers now behind = numbers_kept b now.link now.story b.tracked b.errors now.placed now.since (due_on t link packed of_shape true) (Ready (begun link q)) t.free t.requests t.waiting t.admitted t.fresh t.moved t.letting [] (t.started ++ repeat_id ∷ []) h.numbers in
+    let numbers : TiedNumbers now behind = numbers_kept b now.link now.story b.tracked b.errors now.placed now.since (due_on t link packed of_shape true) (Ready (begun link q)) t.free t.requests t.waiting t.admitted t.fresh t.moved t.being_admitted [] (t.started ++ repeat_id ∷ []) h.numbers in
     tied_by (entered b (repeat_action t link packed of_shape)) (after_repeat t link packed of_shape) (noted l (begins s)) (mine_noted l t.link (begins (message_of b t.link owner.Resub)) ∙ ap (λ x. noted l (begins x)) told) (record {
       numbers = again_numbers now behind again.Sent refl numbers;
       others = others_kept b t.link (begins (message_of b t.link owner.Resub)) h.others;

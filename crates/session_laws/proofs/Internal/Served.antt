@@ -16,7 +16,7 @@ use Rattle.conn_laws.proofs.Ties.Numbers.{IsIn, Rising, requests_in, rising_righ
 use Rattle.conn_laws.proofs.Requests.Rounded.{rounds_new}
 use Rattle.conn_laws.proofs.Changes.Requests.{unbegun_waits}
 use Rattle.conn_laws.proofs.Ties.Tied.{TiedRounds, TiedWaits, link_in, queue_ids, waiting_ids}
-use Rattle.session_laws.proofs.Ties.Tied.{Inner, Tied}
+use Rattle.session_laws.proofs.Ties.Tied.{TurnState, Tied}
 use Rattle.session_laws.proofs.Requests.Waits.{waiting_there}
 
 -- the numbers of those that wait
@@ -25,7 +25,7 @@ numbers_is [] = refl
 numbers_is (w ∷ ws) = ap (λ ns. w.number ∷ ns) (numbers_is ws)
 
 -- they rise
-pub fresh_rises : (b : Book) (t : Inner) → Tied b t → Rising 0 (numbers_of t.waiting) (length t.requests)
+pub fresh_rises : (b : Book) (t : TurnState) → Tied b t → Rising 0 (numbers_of t.waiting) (length t.requests)
 fresh_rises b t h =
     let queue = queue_ids (link_in t.life).queue in
     let last = waiting_ids t.waiting in
@@ -33,11 +33,11 @@ fresh_rises b t h =
     (rising_right 0 (waiting_ids t.admitted) last (length t.requests) (rising_right 0 queue (kept_ids t.admitted t.waiting) (length t.requests) (rising_right 0 (requests_in t.started) (queue ++ kept_ids t.admitted t.waiting) (length t.requests) h.lines.line)))
 
 -- who waits is one of them
-pub waits_anew : (b : Book) (t : Inner) (p : ℕ) → Tied b t → t.pending ≡ [] → is_waiting_at t.requests p ≡ true → IsIn p (numbers_of t.waiting)
+pub waits_anew : (b : Book) (t : TurnState) (p : ℕ) → Tied b t → t.pending ≡ [] → is_waiting_at t.requests p ≡ true → IsIn p (numbers_of t.waiting)
 waits_anew b t p h none w = subst (IsIn p) (sym (numbers_is t.waiting)) (waiting_there b t p h none w)
 
 -- the waits then, also where something was taken off the link
-pub served_waits : (b : Book) (t : Inner) (link after : LinkState) → Tied b t → t.pending ≡ [] → t.life ≡ Ready link → is_outstanding t.again ≡ true → after.queue ≡ link.queue → TiedWaits b.story t.requests again.Nothing (Ready after) (numbers_of t.waiting) t.moved
+pub served_waits : (b : Book) (t : TurnState) (link after : LinkState) → Tied b t → t.pending ≡ [] → t.life ≡ Ready link → is_outstanding t.again ≡ true → after.queue ≡ link.queue → TiedWaits b.story t.requests again.Nothing (Ready after) (numbers_of t.waiting) t.moved
 served_waits b t link after h none e goes same =
     let queue_is : (link_in t.life).queue ≡ after.queue = ap (λ (x : Life). (link_in x).queue) e ∙ sym same in
     record {
@@ -65,5 +65,5 @@ served_waits b t link after h none e goes same =
     }
 
 -- and the rounds
-pub served_rounds : (b : Book) (t : Inner) → Tied b t → t.pending ≡ [] → TiedRounds (has_generations b) b.story t.requests true (numbers_of t.waiting) t.rounds
+pub served_rounds : (b : Book) (t : TurnState) → Tied b t → t.pending ≡ [] → TiedRounds (has_generations b) b.story t.requests true (numbers_of t.waiting) t.rounds
 served_rounds b t h none = rounds_new b.story t.requests t.fresh (numbers_of t.waiting) (λ p shows up u. waits_anew b t p h none (unbegun_waits t.requests p u)) h.rounds

@@ -30,7 +30,7 @@ use Rattle.conn_laws.proofs.Requests.Rounded.{rounds_down}
 use Rattle.conn_laws.proofs.Ties.Numbers.{IsIn, in_left, in_right, Rising, rising_in, rising_right, requests_in, requests_in-append, all_requests}
 use Rattle.conn_laws.proofs.Links.Server.{hearing_there, on_link}
 use Rattle.conn_laws.proofs.Ties.Tied.{TiedCreation, no_link, link_in, owner_of, queue_ids, waiting_ids, IsOver, TiedLife, has_ended}
-use Rattle.session_laws.proofs.Ties.Tied.{Inner, Tied, relined}
+use Rattle.session_laws.proofs.Ties.Tied.{TurnState, Tied, relined}
 use Rattle.session_laws.proofs.Links.Said.{ready_shown, sources_asked, ready_served}
 use Rattle.conn_laws.proofs.Ties.States.{IsStopped}
 use Rattle.session_laws.proofs.Ties.States.{HasApplied}
@@ -64,7 +64,7 @@ use Rattle.conn_laws.proofs.Links.Close.{AreDue, AreInTime, IsClosedOf, SettlesA
 -- the link is closed
 --
 -- where it must end, and nothing is to be answered
-pub may_close : (b : Book) (t : Inner) (why : Ending) → Tied b t → t.pending ≡ [] → t.untold ≡ [] → has_ended t.life ≡ false → ending (b.link t.link) ≡ Some why → MayClose b t.link
+pub may_close : (b : Book) (t : TurnState) (why : Ending) → Tied b t → t.pending ≡ [] → t.untold ≡ [] → has_ended t.life ≡ false → ending (b.link t.link) ≡ Some why → MayClose b t.link
 may_close b t why h none told n must = record {
   why = why;
   ends = must;
@@ -76,7 +76,7 @@ may_close b t why h none told n must = record {
 }
 
 -- the session is tied to the book with the end of the link; the creation may be shown with it
-pub close_tied : (b : Book) (t : Inner) (created : ℕ) (halted told : Bool) (why : Ending) (e : RedisError) (parting : Bool) (pending : List ℕ) → pending ≡ requests_in (wanted (link_in t.life).row) ++ awaited_ids (link_in t.life).queue → ending (b.link t.link) ≡ Some why → owed_by why ≡ Some (outcome.Fault e)
+pub close_tied : (b : Book) (t : TurnState) (created : ℕ) (halted told : Bool) (why : Ending) (e : RedisError) (parting : Bool) (pending : List ℕ) → pending ≡ requests_in (wanted (link_in t.life).row) ++ awaited_ids (link_in t.life).queue → ending (b.link t.link) ≡ Some why → owed_by why ≡ Some (outcome.Fault e)
     → ((f : RedisError) → failure_of why ≡ Some f → created ≢ 0) → (hears_pushes t.hears ≡ true → parting ≡ false → is_fault why ≡ false) → lasting (b.link t.link).last why ≡ why → IsOver (noted (b.link t.link) (ends (b.turns - 1))).end t.shut t.opened → has_ended t.life ≡ false → (b.created ≢ 0 → created ≢ 0) → Tied b (record t { pending = []; untold = []; parting = false }) → TiedCreation created told
     → Tied (record (entered b (action.Close t.link)) { created = created; failed = halted }) (record t { life = Ended e; told = told; pending = pending; untold = []; parting = parting })
 close_tied b t created halted told why e parting pending ids must is shown mild last over up on h made =
@@ -121,20 +121,20 @@ close_tied b t created halted told why e parting pending ids must is shown mild 
 -- what is due then
 --
 -- so it is where nothing is to be answered
-pub are_in_time : (b : Book) (t : Inner) → Tied b t → t.pending ≡ [] → AreInTime b.story t.requests
+pub are_in_time : (b : Book) (t : TurnState) → Tied b t → t.pending ≡ [] → AreInTime b.story t.requests
 are_in_time b t h none p o = in_time b t p h o (λ i. subst (IsIn p) none i)
 
 -- each message that was settled is due what it came to
-due_each : (b : Book) (t : Inner) (ss : List Settled) → Tied b t → AreInTime b.story t.requests → AllByRecursion (IsOwed (owner_of t.requests) (b.link t.link)) ss → AllByRecursion (IsDue (owed b) (name_at t.requests) (is_open_at t.requests)) ss
+due_each : (b : Book) (t : TurnState) (ss : List Settled) → Tied b t → AreInTime b.story t.requests → AllByRecursion (IsOwed (owner_of t.requests) (b.link t.link)) ss → AllByRecursion (IsDue (owed b) (name_at t.requests) (is_open_at t.requests)) ss
 due_each b t [] h early all = tt
 due_each b t (s ∷ ss) h early all = ((λ o. settled_owed b t s h (open_within t.requests s.id o) (early s.id o) all.0), due_each b t ss h early all.1)
 
 -- so each of them is due what it came to
-pub pending_due : (b : Book) (t : Inner) (ss : List Settled) → Tied b t → AreInTime b.story t.requests → AllByRecursion (IsOwed (owner_of t.requests) (b.link t.link)) ss → AllByRecursion (IsDue (owed b) (name_at t.requests) (is_open_at t.requests)) ss
+pub pending_due : (b : Book) (t : TurnState) (ss : List Settled) → Tied b t → AreInTime b.story t.requests → AllByRecursion (IsOwed (owner_of t.requests) (b.link t.link)) ss → AllByRecursion (IsDue (owed b) (name_at t.requests) (is_open_at t.requests)) ss
 pending_due b t ss h early all = due_each b t ss h early all
 
 -- those that wait are due the error of the end
-waiting_due : (b : Book) (t : Inner) (e : RedisError) (qs : List Waiting) → Tied b t → AreInTime b.story t.requests → owed_waiting b.shut (b.link t.link) ≡ Some (outcome.Fault e) → ((n : ℕ) → IsIn n (waiting_ids qs) → IsIn n t.started → ⊥) → AllByRecursion (IsDueError (owed b) (name_at t.requests) (is_open_at t.requests) e) qs
+waiting_due : (b : Book) (t : TurnState) (e : RedisError) (qs : List Waiting) → Tied b t → AreInTime b.story t.requests → owed_waiting b.shut (b.link t.link) ≡ Some (outcome.Fault e) → ((n : ℕ) → IsIn n (waiting_ids qs) → IsIn n t.started → ⊥) → AllByRecursion (IsDueError (owed b) (name_at t.requests) (is_open_at t.requests) e) qs
 waiting_due b t e [] h early over all = tt
 waiting_due b t e (q ∷ qs) h early over all = (
   (λ o. owed_none_started b t q.number h o (early q.number o) (all q.number (inl refl)) ∙ over),
@@ -142,11 +142,11 @@ waiting_due b t e (q ∷ qs) h early over all = (
 )
 
 -- who has no place has not started
-kept_unstarted : (b : Book) (t : Inner) (n : ℕ) → Tied b t → IsIn n (kept_ids t.admitted t.waiting) → IsIn n t.started → ⊥
+kept_unstarted : (b : Book) (t : TurnState) (n : ℕ) → Tied b t → IsIn n (kept_ids t.admitted t.waiting) → IsIn n t.started → ⊥
 kept_unstarted b t n h i = later_unstarted b t n h (in_right n (queue_ids (link_in t.life).queue) (kept_ids t.admitted t.waiting) i)
 
 -- so they are
-pub all_waiting_due : (b : Book) (t : Inner) (e : RedisError) → Tied b t → AreInTime b.story t.requests → owed_waiting b.shut (b.link t.link) ≡ Some (outcome.Fault e)
+pub all_waiting_due : (b : Book) (t : TurnState) (e : RedisError) → Tied b t → AreInTime b.story t.requests → owed_waiting b.shut (b.link t.link) ≡ Some (outcome.Fault e)
     → AreDue (owed b) (name_at t.requests) (is_open_at t.requests) e t.admitted t.waiting
 all_waiting_due b t e h early over = record {
   place = waiting_due b t e t.admitted h early over (λ n i. kept_unstarted b t n h (in_left n (waiting_ids t.admitted) (waiting_ids t.waiting) i));
@@ -156,7 +156,7 @@ all_waiting_due b t e h early over = record {
 -- those that wait are to be answered
 --
 -- the session is tied with them to be answered
-waiting_tied : (b : Book) (t : Inner) → Tied b (record t { pending = [] }) → Tied b (record t { waiting = []; admitted = []; pending = all_kept t.admitted t.waiting })
+waiting_tied : (b : Book) (t : TurnState) → Tied b (record t { pending = [] }) → Tied b (record t { waiting = []; admitted = []; pending = all_kept t.admitted t.waiting })
 waiting_tied b t h =
     relined b (record t { pending = [] }) [] [] t.fresh t.moved (all_kept t.admitted t.waiting) h (waiting_lines b.story t.requests (link_in t.life) t.waiting t.admitted t.started h.lines) h.waits h.rounds (λ p o late. absurd (h.late p o late))
 
@@ -226,7 +226,7 @@ waiting_shut before f w started h rests shut =
     kept_end before f w Resting error.Closed started h rests refl (λ up goes. not_both (is_outstanding w.conn.again) (ap is_outstanding nothing) goes) (λ i. if (h.tied.numbers.shut ∙ shut) i && not (none i) then Some (outcome.Fault error.Closed) else owed_unstarted l.end)
 
 -- the messages of the queue are due the error of the end
-queue_due : (b : Book) (t : Inner) (ids : List ℕ) (ss : List Settled) → Tied b t → AreInTime b.story t.requests → owed_waiting b.shut (b.link t.link) ≡ Some (outcome.Fault error.Closed) → ((n : ℕ) → IsIn n ids → IsIn n t.started → ⊥) → AllByRecursion (IsClosedOf ids) ss
+queue_due : (b : Book) (t : TurnState) (ids : List ℕ) (ss : List Settled) → Tied b t → AreInTime b.story t.requests → owed_waiting b.shut (b.link t.link) ≡ Some (outcome.Fault error.Closed) → ((n : ℕ) → IsIn n ids → IsIn n t.started → ⊥) → AllByRecursion (IsClosedOf ids) ss
     → AllByRecursion (IsDue (owed b) (name_at t.requests) (is_open_at t.requests)) ss
 queue_due b t ids [] h early over unstarted all = tt
 queue_due b t ids (s ∷ ss) h early over unstarted all = (
@@ -235,7 +235,7 @@ queue_due b t ids (s ∷ ss) h early over unstarted all = (
 )
 
 -- who is awaited in the queue is a request
-awaited_asked : (b : Book) (t : Inner) → Tied b t → requests_in (awaited_ids (link_in t.life).queue) ≡ awaited_ids (link_in t.life).queue
+awaited_asked : (b : Book) (t : TurnState) → Tied b t → requests_in (awaited_ids (link_in t.life).queue) ≡ awaited_ids (link_in t.life).queue
 awaited_asked b t h = all_requests (awaited_ids (link_in t.life).queue) (λ n i.
     let queue = queue_ids (link_in t.life).queue in
     let kept = kept_ids t.admitted t.waiting in
@@ -324,7 +324,7 @@ ended_holds before f w row queue why started h alive closes opened mild shut mus
     all_ends before f (cut_short w) (queue_ids (link_in w.conn.life).queue) row queue started (cut_holds before f w row queue why false started h alive closes opened (inr shut) (λ heard done. mild) must)
 
 -- that it was closed by a fault is told, where somebody hears it
-parts_may : (b : Book) (t : Inner) (e : RedisError) → Tied b t → t.life ≡ Ended e → hears_pushes t.hears ≡ true → t.parting ≡ true → is_cut (b.link t.link).end ≡ true → MayPart b t.link (record { kind = Disconnection; parts = [] })
+parts_may : (b : Book) (t : TurnState) (e : RedisError) → Tied b t → t.life ≡ Ended e → hears_pushes t.hears ≡ true → t.parting ≡ true → is_cut (b.link t.link).end ≡ true → MayPart b t.link (record { kind = Disconnection; parts = [] })
 parts_may b t e h over hears due cut =
     let a = after_end b t h (ap has_ended over) in
     record {

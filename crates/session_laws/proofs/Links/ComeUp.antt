@@ -37,7 +37,7 @@ use Rattle.conn_laws.proofs.Requests.Rounded.{rounds_down, rounds_new, early_on}
 use Rattle.conn_laws.proofs.Changes.Requests.{unbegun_waits, waiting_open}
 use Rattle.conn_laws.proofs.Links.Server.{AreSetups, HasCredentials, IsSettingUp, IsSetupDue, IsSetUp, IsWatching, greeting_at, watch_queued}
 use Rattle.conn_laws.proofs.Ties.Tied.{shown_creation, TiedCreation, AreQueued, TiedLines, TiedNotices, TiedWaits, has_ended, link_in, no_link, owner_of, queue_ids, shown_wait, waiting_ids, AreUses, is_reading, TiedRounds}
-use Rattle.session_laws.proofs.Ties.Tied.{Sound, Inner, Tied, inner, is_begun}
+use Rattle.session_laws.proofs.Ties.Tied.{Sound, TurnState, Tied, inner, is_begun}
 use Rattle.conn_laws.proofs.Ties.States.{IsFit, IsFitIn}
 use Rattle.session_laws.proofs.Ties.States.{Between, HasApplied}
 use Rattle.conn_laws.proofs.Links.Creds.{has_credentials, IsOfRenewals, down_sourced}
@@ -64,7 +64,7 @@ use Rattle.conn_laws.proofs.Links.ComeUp.{IsEarly, IsMade, IsUpNow, bare_alone, 
 -- the waits
 --
 -- who waits for the connection is one of them
-bare_waits : (b : Book) (t : Inner) (p : ℕ) → Tied b t → t.pending ≡ [] → t.admitted ≡ [] → link_in t.life ≡ no_link → is_waiting_at t.requests p ≡ true → IsIn p (waiting_ids t.waiting)
+bare_waits : (b : Book) (t : TurnState) (p : ℕ) → Tied b t → t.pending ≡ [] → t.admitted ≡ [] → link_in t.life ≡ no_link → is_waiting_at t.requests p ≡ true → IsIn p (waiting_ids t.waiting)
 bare_waits b t p h none nobody e w =
     elim (h.lines.there p (waiting_open t.requests p w)) [
       | inl i ↦ absurd (subst (λ (x : LinkState). IsIn p ([] ++ (requests_in (wanted x.row) ++ awaited_ids x.queue))) e (subst (λ ns. IsIn p (ns ++ (requests_in (wanted (link_in t.life).row) ++ awaited_ids (link_in t.life).queue))) none i))
@@ -72,12 +72,12 @@ bare_waits b t p h none nobody e w =
     ]
 
 -- so all whose rounds have not begun come anew
-anew_rounds : {ready : Bool} (b : Book) (t : Inner) → Tied b t → t.pending ≡ [] → t.admitted ≡ [] → link_in t.life ≡ no_link → TiedRounds (has_generations b) b.story t.requests ready (numbers_of t.waiting) t.rounds
+anew_rounds : {ready : Bool} (b : Book) (t : TurnState) → Tied b t → t.pending ≡ [] → t.admitted ≡ [] → link_in t.life ≡ no_link → TiedRounds (has_generations b) b.story t.requests ready (numbers_of t.waiting) t.rounds
 anew_rounds b t h none nobody bare = rounds_new b.story t.requests t.fresh (numbers_of t.waiting)
     (λ p shows up u. subst (IsIn p) (sym (numbers_is t.waiting)) (bare_waits b t p h none nobody bare (unbegun_waits t.requests p u))) h.rounds
 
 -- where no wait is to be shown, who waits for the connection has shown what it waits for
-shown_early : (b : Book) (t : Inner) (p : ℕ) (life : Life) → Tied b t → t.fresh ≡ [] → t.life ≡ life → is_ready life ≡ false → has_ended life ≡ false → is_waiting_at t.requests p ≡ true → shown_wait b.story t.requests p ≡ Some (early_wait life)
+shown_early : (b : Book) (t : TurnState) (p : ℕ) (life : Life) → Tied b t → t.fresh ≡ [] → t.life ≡ life → is_ready life ≡ false → has_ended life ≡ false → is_waiting_at t.requests p ≡ true → shown_wait b.story t.requests p ≡ Some (early_wait life)
 shown_early b t p Resting h none e f g w = elim (h.waits.backoff p w e) [ inl i ↦ absurd (subst (IsIn p) none i) | inr s ↦ s ]
 shown_early b t p Dialing h none e f g w = elim (h.waits.connect p w e) [ inl i ↦ absurd (subst (IsIn p) none i) | inr s ↦ s ]
 shown_early b t p (Wanting link) h none e f g w = elim (h.waits.creds p link w e) [ inl i ↦ absurd (subst (IsIn p) none i) | inr s ↦ s ]
@@ -90,7 +90,7 @@ same_kind : (a b : WaitKind) → ◌≡◌ {A = Option WaitKind} (Some a) (Some 
 same_kind a b e = cc
 
 -- the waits in a life in which something else is waited for, where all that waited are to show theirs anew
-pub fresh_waits : (b : Book) (t : Inner) (life after : Life) → Tied b t → t.pending ≡ [] → t.admitted ≡ [] → t.fresh ≡ [] → t.life ≡ life → link_in life ≡ no_link → is_ready life ≡ false → has_ended life ≡ false → early_wait life ≢ early_wait after → is_resting after ≡ false
+pub fresh_waits : (b : Book) (t : TurnState) (life after : Life) → Tied b t → t.pending ≡ [] → t.admitted ≡ [] → t.fresh ≡ [] → t.life ≡ life → link_in life ≡ no_link → is_ready life ≡ false → has_ended life ≡ false → early_wait life ≢ early_wait after → is_resting after ≡ false
     → (link_in after).queue ≡ [] → TiedWaits b.story t.requests t.again after (numbers_of t.waiting) t.moved
 fresh_waits b t life after h none nobody no_fresh e bare f g other goes queue = record {
   early = h.waits.early;
@@ -492,7 +492,7 @@ comes_to_say before c started word kind n info link h good k is other shutless e
     (hushed_there c kind n life is shutless early.there early.alive h.hushed)
 
 -- where its server is put into monitor mode there are none
-none_asked : (b : Book) (t : Inner) → Tied b t → is_watching t.hears ≡ true → t.requests ≡ []
+none_asked : (b : Book) (t : TurnState) → Tied b t → is_watching t.hears ≡ true → t.requests ≡ []
 none_asked b t h w = nil_from_length t.requests (let none = ap length (h.numbers.quiet w).none in let few = h.names.few in omega arith)
 
 -- or, where nothing is to be said, MONITOR is

@@ -24,7 +24,7 @@ use Rattle.legal_trace.specs.Ledger.{Ledger, by_fault, by_opening, by_shutdown, 
 use Rattle.legal_trace.specs.Book.{Book, book, hearing_in}
 use Rattle.conn_laws.proofs.Links.Server.{AreSought, HasSaid, on_link, hearing_on, hearing_there}
 use Rattle.conn_laws.proofs.Ties.Tied.{link_in, no_link, carried, whole_link, owner_of, TiedLife, has_ended, greeter, TiedNotices, is_reading}
-use Rattle.session_laws.proofs.Ties.Tied.{Inner, inner, Tied}
+use Rattle.session_laws.proofs.Ties.Tied.{TurnState, inner, Tied}
 use Rattle.conn_laws.proofs.Links.Creds.{asked_sourced, has_sourced, wanting_lacks}
 use Rattle.conn_laws.proofs.Links.SetUp.{not_set_up, lacking_unset}
 use Rattle.conn_laws.proofs.Links.Said.{ending_wanting, ready_heard, setting_heard, setting_told, renoticed, PushesOf}
@@ -45,7 +45,7 @@ use Rattle.session_laws.proofs.Links.Retire.{setup_failed}
 use Rattle.conn_laws.proofs.Links.End.{Denies, IsPlain, IsSetting, IsUp, IsWanting, bare_error_is, opening_error_is, plain_is, settles_ready}
 
 -- the link of a connection that is ready is up
-pub up_tied : (b : Book) (t : Inner) (link : LinkState) → t.life ≡ Ready link → Tied b t → IsUp (owner_of t.requests) (b.link t.link) b.created link
+pub up_tied : (b : Book) (t : TurnState) (link : LinkState) → t.life ≡ Ready link → Tied b t → IsUp (owner_of t.requests) (b.link t.link) b.created link
 up_tied b t link is h =
     let l = b.link t.link in
     let lived = subst (λ (x : Life). TiedLife l b.created x) is h.life in
@@ -61,7 +61,7 @@ up_tied b t link is h =
     }
 
 -- so it is while the connection says so
-pub wanting_tied : (b : Book) (t : Inner) (link : LinkState) → t.life ≡ Wanting link → Tied b t → IsWanting (b.link t.link) b.created t.started link
+pub wanting_tied : (b : Book) (t : TurnState) (link : LinkState) → t.life ≡ Wanting link → Tied b t → IsWanting (b.link t.link) b.created t.started link
 wanting_tied b t link is h =
     let l = b.link t.link in
     let lived = subst (λ (x : Life). TiedLife l b.created x) is h.life in
@@ -81,7 +81,7 @@ wanting_tied b t link is h =
     }
 
 -- so it is while the connection says so
-pub setting_tied : (b : Book) (t : Inner) (link : LinkState) (greeting : Greeting) → t.life ≡ SettingUp link greeting → Tied b t → IsSetting (b.link t.link) b.created t.started link greeting
+pub setting_tied : (b : Book) (t : TurnState) (link : LinkState) (greeting : Greeting) → t.life ≡ SettingUp link greeting → Tied b t → IsSetting (b.link t.link) b.created t.started link greeting
 setting_tied b t link greeting is h =
     let l = b.link t.link in
     let lived = subst (λ (x : Life). TiedLife l b.created x) is h.life in
@@ -142,11 +142,11 @@ pub plain_begins : (before : List Action) (c : Core) (started : List ℕ) (word 
 plain_begins before c started word kind n p h good k is = heard_begins before c started word kind n c.single.connection.life [] h good k is (plain_leads before c started n p h)
 
 -- a link that is set up still isn't ready
-pub setting_unready : (b : Book) (t : Inner) (link : LinkState) (greeting : Greeting) → t.life ≡ SettingUp link greeting → Tied b t → IsUnready b.created t.life t.started
+pub setting_unready : (b : Book) (t : TurnState) (link : LinkState) (greeting : Greeting) → t.life ≡ SettingUp link greeting → Tied b t → IsUnready b.created t.life t.started
 setting_unready b t link greeting e h = let s = setting_tied b t link greeting e h in record { bare = ap link_in e; none = s.none; unready = ap is_ready e; alive = ap has_ended e; there = ap is_resting e }
 
 -- nor is one that waits for credentials
-pub wanting_unready : (b : Book) (t : Inner) (link : LinkState) → t.life ≡ Wanting link → Tied b t → IsUnready b.created t.life t.started
+pub wanting_unready : (b : Book) (t : TurnState) (link : LinkState) → t.life ≡ Wanting link → Tied b t → IsUnready b.created t.life t.started
 wanting_unready b t link e h = let s = wanting_tied b t link e h in record { bare = ap link_in e; none = s.none; unready = ap is_ready e; alive = ap has_ended e; there = ap is_resting e }
 
 -- what was told of a link that is there

@@ -27,7 +27,7 @@ use Rattle.legal_trace.proofs.Came.{Came, bytes_are}
 use Rattle.conn_laws.proofs.Requests.Rounded.{rounds_down, early_on}
 use Rattle.conn_laws.proofs.Links.Server.{TiedCreds, TiedSetup, on_link}
 use Rattle.conn_laws.proofs.Ties.Tied.{AreQueued, TiedLife, TiedLines, TiedWaits, has_ended, link_in}
-use Rattle.session_laws.proofs.Ties.Tied.{inner, HasCourse, Inner, Tied}
+use Rattle.session_laws.proofs.Ties.Tied.{inner, HasCourse, TurnState, Tied}
 use Rattle.conn_laws.proofs.Links.Creds.{asked_sourced}
 use Rattle.session_laws.proofs.Ties.States.{Between, HasEffect}
 use Rattle.conn_laws.proofs.Links.Said.{PushesOf, ending_wanting}
@@ -48,7 +48,7 @@ use Rattle.conn_laws.proofs.Internal.Serving.{unready_serves}
 use Rattle.session_laws.proofs.Internal.Held.{held_hears}
 
 -- the course of its link
-on_way : (b : Book) (t : Inner) (link : LinkState) → t.life ≡ Wanting link → Tied b t → HasCourse (b.link t.link).last (b.link t.link).end t.links t.link t.shut t.manager t.last t.opened t.info t.address (Wanting link)
+on_way : (b : Book) (t : TurnState) (link : LinkState) → t.life ≡ Wanting link → Tied b t → HasCourse (b.link t.link).last (b.link t.link).end t.links t.link t.shut t.manager t.last t.opened t.info t.address (Wanting link)
 on_way b t link e h = subst (HasCourse (b.link t.link).last (b.link t.link).end t.links t.link t.shut t.manager t.last t.opened t.info t.address) e h.course
 
 -- the event has its effect, where this came

@@ -40,7 +40,7 @@ use Rattle.conn_laws.proofs.Internal.Renewals.{down_renewed_due, early_renewal}
 use Rattle.session_laws.proofs.Requests.Settle.{trace_of_acts, book_of_more}
 use Rattle.session_laws.proofs.Ties.States.{Between, HasRetired, HasEffect}
 use Rattle.conn_laws.proofs.Ties.Tied.{AreAside, AreUses, IsAside, TiedLines, link_in, no_link}
-use Rattle.session_laws.proofs.Ties.Tied.{IsRetiring, Tied, inner, AreAimed}
+use Rattle.session_laws.proofs.Ties.Tied.{AfterFailedAttempt, Tied, inner, AreAimed}
 use Rattle.legal_trace.specs.Managers.{is_lazy}
 use Rattle.connection_info.specs.declared.address.RedisConnectionInfo.{RedisConnectionInfo}
 use Rattle.session_laws.proofs.Turn.Heard.{going_awake, heard_by, book_news, book_kind}
@@ -148,7 +148,7 @@ retires before c started word kind n acts links placed since l h is other u last
     let nobody : conn.admitted ≡ [] = h.fit.none unserving in
     let early : (p : ℕ) → is_open_at conn.requests p ≡ true → is_unbegun_at conn.requests p ≡ true = (h0.early unserving u.alive).unbegun in
     let waits : (p : ℕ) → is_open_at conn.requests p ≡ true → is_waiting_at conn.requests p ≡ true = λ p o. unbegun_waits conn.requests p (early p o) in
-    let retiring : IsRetiring now (inner (numbered (with_work (record { core = turned c kind; acts = [] }) (record { conn = afresh conn; acts = acts }))).core []) = record {
+    let retiring : AfterFailedAttempt now (inner (numbered (with_work (record { core = turned c kind; acts = [] }) (record { conn = afresh conn; acts = acts }))).core []) = record {
       numbers = record {
         turns = ap (λ m. m + 1) h0.numbers.turns;
         links = h0.numbers.links;
@@ -198,7 +198,7 @@ retires before c started word kind n acts links placed since l h is other u last
       started = refl;
       fresh = numbers_is conn.waiting;
       free = refl;
-      letting = refl;
+      being_admitted = refl;
       rounds_is = h0.rounds.rounds_is;
       waiting = early;
       holds = λ p o. h0.permits.none p (waits p o) (λ i. i);
@@ -206,7 +206,7 @@ retires before c started word kind n acts links placed since l h is other u last
     } in
     record {
       stands = stands;
-      retiring = subst (λ (x : Book). IsRetiring x (inner (numbered (with_work (record { core = turned c kind; acts = [] }) (record { conn = afresh conn; acts = acts }))).core [])) (sym book_is) retiring;
+      retiring = subst (λ (x : Book). AfterFailedAttempt x (inner (numbered (with_work (record { core = turned c kind; acts = [] }) (record { conn = afresh conn; acts = acts }))).core [])) (sym book_is) retiring;
       shown = subst IsShown (sym book_is) (attempt_shown b now c started l h0 u.none (λ m. refl) refl refl own a others);
       began = λ z. absurd (omega arith);
       fit = record { wanting = λ link e. cc; setup = λ link greeting e. cc; link = λ link e. cc; none = λ no. refl };

@@ -7,14 +7,14 @@ use Rattle.legal_trace.specs.Book.{Book}
 use Rattle.legal_trace.specs.Legal.{ReadyIsShown, SourcesAreAsked}
 use Rattle.conn_laws.proofs.Links.Creds.{down_sourced}
 use Rattle.conn_laws.proofs.Ties.Tied.{brings_bytes}
-use Rattle.session_laws.proofs.Ties.Tied.{Inner, Tied}
+use Rattle.session_laws.proofs.Ties.Tied.{TurnState, Tied}
 use Rattle.mux_conn.specs.Connection.{is_outstanding, is_ready as is_ready_life}
 use Rattle.conn_laws.proofs.Links.Said.{IsTame, life_sourced, no_ending, ready_lives, ready_made, served_by}
 
 -- what is still to be told of a link stays
 --
 -- so no such value came where nothing must end
-pub is_tame : (b : Book) (t : Inner) → Tied b t → ending (b.link t.link) ≡ None → IsTame (b.link t.link)
+pub is_tame : (b : Book) (t : TurnState) → Tied b t → ending (b.link t.link) ≡ None → IsTame (b.link t.link)
 is_tame b t h none lives = by_news (b.link t.link).heard refl
   where
     l : Ledger
@@ -45,21 +45,21 @@ is_tame b t h none lives = by_news (b.link t.link).heard refl
 
 -- where a link is ready
 --
-pub ready_life : (b : Book) (t : Inner) → Tied b t → is_ready (b.link t.link) ≡ true → is_ready_life t.life ≡ true
+pub ready_life : (b : Book) (t : TurnState) → Tied b t → is_ready (b.link t.link) ≡ true → is_ready_life t.life ≡ true
 ready_life b t h ready = ready_lives (b.link t.link) b.created t.info t.started t.life h.life h.creds.sought h.setup ready
 
-pub ready_shown : (b : Book) (t : Inner) → Tied b t → ReadyIsShown b
+pub ready_shown : (b : Book) (t : TurnState) → Tied b t → ReadyIsShown b
 ready_shown b t h m ready = by_test (m == t.link) _
     (λ same. ready_made (b.link t.link) b.created t.life (ready_life b t h (subst (λ k. is_ready (b.link k) ≡ true) (eq_from m t.link same) ready)) h.life)
     (λ other. absurd (not_both (b.link m).up (h.others m (ne_from m t.link other)).down (both_left (b.link m).up (is_set_up (b.link m)) ready)))
 
-pub ready_served : (b : Book) (t : Inner) → Tied b t → is_ready (b.link t.link) ≡ true → is_served (b.link t.link) ≡ not (is_outstanding t.again)
+pub ready_served : (b : Book) (t : TurnState) → Tied b t → is_ready (b.link t.link) ≡ true → is_served (b.link t.link) ≡ not (is_outstanding t.again)
 ready_served b t h ready = served_by (b.link t.link) b.tracked t.renewal.within t.again t.life (ready_life b t h ready) h.repeat
 
 -- every source was asked for that is to be
 --
 -- of any link
-pub sources_asked : (b : Book) (t : Inner) → Tied b t → SourcesAreAsked b
+pub sources_asked : (b : Book) (t : TurnState) → Tied b t → SourcesAreAsked b
 sources_asked b t h m = by_test (m == t.link) _
     (λ same. subst (λ k. source_due (b.link k) ≡ false) (sym (eq_from m t.link same)) (life_sourced (b.link t.link) b.created t.started t.life h.life h.creds.sought h.setup.said))
     (λ other. down_sourced (b.link m) (h.others m (ne_from m t.link other)).down)

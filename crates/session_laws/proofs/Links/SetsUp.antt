@@ -32,7 +32,7 @@ use Rattle.conn_laws.proofs.Requests.Start.{with_queue}
 use Rattle.conn_laws.proofs.Ties.States.{IsFit}
 use Rattle.conn_laws.proofs.Links.Server.{greeting_at}
 use Rattle.conn_laws.proofs.Ties.Tied.{greeter}
-use Rattle.session_laws.proofs.Ties.Tied.{Inner, Tied, numbers_kept}
+use Rattle.session_laws.proofs.Ties.Tied.{TurnState, Tied, numbers_kept}
 use Rattle.conn_laws.proofs.Internal.Renewals.{none_begins}
 use Rattle.conn_laws.proofs.Links.SameSaid.{greeter_at, greeting_of, setting_of}
 use Rattle.conn_laws.proofs.Internal.Repeats.{begins_held}
@@ -41,15 +41,15 @@ use Rattle.conn_laws.proofs.Links.SetsUp.{due_queued, due_start, none_set_up, se
 -- the session
 --
 -- whose link is set up, while nothing is to be answered
-abbrev pub setting_on : Inner → LinkState → Greeting → Inner
+abbrev pub setting_on : TurnState → LinkState → Greeting → TurnState
 setting_on t link greeting = record t { life = SettingUp link greeting; pending = []; untold = []; parting = false }
 
 -- what the start of the setup shows
-abbrev set_up_action : Inner → LinkState → Queued → Action
+abbrev set_up_action : TurnState → LinkState → Queued → Action
 set_up_action t link q = action.Start t.link link.started owner.Setup (need_of q.shape) (length q.packed)
 
 -- the setup that is due may start, where nothing holds it back
-set_up_may : (b : Book) (t : Inner) (link : LinkState) (greeting : Greeting)
+set_up_may : (b : Book) (t : TurnState) (link : LinkState) (greeting : Greeting)
     → (let q = due_queued (b.link t.link) greeting in
     setup_after (b.link t.link) (setup_count (b.link t.link).starts) ≡ Some (setup_count (b.link t.link).starts) → IsFit t.size t.bound link → holds_back link ≡ false → Tied b (setting_on t (with_queue link (q ∷ [])) greeting) → NoneEnds b
     → MaySetUp b t.link link.started (need_of q.shape) (length q.packed))
@@ -70,7 +70,7 @@ set_up_may b t link greeting due fit free h ended =
     }
 
 -- the session is tied to the book with that start
-set_up_tied : (b : Book) (t : Inner) (link : LinkState) (greeting : Greeting)
+set_up_tied : (b : Book) (t : TurnState) (link : LinkState) (greeting : Greeting)
     → (let q = due_queued (b.link t.link) greeting in
     setup_after (b.link t.link) (setup_count (b.link t.link).starts) ≡ Some (setup_count (b.link t.link).starts) → greeting ≡ greeting_at (setup_count (b.link t.link).starts) → Tied b (setting_on t (with_queue link (q ∷ [])) greeting)
     → Tied (entered b (set_up_action t link q)) (setting_on t (with_queue (begun link q) []) greeting))
@@ -115,7 +115,7 @@ set_up_tied b t link greeting due user h =
     })
 
 -- which ends no link
-set_up_ends_none : (b : Book) (t : Inner) (link : LinkState) (greeting : Greeting)
+set_up_ends_none : (b : Book) (t : TurnState) (link : LinkState) (greeting : Greeting)
     → (let q = due_queued (b.link t.link) greeting in
     setup_after (b.link t.link) (setup_count (b.link t.link).starts) ≡ Some (setup_count (b.link t.link).starts) → Tied b (setting_on t (with_queue link (q ∷ [])) greeting) → NoneEnds b
     → NoneEnds (entered b (set_up_action t link q)))
@@ -125,7 +125,7 @@ set_up_ends_none b t link greeting due h ended =
     none_ends_mine b t.link (begins (due_start l)) (setup_stays l (due_start l) c refl (taken_if l.up (setup_after l c) None h.life.1 ∙ due) (h.link refl).within (ended t.link)) ended
 
 -- so it goes on with it
-set_up_going : (trace : List Action) (t : Inner) (link : LinkState) (greeting : Greeting)
+set_up_going : (trace : List Action) (t : TurnState) (link : LinkState) (greeting : Greeting)
     → (let l = (book trace).link t.link in
     let q = due_queued l greeting in
     setup_after l (setup_count l.starts) ≡ Some (setup_count l.starts) → greeting ≡ greeting_at (setup_count l.starts) → IsFit t.size t.bound link → holds_back link ≡ false → IsGoing trace (setting_on t (with_queue link (q ∷ [])) greeting)

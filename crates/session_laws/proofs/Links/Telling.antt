@@ -31,7 +31,7 @@ use Rattle.legal_trace.specs.Owed.{owed, owed_to_message, owed_to_try, owed_wait
 use Rattle.legal_trace.specs.Legal.{AllStand, IsBefore, IsOpen, MayNotify, MayPushBy, MayStand}
 use Rattle.conn_laws.proofs.Ties.Numbers.{IsIn, Rising, in_either, in_left, in_right, requests_in, request_of, is_own, requests_behind, requests_first}
 use Rattle.conn_laws.proofs.Ties.Tied.{has_ended, link_in, owner_of, queue_ids, own_owner}
-use Rattle.session_laws.proofs.Ties.Tied.{Inner, Tied, Sound}
+use Rattle.session_laws.proofs.Ties.Tied.{TurnState, Tied, Sound}
 use Rattle.session_laws.proofs.Links.Said.{ready_shown, sources_asked}
 use Rattle.conn_laws.proofs.Changes.Requests.{progress_count as length_with}
 use Rattle.conn_laws.proofs.Ties.Names.{name_with, open_within, with_then}
@@ -58,17 +58,17 @@ use Rattle.conn_laws.proofs.Changes.Values.{none_told}
 -- whose message was full before a notice came
 --
 -- the last try of a request whose message started as number k
-last_try : (b : Book) (t : Inner) (p k : ℕ) (of_shape : Shape) → Tied b t → p < length t.requests → StandsAs (b.link t.link).starts (owner_of t.requests p) of_shape k → last_of (b.story (name_at t.requests p)).tries ≡ Some (record { link = t.link; message = k })
+last_try : (b : Book) (t : TurnState) (p k : ℕ) (of_shape : Shape) → Tied b t → p < length t.requests → StandsAs (b.link t.link).starts (owner_of t.requests p) of_shape k → last_of (b.story (name_at t.requests p)).tries ≡ Some (record { link = t.link; message = k })
 last_try b t p k of_shape h l place =
     let s = stands_started b t p k of_shape h l place in
     ap last_of (h.tries.tried s.0 p l s.2 ∙ ap (λ m. record { link = t.link; message = m } ∷ []) (sym s.1))
 
 -- where it was full
-full_before : (b : Book) (t : Inner) (p k : ℕ) (of_shape : Shape) (push : Heard) → Tied b t → p < length t.requests → StandsAs (b.link t.link).starts (owner_of t.requests p) of_shape k → is_full_by (b.link t.link) push.after k ≡ true → IsBefore b (name_at t.requests p) push
+full_before : (b : Book) (t : TurnState) (p k : ℕ) (of_shape : Shape) (push : Heard) → Tied b t → p < length t.requests → StandsAs (b.link t.link).starts (owner_of t.requests p) of_shape k → is_full_by (b.link t.link) push.after k ≡ true → IsBefore b (name_at t.requests p) push
 full_before b t p k of_shape push h l place full = record { try = record { link = t.link; message = k }; last = last_try b t p k of_shape h l place; full = full }
 
 -- and the other way round
-before_full : (b : Book) (t : Inner) (p k : ℕ) (of_shape : Shape) (push : Heard) → Tied b t → p < length t.requests → StandsAs (b.link t.link).starts (owner_of t.requests p) of_shape k → IsBefore b (name_at t.requests p) push → is_full_by (b.link t.link) push.after k ≡ true
+before_full : (b : Book) (t : TurnState) (p k : ℕ) (of_shape : Shape) (push : Heard) → Tied b t → p < length t.requests → StandsAs (b.link t.link).starts (owner_of t.requests p) of_shape k → IsBefore b (name_at t.requests p) push → is_full_by (b.link t.link) push.after k ≡ true
 before_full b t p k of_shape push h l place before =
     let same : record { link = t.link; message = k } ≡ before.try = one_try (record { link = t.link; message = k }) before.try (sym (last_try b t p k of_shape h l place) ∙ before.last) in
     subst (λ (x : Try). is_full_by (b.link x.link) push.after x.message ≡ true) (sym same) before.full
@@ -86,7 +86,7 @@ none_started b p push name none before = no_try before.try (sym (ap last_of none
 -- those whose message was not full before a notice came
 --
 -- so nobody who is open was before it, where those that are to be answered weren't
-none_was : (b : Book) (t : Inner) (push : Heard) → Tied b t → has_ended t.life ≡ false → push.after ≤ length (b.link t.link).dealt → ((p : ℕ) → IsIn p t.pending → p < length t.requests → IsLate (b.link t.link) (owner_of t.requests) push p)
+none_was : (b : Book) (t : TurnState) (push : Heard) → Tied b t → has_ended t.life ≡ false → push.after ≤ length (b.link t.link).dealt → ((p : ℕ) → IsIn p t.pending → p < length t.requests → IsLate (b.link t.link) (owner_of t.requests) push p)
     → (m : ℕ) → IsOpen b m → IsBefore b m push → ⊥
 none_was b t push h alive within pending m asked before =
     let q = open_request b t m h asked in
@@ -161,7 +161,7 @@ notice_link b l (notice.Message m) come here = ap (λ k. noted_each (b.link l) (
 notice_link b l (notice.Monitor v) come here = ap (λ k. noted_each (b.link l) (if_mine (k == l) tells)) here ∙ mine_noted (b.link l) l tells
 
 -- it may be told
-notify_may : (b : Book) (t : Inner) (n : Notice) (h : Heard) (rest : List Heard) → Tied b t → t.untold ≡ h ∷ rest → hears_something t.hears ≡ true → has_ended t.life ≡ false → n ≡ h.what → h.after ≤ length (b.link t.link).dealt
+notify_may : (b : Book) (t : TurnState) (n : Notice) (h : Heard) (rest : List Heard) → Tied b t → t.untold ≡ h ∷ rest → hears_something t.hears ≡ true → has_ended t.life ≡ false → n ≡ h.what → h.after ≤ length (b.link t.link).dealt
     → ((p : ℕ) → IsIn p t.pending → p < length t.requests → IsLate (b.link t.link) (owner_of t.requests) h p) → MayNotify b t.link n
 notify_may b t n h rest tied untold hears alive says within pending =
     let following = next_of (b.link t.link).told (b.link t.link).notices h rest (tied.notices.untold_is hears ∙ untold) in
@@ -177,7 +177,7 @@ notify_may b t n h rest tied untold hears alive says within pending =
     }
 
 -- so its action may stand
-notice_may : (b : Book) (t : Inner) (n : Notice) → IsNoEnd n → b.current ≡ t.link → MayNotify b t.link n → MayStand b (notice_action t.link n)
+notice_may : (b : Book) (t : TurnState) (n : Notice) → IsNoEnd n → b.current ≡ t.link → MayNotify b t.link n → MayStand b (notice_action t.link n)
 notice_may b t (notice.Push info) come here may = subst (λ (x : Bool). MayPushBy x b t.link info) (sym come) may
 notice_may b t (notice.Message m) come here may = subst (λ k. MayNotify b k (notice.Message m)) (sym here) may
 notice_may b t (notice.Monitor v) come here may = subst (λ k. MayNotify b k (notice.Monitor v)) (sym here) may
@@ -258,7 +258,7 @@ answered_between before f ledger owes name was w h rest p o pending started hear
     b : Book
     b = book (trace_of_acts before f w.acts)
 
-    t : Inner
+    t : TurnState
     t = record (seen f w.acts w.conn pending started) { untold = h ∷ rest }
 
     l : Ledger

@@ -8,7 +8,7 @@ use Rattle.legal_trace.specs.Book.{Book, entered, placed_since, push_line, heari
 use Rattle.session_laws.proofs.Ties.Kept.{mine_noted, others_kept, tied_by}
 use Rattle.conn_laws.proofs.Links.Server.{hearing_at}
 use Rattle.conn_laws.proofs.Ties.Tied.{TiedNotices, carried, whole_link, is_reading}
-use Rattle.session_laws.proofs.Ties.Tied.{Inner, Tied}
+use Rattle.session_laws.proofs.Ties.Tied.{TurnState, Tied}
 use Rattle.conn_laws.proofs.Internal.Renewals.{renewal_alike}
 use Rattle.conn_laws.proofs.Links.SameSaid.{said_alike}
 use Rattle.driver_model.specs.declared.hearing.Notice.{Notice}
@@ -25,7 +25,7 @@ abbrev pub lined : Book → ℕ → Line → Book
 lined b n line = record b { link = λ m. noted_each (b.link m) (if_mine (n == m) line); placed = λ m. placed_since (has_place (b.story m)) (b.placed m) (b.turns - 1) }
 
 -- the session is tied to the book with such a line
-pub line_tied : (b : Book) (t : Inner) (line : Line) (told : ℕ) (parted : Bool) (untold : List Heard) (parting : Bool) → noted (b.link t.link) line ≡ retells (b.link t.link) told parted
+pub line_tied : (b : Book) (t : TurnState) (line : Line) (told : ℕ) (parted : Bool) (untold : List Heard) (parting : Bool) → noted (b.link t.link) line ≡ retells (b.link t.link) told parted
     → (let l = b.link t.link in TiedNotices (hearing_in b.config) t.hears (hearing_at t.life t.hears l.hearing) l.notices told l.end parted l.strange (is_reading l) untold parting) → Tied b t → Tied (lined b t.link line) (record t { untold = untold; parting = parting })
 line_tied b t line told parted untold parting is pushed h =
     let l = b.link t.link in
@@ -56,7 +56,7 @@ line_tied b t line told parted untold parting is pushed h =
     })
 
 -- so with a push
-pub push_tied : (b : Book) (t : Inner) (info : PushInfo) (told : ℕ) (parted : Bool) (untold : List Heard) (parting : Bool) → noted (b.link t.link) (push_line info.kind) ≡ retells (b.link t.link) told parted
+pub push_tied : (b : Book) (t : TurnState) (info : PushInfo) (told : ℕ) (parted : Bool) (untold : List Heard) (parting : Bool) → noted (b.link t.link) (push_line info.kind) ≡ retells (b.link t.link) told parted
     → (let l = b.link t.link in TiedNotices (hearing_in b.config) t.hears (hearing_at t.life t.hears l.hearing) l.notices told l.end parted l.strange (is_reading l) untold parting) → Tied b t → Tied (entered b (action.Push t.link info)) (record t { untold = untold; parting = parting })
 push_tied b t info told parted untold parting is pushed h = line_tied b t (push_line info.kind) told parted untold parting is pushed h
 
@@ -67,11 +67,11 @@ notice_action l (notice.Message m) = action.Message m
 notice_action l (notice.Monitor v) = action.Monitor v
 
 -- messages are told of the session's link
-pub current_is : (b : Book) (t : Inner) → Tied b t → b.current ≡ t.link
+pub current_is : (b : Book) (t : TurnState) → Tied b t → b.current ≡ t.link
 current_is b t h = h.numbers.current_is
 
 -- so with anything that came
-pub notice_tied : (b : Book) (t : Inner) (n : Notice) (untold : List Heard) → IsNoEnd n
+pub notice_tied : (b : Book) (t : TurnState) (n : Notice) (untold : List Heard) → IsNoEnd n
     → (let l = b.link t.link in TiedNotices (hearing_in b.config) t.hears (hearing_at t.life t.hears l.hearing) l.notices (l.told + 1) l.end l.parted l.strange (is_reading l) untold t.parting) → Tied b t → Tied (entered b (notice_action t.link n)) (record t { untold = untold })
 notice_tied b t (notice.Push info) untold come pushed h =
     push_tied b t info ((b.link t.link).told + 1) (b.link t.link).parted untold t.parting (ap (noted (b.link t.link)) (left_if (is_disconnection info.kind) parts tells come)) pushed h

@@ -36,18 +36,18 @@ use Rattle.session_laws.proofs.Requests.Settle.{quiet_asks, seen, trace_of_acts}
 use Rattle.conn_laws.proofs.Requests.Start.{with_queue}
 use Rattle.conn_laws.proofs.Ties.States.{IsFit}
 use Rattle.conn_laws.proofs.Links.Server.{IsWatchDue, IsWatching, watch_queued}
-use Rattle.session_laws.proofs.Ties.Tied.{Inner, Tied, numbers_kept}
+use Rattle.session_laws.proofs.Ties.Tied.{TurnState, Tied, numbers_kept}
 use Rattle.conn_laws.proofs.Internal.Repeats.{begins_held}
 use Rattle.conn_laws.proofs.Links.Watches.{queued, tries_watched, watch_due, watched, watching_next}
 
 -- the session
 --
 -- what the start of MONITOR shows
-abbrev pub watch_action : Inner → LinkState → Action
+abbrev pub watch_action : TurnState → LinkState → Action
 watch_action t link = action.Start t.link link.started owner.Monitor (need_of watch_queued.shape) (length watch_queued.packed)
 
 -- it may start, where nothing holds it back
-watch_may : (b : Book) (t : Inner) (link : LinkState) → IsWatchDue (b.link t.link) (queued link) → IsFit t.size t.bound link → holds_back link ≡ false → Tied b (setting_on t (queued link) greet.Monitor) → NoneEnds b
+watch_may : (b : Book) (t : TurnState) (link : LinkState) → IsWatchDue (b.link t.link) (queued link) → IsFit t.size t.bound link → holds_back link ≡ false → Tied b (setting_on t (queued link) greet.Monitor) → NoneEnds b
     → MayWatch b t.link link.started (need_of watch_queued.shape) (length watch_queued.packed)
 watch_may b t link due fit free h ended =
     let l = b.link t.link in
@@ -65,7 +65,7 @@ watch_may b t link due fit free h ended =
     }
 
 -- the session is tied to the book with that start
-watch_tied : (b : Book) (t : Inner) (link : LinkState) → IsWatchDue (b.link t.link) (queued link) → Tied b (setting_on t (queued link) greet.Monitor) → Tied (entered b (watch_action t link)) (setting_on t (watched link) greet.Monitor)
+watch_tied : (b : Book) (t : TurnState) (link : LinkState) → IsWatchDue (b.link t.link) (queued link) → Tied b (setting_on t (queued link) greet.Monitor) → Tied (entered b (watch_action t link)) (setting_on t (watched link) greet.Monitor)
 watch_tied b t link due h =
     let l = b.link t.link in
     let s = monitor_message in
@@ -101,13 +101,13 @@ watch_tied b t link due h =
     })
 
 -- which ends no link
-watch_ends_none : (b : Book) (t : Inner) (link : LinkState) → IsWatchDue (b.link t.link) (queued link) → Tied b (setting_on t (queued link) greet.Monitor) → NoneEnds b → NoneEnds (entered b (watch_action t link))
+watch_ends_none : (b : Book) (t : TurnState) (link : LinkState) → IsWatchDue (b.link t.link) (queued link) → Tied b (setting_on t (queued link) greet.Monitor) → NoneEnds b → NoneEnds (entered b (watch_action t link))
 watch_ends_none b t link due h ended =
     let l = b.link t.link in
     none_ends_mine b t.link (begins monitor_message) (watch_stays l monitor_message refl (watch_due l (queued link) h.life.1 h.setup.said.1 due) (h.link refl).within (ended t.link)) ended
 
 -- so it goes on with it
-watch_going : (trace : List Action) (t : Inner) (link : LinkState) → IsWatchDue ((book trace).link t.link) (queued link) → IsFit t.size t.bound link → holds_back link ≡ false → IsGoing trace (setting_on t (queued link) greet.Monitor)
+watch_going : (trace : List Action) (t : TurnState) (link : LinkState) → IsWatchDue ((book trace).link t.link) (queued link) → IsFit t.size t.bound link → holds_back link ≡ false → IsGoing trace (setting_on t (queued link) greet.Monitor)
     → IsGoing (trace ++ watch_action t link ∷ []) (setting_on t (watched link) greet.Monitor)
 watch_going trace t link due fit free h =
     let b = book trace in

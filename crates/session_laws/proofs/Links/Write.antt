@@ -33,7 +33,7 @@ use Rattle.conn_laws.proofs.Links.Took.{queue_waits}
 use Rattle.conn_laws.proofs.Ties.States.{IsFit, IsStopped}
 use Rattle.conn_laws.proofs.Links.Server.{HasSaid}
 use Rattle.conn_laws.proofs.Ties.Tied.{TiedLife, carried, has_ended, owner_of, whole_link, link_in, greeter}
-use Rattle.session_laws.proofs.Ties.Tied.{Inner, Tied, numbers_kept, IsHeeded}
+use Rattle.session_laws.proofs.Ties.Tied.{TurnState, Tied, numbers_kept, IsHeeded}
 use Rattle.session_laws.proofs.Managers.Comes.{plain_put}
 use Rattle.single_session.specs.declared.generations.Generations.{Generations}
 use Rattle.conn_laws.proofs.Internal.Repeats.{repeat_alike, serves}
@@ -43,7 +43,7 @@ use Rattle.conn_laws.proofs.Links.Write.{IsOfferedIn, all_offered_can, hushed_in
 
 -- an offer
 --
-write_tied : (b : Book) (t : Inner) (link : LinkState) → Tied b (on_link t link) → Tied (entered b (action.Write t.link link.outbox.unwritten)) (on_link t (offered_of link))
+write_tied : (b : Book) (t : TurnState) (link : LinkState) → Tied b (on_link t link) → Tied (entered b (action.Write t.link link.outbox.unwritten)) (on_link t (offered_of link))
 write_tied b t link h =
     let l = b.link t.link in
     let line = offers link.outbox.unwritten in
@@ -74,7 +74,7 @@ write_tied b t link h =
     })
 
 -- so it is while the link is set up
-write_set_tied : (b : Book) (t : Inner) (link : LinkState) (greeting : Greeting) → Tied b (setting_on t link greeting) → Tied (entered b (action.Write t.link link.outbox.unwritten)) (setting_on t (offered_of link) greeting)
+write_set_tied : (b : Book) (t : TurnState) (link : LinkState) (greeting : Greeting) → Tied b (setting_on t link greeting) → Tied (entered b (action.Write t.link link.outbox.unwritten)) (setting_on t (offered_of link) greeting)
 write_set_tied b t link greeting h =
     let l = b.link t.link in
     let line = offers link.outbox.unwritten in
@@ -106,7 +106,7 @@ write_set_tied b t link greeting h =
     })
 
 -- it may stand, once all requests are moved
-write_may : (b : Book) (t : Inner) (name : ℕ → Owner) (link : LinkState) → ((m : ℕ) → m ≢ t.link → (b.link m).up ≡ false) → (b.link t.link).up ≡ true → TiedLink name (b.link t.link) link → IsMoved b → can_offer link.outbox ≡ true → MayWrite b t.link link.outbox.unwritten
+write_may : (b : Book) (t : TurnState) (name : ℕ → Owner) (link : LinkState) → ((m : ℕ) → m ≢ t.link → (b.link m).up ≡ false) → (b.link t.link).up ≡ true → TiedLink name (b.link t.link) link → IsMoved b → can_offer link.outbox ≡ true → MayWrite b t.link link.outbox.unwritten
 write_may b t name link others alive tied moved can =
     let may = offer_stands name (b.link t.link) link alive can tied in
     record {
@@ -279,7 +279,7 @@ written_holds before f w h = by_life w.conn.life refl
 
 -- every link that is up is offered its bytes
 --
-up_offered : (b : Book) (t : Inner) → Tied b t → IsOfferedIn t.life → (b.link t.link).up ≡ true → IsOffered (b.link t.link)
+up_offered : (b : Book) (t : TurnState) → Tied b t → IsOfferedIn t.life → (b.link t.link).up ≡ true → IsOffered (b.link t.link)
 up_offered b t h offered up = is_offered (carried t.life t.requests) (b.link t.link) (whole_link t.life) offered (h.link (alive t.life h.life))
   where
     alive : (life : Life) → TiedLife (b.link t.link) b.created life → has_ended life ≡ false
@@ -291,7 +291,7 @@ up_offered b t h offered up = is_offered (carried t.life t.requests) (b.link t.l
     alive (Ended y) k = absurd (not_both (b.link t.link).up k.0 up)
 
 -- so the book has all its writes
-pub is_written : (b : Book) (t : Inner) → Tied b t → IsMoved b → IsOfferedIn t.life → IsWritten b
+pub is_written : (b : Book) (t : TurnState) → Tied b t → IsMoved b → IsOfferedIn t.life → IsWritten b
 is_written b t h moved offered = record {
   moved = moved;
   offered = λ l up. by_test (l == t.link) _

@@ -22,7 +22,7 @@ use Rattle.conn_laws.proofs.Ties.Numbers.{IsIn}
 use Rattle.conn_laws.proofs.Ties.Owes.{lives}
 use Rattle.session_laws.proofs.Ties.Owes.{not_empty, request_story}
 use Rattle.conn_laws.proofs.Ties.Tied.{IsRequest, has_ended}
-use Rattle.session_laws.proofs.Ties.Tied.{AreCalm, Inner, StaysCalm, Tied}
+use Rattle.session_laws.proofs.Ties.Tied.{NoReconnectCause, TurnState, StaysCalm, Tied}
 
 -- lists
 --
@@ -45,14 +45,14 @@ any_append p [] ys none also = also
 any_append p (x ∷ xs) ys none also = ap (λ b. b || list_any p (xs ++ ys)) (or_left (p x) (list_any p xs) none) ∙ any_append p xs ys (or_right (p x) (list_any p xs) none) also
 
 -- one more answer that is none
-pub calm_more : (errors : List RedisError) (o : Outcome) (shut : Bool) (life : Life) → (has_ended life ≡ false → shut ≡ false → AreCalm (faults_in o)) → StaysCalm errors shut life → StaysCalm (errors ++ faults_in o) shut life
+pub calm_more : (errors : List RedisError) (o : Outcome) (shut : Bool) (life : Life) → (has_ended life ≡ false → shut ≡ false → NoReconnectCause (faults_in o)) → StaysCalm errors shut life → StaysCalm (errors ++ faults_in o) shut life
 calm_more errors o shut life one h up open_still = any_append (is_cause None) errors (faults_in o) (h up open_still) (one up open_still)
 
 -- what is owed
 --
 -- an outcome that is given is no cause
 abbrev pub IsCalm : Option Outcome → Outcome → Type 0
-IsCalm x o = x ≡ Some o → AreCalm (faults_in o)
+IsCalm x o = x ≡ Some o → NoReconnectCause (faults_in o)
 
 -- nothing is none
 none_calm : (o : Outcome) → IsCalm None o
@@ -62,7 +62,7 @@ none_calm o e = cc
 verdict_calm : (of_shape : Shape) (l : Ledger) (k : ℕ) (o : Outcome) → IsCalm (Some (outcome_of (verdict_of of_shape (cut l k of_shape)))) o
 verdict_calm of_shape l k o e =
     let same : outcome_of (verdict_of of_shape (cut l k of_shape)) ≡ o = cc in
-    subst (λ (x : Outcome). AreCalm (faults_in x)) same (verdict_needs_none of_shape (cut l k of_shape))
+    subst (λ (x : Outcome). NoReconnectCause (faults_in x)) same (verdict_needs_none of_shape (cut l k of_shape))
 
 -- nor is what a message is owed whose link has not ended
 message_calm : (l : Ledger) (k : ℕ) (of_shape : Shape) (o : Outcome) → l.end ≡ None → IsCalm (owed_to_message l k of_shape) o
@@ -72,10 +72,10 @@ message_calm l k of_shape o alive = chosen (λ (x : Option Outcome). IsCalm x o)
 
 -- that a request's time is over is none
 late_calm : (o : Outcome) → IsCalm (Some (outcome.Fault (error.Io kinds.TimedOut))) o
-late_calm o e = let same : outcome.Fault (error.Io kinds.TimedOut) ≡ o = cc in subst (λ (x : Outcome). AreCalm (faults_in x)) same refl
+late_calm o e = let same : outcome.Fault (error.Io kinds.TimedOut) ≡ o = cc in subst (λ (x : Outcome). NoReconnectCause (faults_in x)) same refl
 
 -- so no answer to an open request is
-pub owed_calm : (b : Book) (t : Inner) (p : ℕ) (o : Outcome) → Tied b t → is_open_at t.requests p ≡ true → has_ended t.life ≡ false → t.shut ≡ false → IsCalm (owed b (name_at t.requests p)) o
+pub owed_calm : (b : Book) (t : TurnState) (p : ℕ) (o : Outcome) → Tied b t → is_open_at t.requests p ≡ true → has_ended t.life ≡ false → t.shut ≡ false → IsCalm (owed b (name_at t.requests p)) o
 owed_calm b t p o h e up open_still =
     subst (λ (x : Option Outcome). IsCalm x o) (sym (left_if s.late _ _ r.in_time ∙ left_if s.unspoken _ _ r.spoken ∙ left_if (length (bytes_of s) == 0) _ _ (not_empty (bytes_of s) r.some)))
     (chosen (λ (x : Option Outcome). IsCalm x o) s.overdue (Some (outcome.Fault (error.Io kinds.TimedOut))) (owed_to_try b s (last_of s.tries)) (λ t. late_calm o) (λ f. by_start (in_or_not p t.started)))

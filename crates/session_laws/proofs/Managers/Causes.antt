@@ -20,7 +20,7 @@ use Rattle.legal_trace.specs.Legal.{AllStand, current_link, is_cause, is_caused,
 use Rattle.legal_trace.proofs.Causes.{needs_link}
 use Rattle.conn_laws.proofs.Links.Lost.{IsNewEnd, IsOldEnd}
 use Rattle.session_laws.proofs.Links.Lost.{heard_kept, new_kept, old_kept}
-use Rattle.session_laws.proofs.Ties.Tied.{AreCalm}
+use Rattle.session_laws.proofs.Ties.Tied.{NoReconnectCause}
 
 -- the errors of a turn
 --
@@ -187,7 +187,7 @@ pub record IsJudged (b : Book) (over opened took ended resp3 : Bool) (acts : Lis
   pub errors_are : b.errors ≡ faults_of acts
   pub ended_is : is_over (current_link b) ≡ ended
   pub speaks : is_resp3 (info_in b.config).protocol ≡ resp3
-  pub calm : is_over (current_link b) ≡ false → AreCalm b.errors
+  pub calm : is_over (current_link b) ≡ false → NoReconnectCause b.errors
   pub failed_is : (end : End) → (current_link b).end ≡ Some end → is_some (failure_in (Some end)) ≡ not opened
   pub lost_is : (end : End) → (current_link b).end ≡ Some end → ((end.turn == (b.turns - 1)) && (is_fault end.why && end.served)) ≡ (not over && took)
 

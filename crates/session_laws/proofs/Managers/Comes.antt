@@ -22,7 +22,7 @@ use Rattle.legal_trace.specs.Owed.{owed_by, owed_unstarted}
 use Rattle.legal_trace.specs.Story.{Story, is_open, waits}
 use Rattle.conn_laws.proofs.Ties.Owes.{is_asked, lives}
 use Rattle.conn_laws.proofs.Ties.Tied.{IsOver, TiedLife, has_ended}
-use Rattle.session_laws.proofs.Ties.Tied.{AreCalm, HasCourse, Inner, Tied, TiedManager, is_begun}
+use Rattle.session_laws.proofs.Ties.Tied.{NoReconnectCause, HasCourse, TurnState, Tied, TiedManager, is_begun}
 use Rattle.link_core.specs.Link.{LinkState}
 
 -- no generation begins, and no link is asked for
@@ -48,7 +48,7 @@ both_false true false z e = refl
 both_false false y z e = refl
 
 -- a link was asked for of a generation, where there are any
-pub has_begun : (life : Life) (is_last : Bool) (end : Option End) (t : Inner) → is_resting life ≡ false → HasCourse is_last end t.links t.link t.shut t.manager t.last t.opened t.info t.address life → is_begun t.manager ≡ true
+pub has_begun : (life : Life) (is_last : Bool) (end : Option End) (t : TurnState) → is_resting life ≡ false → HasCourse is_last end t.links t.link t.shut t.manager t.last t.opened t.info t.address life → is_begun t.manager ≡ true
 has_begun Resting is_last end t there h = cc
 has_begun Dialing is_last end t there h = h.1
 has_begun (Wanting link) is_last end t there h = h.1
@@ -57,7 +57,7 @@ has_begun (Ready link) is_last end t there h = h.1
 has_begun (Ended e) is_last end t there h = h.1
 
 -- and is the last of all
-pub has_links : (life : Life) (is_last : Bool) (end : Option End) (t : Inner) → is_resting life ≡ false → HasCourse is_last end t.links t.link t.shut t.manager t.last t.opened t.info t.address life → t.links ≡ t.link + 1
+pub has_links : (life : Life) (is_last : Bool) (end : Option End) (t : TurnState) → is_resting life ≡ false → HasCourse is_last end t.links t.link t.shut t.manager t.last t.opened t.info t.address life → t.links ≡ t.link + 1
 has_links Resting is_last end t there h = cc
 has_links Dialing is_last end t there h = h.0
 has_links (Wanting link) is_last end t there h = h.0
@@ -87,12 +87,12 @@ course_alike (Ended x) is_last same end after links link shut manager last opene
 
 -- what is known of a connection whose link goes on: it is the last of all, in a generation, and it says of other attempts what the ledger
 -- does
-pub record IsLive (is_last : Bool) (t : Inner) : Type 0 where
+pub record IsLive (is_last : Bool) (t : TurnState) : Type 0 where
   pub links : t.links ≡ t.link + 1
   pub begun : is_begun t.manager ≡ true
   pub lasts : is_last ≡ t.last
 
-pub tied_live : (b : Book) (t : Inner) → Tied b t → is_resting t.life ≡ false → has_ended t.life ≡ false → IsLive (b.link t.link).last t
+pub tied_live : (b : Book) (t : TurnState) → Tied b t → is_resting t.life ≡ false → has_ended t.life ≡ false → IsLive (b.link t.link).last t
 tied_live b t h there up = by_life t.life there up h.course
   where
     by_life : (life : Life) → is_resting life ≡ false → has_ended life ≡ false → HasCourse (b.link t.link).last (b.link t.link).end t.links t.link t.shut t.manager t.last t.opened t.info t.address life → IsLive (b.link t.link).last t
@@ -104,7 +104,7 @@ tied_live b t h there up = by_life t.life there up h.course
     by_life (Ended e) z u k = cc
 
 -- a link that isn't set up wasn't
-pub tied_unopened : (b : Book) (t : Inner) → Tied b t → is_ready t.life ≡ false → has_ended t.life ≡ false → t.opened ≡ false
+pub tied_unopened : (b : Book) (t : TurnState) → Tied b t → is_ready t.life ≡ false → has_ended t.life ≡ false → t.opened ≡ false
 tied_unopened b t h unready up = by_life t.life unready up h.course
   where
     by_life : (life : Life) → is_ready life ≡ false → has_ended life ≡ false → HasCourse (b.link t.link).last (b.link t.link).end t.links t.link t.shut t.manager t.last t.opened t.info t.address life → t.opened ≡ false
@@ -116,7 +116,7 @@ tied_unopened b t h unready up = by_life t.life unready up h.course
     by_life (Ended e) z u k = cc
 
 -- and one that is was
-pub tied_opened : (b : Book) (t : Inner) (link : LinkState) → Tied b t → t.life ≡ Ready link → t.opened ≡ true
+pub tied_opened : (b : Book) (t : TurnState) (link : LinkState) → Tied b t → t.life ≡ Ready link → t.opened ≡ true
 tied_opened b t link h e = (subst (λ (x : Life). HasCourse (b.link t.link).last (b.link t.link).end t.links t.link t.shut t.manager t.last t.opened t.info t.address x) e h.course).2
 
 -- what owes something is no attempt that another one follows
@@ -139,17 +139,17 @@ no_attempt l created (SettingUp link greeting) h = ap is_attempt h.2
 no_attempt l created (Ready link) h = ap is_attempt h.2
 no_attempt l created (Ended e) h = owing_attempt l.end e h.1
 
-pub none_rests : (b : Book) (t : Inner) → Tied b t → rest_due b ≡ false
+pub none_rests : (b : Book) (t : TurnState) → Tied b t → rest_due b ≡ false
 none_rests b t h = ap (λ x. has_generations b && x) (ap (λ l. is_attempt (b.link l).end) h.numbers.current_is ∙ no_attempt (b.link t.link) b.created t.life h.life) ∙ and-false (has_generations b)
 
 -- nothing of this turn is a cause for the next generation
-pub none_caused : (b : Book) → (current_link b).end ≡ None → AreCalm b.errors → is_caused b ≡ false
+pub none_caused : (b : Book) → (current_link b).end ≡ None → NoReconnectCause b.errors → is_caused b ≡ false
 none_caused b alive calm =
     let lost : is_lost b ≡ false = ap (λ (end : Option End). is_resp3 (info_in b.config).protocol && is_lost_in (b.turns - 1) end) alive ∙ and-false (is_resp3 (info_in b.config).protocol) in
     (λ i. lost i || list_any (is_cause (alive i)) b.errors) ∙ calm
 
 -- while its link goes on
-pub live_comes : (b : Book) (t : Inner) → Tied b t → is_resting t.life ≡ false → has_ended t.life ≡ false → NoneComes b
+pub live_comes : (b : Book) (t : TurnState) → Tied b t → is_resting t.life ≡ false → has_ended t.life ≡ false → NoneComes b
 live_comes b t h there up = by_manager t.manager h.numbers.comes_back (has_begun t.life (b.link t.link).last (b.link t.link).end t there h.course)
   where
     alive : (current_link b).end ≡ None
@@ -183,7 +183,7 @@ live_comes b t h there up = by_manager t.manager h.numbers.comes_back (has_begun
         and_first x y = ap (λ a. x && (not a && y)) asked ∙ and-false x
 
 -- what doesn't come back has a link
-pub plain_there : (b : Book) (t : Inner) → Tied b t → is_some t.manager ≡ false → is_resting t.life ≡ false
+pub plain_there : (b : Book) (t : TurnState) → Tied b t → is_some t.manager ≡ false → is_resting t.life ≡ false
 plain_there b t h plain = by_life t.life h.course
   where
     by_life : (life : Life) → HasCourse (b.link t.link).last (b.link t.link).end t.links t.link t.shut t.manager t.last t.opened t.info t.address life → is_resting life ≡ false
@@ -195,7 +195,7 @@ plain_there b t h plain = by_life t.life h.course
     by_life (Ended e) k = refl
 
 -- and stays as it is
-pub plain_put : (b : Book) (t : Inner) → Tied b t → is_some t.manager ≡ false → NoneComes b
+pub plain_put : (b : Book) (t : TurnState) → Tied b t → is_some t.manager ≡ false → NoneComes b
 plain_put b t h plain = plain_comes b (plain_has t.manager plain h.numbers.comes_back)
     (λ none. let links = h.numbers.links in let one = has_links t.life (b.link t.link).last (b.link t.link).end t (plain_there b t h plain) h.course in omega arith)
   where

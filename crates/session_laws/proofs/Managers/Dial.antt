@@ -23,7 +23,7 @@ use Rattle.conn_laws.proofs.Ties.Numbers.{IsIn, Rising, requests_in, rising_righ
 use Rattle.conn_laws.proofs.Requests.Rounded.{rounds_down}
 use Rattle.conn_laws.proofs.Links.Server.{AreSought, HasSaid, NoneRenewed, TiedRenewal, owners_of, setup_owners}
 use Rattle.conn_laws.proofs.Ties.Tied.{AreQueued, IsAside, IsUse, TiedLife, TiedLines, carried, has_ended, link_in, no_link, owner_of, owners_each, waiting_ids, whole_link}
-use Rattle.session_laws.proofs.Ties.Tied.{AreAimed, HasCourse, Inner, Tied, is_begun}
+use Rattle.session_laws.proofs.Ties.Tied.{AreAimed, HasCourse, TurnState, Tied, is_begun}
 use Rattle.conn_laws.proofs.Internal.Serving.{unready_serves}
 use Rattle.conn_laws.proofs.Internal.Subscribes.{RepeatsNext, asked_repeat}
 use Rattle.mux_conn.specs.declared.again.Again.{Again}
@@ -38,11 +38,11 @@ abbrev pub dialled_book : Book → ℕ → List ℕ → ℕ → List Purpose →
 dialled_book b l host port timers timed = record (entered b (action.Connect l host port)) { timers = timers; timed = timed }
 
 -- the session then
-abbrev pub dialled_in : Inner → Bool → Again → List Purpose → Inner
+abbrev pub dialled_in : TurnState → Bool → Again → List Purpose → TurnState
 dialled_in t last a timers = record t { timers = timers; links = t.links + 1; again = a; life = Dialing; last = last; fresh = waiting_ids t.waiting }
 
 -- a session without a link, of which nothing is to be answered, and nobody waits for a place, and what is subscribed again on its next link
-pub record CanDial (b : Book) (t : Inner) (last : Bool) (a : Again) : Type 0 where
+pub record CanDial (b : Book) (t : TurnState) (last : Bool) (a : Again) : Type 0 where
   pub tied : Tied b t
   pub rests : t.life ≡ Resting
   pub settled : t.pending ≡ []
@@ -57,7 +57,7 @@ pub record CanDial (b : Book) (t : Inner) (last : Bool) (a : Again) : Type 0 whe
   pub again_is : RepeatsNext (repeats_in (settings_in b.config) b.tracked) b.tracked a
 
 -- so it is tied once its link is asked for
-pub dials_tied : (b : Book) (t : Inner) (host : List ℕ) (port : ℕ) (last : Bool) (a : Again) (timers : List Purpose) (timed : ℕ) → CanDial b t last a → AreAimed timers t.link (length t.table) → IsTimed (dialled_book b t.link host port timers timed)
+pub dials_tied : (b : Book) (t : TurnState) (host : List ℕ) (port : ℕ) (last : Bool) (a : Again) (timers : List Purpose) (timed : ℕ) → CanDial b t last a → AreAimed timers t.link (length t.table) → IsTimed (dialled_book b t.link host port timers timed)
     → Tied (dialled_book b t.link host port timers timed) (dialled_in t last a timers)
 dials_tied b t host port last a timers timed c aimed bounded =
     let h = c.tied in

@@ -32,7 +32,7 @@ use Rattle.session_laws.proofs.Managers.Reopen.{ArePast, HasNoLink, aim_later, a
 use Rattle.conn_laws.proofs.Requests.Rounded.{early_on}
 use Rattle.conn_laws.proofs.Links.Server.{AreSought, HasSaid, NoneRenewed, TiedRenewal}
 use Rattle.conn_laws.proofs.Ties.Tied.{AreLate, AreQueued, IsAside, IsPacked, TiedTries, carried, has_ended, whole_link, TiedLife, TiedLines, TiedPermits, TiedRounds, TiedStory, TiedWaits, no_link, link_in, waiting_ids}
-use Rattle.session_laws.proofs.Ties.Tied.{HasCourse, Inner, Tied, TiedManager}
+use Rattle.session_laws.proofs.Ties.Tied.{HasCourse, TurnState, Tied, TiedManager}
 use Rattle.conn_laws.proofs.Internal.Repeats.{serves}
 use Rattle.conn_laws.proofs.Internal.Serving.{unready_serves}
 use Rattle.conn_laws.proofs.Managers.Generate.{resting_waits}
@@ -43,7 +43,7 @@ manager_begins config generation attempts number None some h = h
 manager_begins config generation attempts number (Some g) some h = record { whole = h.whole; told = h.told; sound = h.sound; settings_are = h.settings_are; at = h.at; bounded = h.bounded; number_is = refl; attempt_is = refl; first = λ none. absurd (some none) }
 
 -- the session then
-abbrev pub begun_in : Inner → ℕ → Inner
+abbrev pub begun_in : TurnState → ℕ → TurnState
 begun_in t number = record t {
   manager = option_map (λ g. begun_with g number) t.manager;
   link = t.links;
@@ -62,7 +62,7 @@ same_some (Some g) number = refl
 -- behind a link that is over
 --
 -- it is aside then, where new credentials have not run out
-over_aside : (b : Book) (t : Inner) (e : RedisError) → Tied b t → t.life ≡ Ended e → t.untold ≡ [] → t.parting ≡ false → t.renewal.asked < 2 ^ 32 → t.links ≡ t.link + 1 → IsAside t.links t.link (b.link t.link) t.hears t.renewal.within b.created
+over_aside : (b : Book) (t : TurnState) (e : RedisError) → Tied b t → t.life ≡ Ended e → t.untold ≡ [] → t.parting ≡ false → t.renewal.asked < 2 ^ 32 → t.links ≡ t.link + 1 → IsAside t.links t.link (b.link t.link) t.hears t.renewal.within b.created
 over_aside b t e h over untold parting few one =
     let l = b.link t.link in
     let life : TiedLife l b.created (Ended e) = subst (TiedLife l b.created) over h.life in
@@ -84,7 +84,7 @@ over_aside b t e h over untold parting few one =
     owing_over (Some end) owes = refl
 
 -- the session has no link then, where no request is open
-pub over_begins : (b : Book) (t : Inner) (e : RedisError) (number : ℕ) → Tied b t → t.life ≡ Ended e → t.untold ≡ [] → t.parting ≡ false → t.renewal.asked < 2 ^ 32 → is_some t.manager ≡ true → t.links ≡ t.link + 1 → t.waiting ≡ [] → ((p : ℕ) → is_open_at t.requests p ≡ true → ⊥) → number ≢ 0 → ArePast b
+pub over_begins : (b : Book) (t : TurnState) (e : RedisError) (number : ℕ) → Tied b t → t.life ≡ Ended e → t.untold ≡ [] → t.parting ≡ false → t.renewal.asked < 2 ^ 32 → is_some t.manager ≡ true → t.links ≡ t.link + 1 → t.waiting ≡ [] → ((p : ℕ) → is_open_at t.requests p ≡ true → ⊥) → number ≢ 0 → ArePast b
     → HasNoLink (entered b (action.Generation number)) (begun_in t number)
 over_begins b t e number h over untold parting few comes one nobody closed some past =
     let n = h.numbers in
@@ -189,7 +189,7 @@ over_begins b t e number h over untold parting few comes one nobody closed some 
 -- behind none
 --
 -- the first begins of a session that waits for its first submission, where all its permits are free, and all that wait came in this turn
-pub first_begins : (b : Book) (t : Inner) (number : ℕ) → Tied b t → t.life ≡ Resting → t.pending ≡ [] → t.letting ≡ [] → t.moved ≡ [] → t.admitted ≡ [] → t.untold ≡ [] → t.parting ≡ false → t.free ≡ unwrap_or t.limit 0 → t.fresh ≡ waiting_ids t.waiting → (b.link t.link).creds.over ≡ false → number ≢ 0
+pub first_begins : (b : Book) (t : TurnState) (number : ℕ) → Tied b t → t.life ≡ Resting → t.pending ≡ [] → t.being_admitted ≡ [] → t.moved ≡ [] → t.admitted ≡ [] → t.untold ≡ [] → t.parting ≡ false → t.free ≡ unwrap_or t.limit 0 → t.fresh ≡ waiting_ids t.waiting → (b.link t.link).creds.over ≡ false → number ≢ 0
     → Tied (entered b (action.Generation number)) (at_rest (begun_in t number))
 first_begins b t number h rests settled alone still nobody untold parting free fresh unended some =
     let n = h.numbers in

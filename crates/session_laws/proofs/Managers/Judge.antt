@@ -30,7 +30,7 @@ use Rattle.conn_laws.proofs.Ties.Owes.{lives}
 use Rattle.session_laws.proofs.Ties.Past.{ends_before}
 use Rattle.session_laws.proofs.Ties.States.{Between}
 use Rattle.conn_laws.proofs.Ties.Tied.{IsOver, TiedLife, has_ended}
-use Rattle.session_laws.proofs.Ties.Tied.{HasCourse, Inner, Tied}
+use Rattle.session_laws.proofs.Ties.Tied.{HasCourse, TurnState, Tied}
 use Rattle.conn_laws.proofs.Internal.Repeats.{HasServed, TiedRepeat}
 use Rattle.mux_conn.specs.Connection.{is_outstanding}
 use Rattle.session_laws.proofs.Internal.Informed.{HasInformed, IsInformed, event_informed}
@@ -147,7 +147,7 @@ life_end l created (Ended e) over h = (h.0, by_end l.end refl h.1)
     by_end (Some end) same owes = (end, same)
 
 -- a session behind the acts of a turn in which everything wasn't shut down
-pub record IsActed (before : List Action) (c : Core) (started : List ℕ) (word : ℕ) (kind : EventKind) (b : Book) (acts : List LinkAct) (t : Inner) : Type 0 where
+pub record IsActed (before : List Action) (c : Core) (started : List ℕ) (word : ℕ) (kind : EventKind) (b : Book) (acts : List LinkAct) (t : TurnState) : Type 0 where
   pub between : Between before c started
   pub acted : HasActed before c word kind b acts
   pub tied : Tied b t
@@ -155,7 +155,7 @@ pub record IsActed (before : List Action) (c : Core) (started : List ℕ) (word 
   pub runs : b.shut ≡ false
 
 -- its link had not ended before, and ends in this turn, if it does
-new_so : (before : List Action) (c : Core) (started : List ℕ) (word : ℕ) (kind : EventKind) (b : Book) (acts : List LinkAct) (t : Inner) → IsActed before c started word kind b acts t → machine.has_ended c.single.connection.life ≡ false → IsNewEnd c.turns (b.link c.single.link)
+new_so : (before : List Action) (c : Core) (started : List ℕ) (word : ℕ) (kind : EventKind) (b : Book) (acts : List LinkAct) (t : TurnState) → IsActed before c started word kind b acts t → machine.has_ended c.single.connection.life ≡ false → IsNewEnd c.turns (b.link c.single.link)
 new_so before c started word kind b acts t h alive =
     let was = h.between.sound.tied in
     let mine = c.single.link in
@@ -168,7 +168,7 @@ new_so before c started word kind b acts t h alive =
     (new_heard l c.turns (news_of (book before).timers (book before).sources mine kind) (news_not_shut (book before).timers (book before).sources mine kind (runs_on before c word kind b acts h.acted h.runs)) none))
 
 -- or it had, in a turn before
-old_so : (before : List Action) (c : Core) (started : List ℕ) (word : ℕ) (kind : EventKind) (b : Book) (acts : List LinkAct) (t : Inner) → IsActed before c started word kind b acts t → machine.has_ended c.single.connection.life ≡ true → (end : End) → (b.link c.single.link).end ≡ Some end → (end.turn == (b.turns - 1)) ≡ false
+old_so : (before : List Action) (c : Core) (started : List ℕ) (word : ℕ) (kind : EventKind) (b : Book) (acts : List LinkAct) (t : TurnState) → IsActed before c started word kind b acts t → machine.has_ended c.single.connection.life ≡ true → (end : End) → (b.link c.single.link).end ≡ Some end → (end.turn == (b.turns - 1)) ≡ false
 old_so before c started word kind b acts t h over end is =
     let was = h.between.sound.tied in
     let mine = c.single.link in
@@ -186,7 +186,7 @@ old_so before c started word kind b acts t h over end is =
     ne_test end.turn (b.turns - 1) (λ x. absurd (began (omega (arith, same, past, turns, first, x))))
 
 -- so whether it was lost is the same for both
-lost_so : (before : List Action) (c : Core) (started : List ℕ) (word : ℕ) (kind : EventKind) (b : Book) (acts : List LinkAct) (t : Inner) → IsActed before c started word kind b acts t → (end : End) → (b.link t.link).end ≡ Some end → (e : RedisError) → t.life ≡ Ended e
+lost_so : (before : List Action) (c : Core) (started : List ℕ) (word : ℕ) (kind : EventKind) (b : Book) (acts : List LinkAct) (t : TurnState) → IsActed before c started word kind b acts t → (end : End) → (b.link t.link).end ≡ Some end → (e : RedisError) → t.life ≡ Ended e
     → ((end.turn == (b.turns - 1)) && (is_fault end.why && end.served)) ≡ (not (machine.has_ended c.single.connection.life) && (t.opened && not (is_outstanding t.again)))
 lost_so before c started word kind b acts t h end is e over = by_before (machine.has_ended c.single.connection.life) refl
   where
@@ -213,7 +213,7 @@ lost_so before c started word kind b acts t h end is e over = by_before (machine
         ∙ by_fault_alone c.turns end e t.opened t.shut t.again (sym h.tied.numbers.shut ∙ h.runs) ends (subst (λ o. HasServed o t.again) is serving) (subst (λ o. owed_unstarted o ≡ Some (outcome.Fault e)) is life.1) (subst (λ o. IsOver o t.shut t.opened) is course)
 
 -- and so is what is a cause
-pub judged : (before : List Action) (c : Core) (started : List ℕ) (word : ℕ) (kind : EventKind) (b : Book) (acts : List LinkAct) (t : Inner) → IsActed before c started word kind b acts t
+pub judged : (before : List Action) (c : Core) (started : List ℕ) (word : ℕ) (kind : EventKind) (b : Book) (acts : List LinkAct) (t : TurnState) → IsActed before c started word kind b acts t
     → is_caused b ≡ (machine.has_ended t.life && (((not (machine.has_ended c.single.connection.life) && (t.opened && not (is_outstanding t.again))) && is_resp3 t.info.protocol) || machine.has_cause t.opened acts))
 judged before c started word kind b acts t h =
     let tied = h.tied in

@@ -52,7 +52,7 @@ use Rattle.conn_laws.proofs.Ties.States.{IsFitIn, IsStill}
 use Rattle.session_laws.proofs.Ties.States.{Between, IsHushed}
 use Rattle.conn_laws.proofs.Links.Server.{HasSaid}
 use Rattle.conn_laws.proofs.Ties.Tied.{IsUse, TiedLife, TiedLines, has_ended, link_in, waiting_ids}
-use Rattle.session_laws.proofs.Ties.Tied.{ComesBack, HasCourse, HasHeeded, Inner, IsAim, IsHeeded, Sound, Tied, inner, is_begun}
+use Rattle.session_laws.proofs.Ties.Tied.{ComesBack, HasCourse, HasHeeded, TurnState, IsAim, IsHeeded, Sound, Tied, inner, is_begun}
 use Rattle.conn_laws.proofs.Internal.Serving.{unready_serves}
 use Rattle.session_laws.proofs.Internal.Informed.{HasInformed, IsInformed}
 
@@ -100,7 +100,7 @@ next_harmless c m event.DropStream asked renewed good far less runs aims uses = 
 next_harmless c m event.Shutdown asked renewed good far less runs aims uses = cc
 
 -- a connection without a link has that for its next
-pub rests_links : (life : Life) (is_last : Bool) (end : Option End) (t : Inner) → is_resting life ≡ true → HasCourse is_last end t.links t.link t.shut t.manager t.last t.opened t.info t.address life → t.links ≡ t.link
+pub rests_links : (life : Life) (is_last : Bool) (end : Option End) (t : TurnState) → is_resting life ≡ true → HasCourse is_last end t.links t.link t.shut t.manager t.last t.opened t.info t.address life → t.links ≡ t.link
 rests_links Resting is_last end t rests h = h.0
 rests_links Dialing is_last end t rests h = cc
 rests_links (Wanting link) is_last end t rests h = cc
@@ -270,7 +270,7 @@ module _ (before : List Action) (c : Core) (started : List ℕ) (g : Generations
   abbrev q : Generations
   q = heeded g kind acts
 
-  abbrev t : Inner
+  abbrev t : TurnState
   t = inner k h.now
 
   tied : Tied b t

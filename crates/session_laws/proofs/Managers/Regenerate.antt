@@ -34,7 +34,7 @@ use Rattle.conn_laws.proofs.Ties.Names.{get_more}
 use Rattle.session_laws.proofs.Ties.Past.{is_past, unended_over}
 use Rattle.session_laws.proofs.Managers.Reopen.{at_rest, rest_tied, rested_in, rests_tied}
 use Rattle.conn_laws.proofs.Ties.Tied.{TiedLife, has_ended}
-use Rattle.session_laws.proofs.Ties.Tied.{AreAimed, ComesBack, HasCourse, Inner, IsAim, IsRetiring, IsToldIn, Sound, Tied, TiedManager, is_begun}
+use Rattle.session_laws.proofs.Ties.Tied.{AreAimed, ComesBack, HasCourse, TurnState, IsAim, AfterFailedAttempt, IsToldIn, Sound, Tied, TiedManager, is_begun}
 use Rattle.session_laws.proofs.Internal.Informed.{HasInformed}
 use Rattle.conn_laws.proofs.Internal.Subscribes.{RepeatsNext}
 use Rattle.session_laws.proofs.Internal.Subscribes.{repeats_next}
@@ -46,7 +46,7 @@ use Rattle.conn_laws.proofs.Managers.Regenerate.{IsHarmless, asked_ends_not}
 comes_so : (config : Option Config) (generation attempts : ℕ) (m : Option Generations) (g : Generations) → m ≡ Some g → TiedManager config generation attempts m → ComesBack config generation attempts g
 comes_so config generation attempts m g is h = subst (TiedManager config generation attempts) is h
 
-pub manager_is : (b : Book) (t : Inner) (g : Generations) → t.manager ≡ Some g → Tied b t → ComesBack b.config b.generation b.attempt g
+pub manager_is : (b : Book) (t : TurnState) (g : Generations) → t.manager ≡ Some g → Tied b t → ComesBack b.config b.generation b.attempt g
 manager_is b t g is h = comes_so b.config b.generation b.attempt t.manager g is h.numbers.comes_back
 
 -- it has generations
@@ -56,13 +56,13 @@ has_some config generation attempts g h = ap is_some h.settings_are
 -- without a link
 --
 -- nothing that the turn brought is a cause
-calm_rests : (b : Book) (t : Inner) → Tied b t → t.life ≡ Resting → t.shut ≡ false → is_caused b ≡ false
+calm_rests : (b : Book) (t : TurnState) → Tied b t → t.life ≡ Resting → t.shut ≡ false → is_caused b ≡ false
 calm_rests b t h rests runs =
     let life : TiedLife (b.link t.link) b.created Resting = subst (TiedLife (b.link t.link) b.created) rests h.life in
     none_caused b (ap (λ l. (b.link l).end) h.numbers.current_is ∙ life.2) (h.calm (ap has_ended rests) runs)
 
 -- no generation begins behind the first
-pub rests_generated : (b : Book) (t : Inner) → Tied b t → t.life ≡ Resting → b.generation ≢ 0 → generation_due b ≡ false
+pub rests_generated : (b : Book) (t : TurnState) → Tied b t → t.life ≡ Resting → b.generation ≢ 0 → generation_due b ≡ false
 rests_generated b t h rests some = by_shut t.shut refl
   where
     first : Bool
@@ -80,7 +80,7 @@ rests_generated b t h rests some = by_shut t.shut refl
         (ap (λ s. not s && first) (h.numbers.shut ∙ e) ∙ left_if (b.generation == 0) (begins_first b) (is_caused b) (ne_test b.generation 0 some) ∙ calm_rests b t h rests e)
 
 -- nor is a link asked for while it waits
-pub rests_comes : (b : Book) (t : Inner) (timer : ℕ) → Tied b t → t.life ≡ Resting → has_generations b ≡ true → b.generation ≢ 0 → b.rest ≡ Some timer → NoneComes b
+pub rests_comes : (b : Book) (t : TurnState) (timer : ℕ) → Tied b t → t.life ≡ Resting → has_generations b ≡ true → b.generation ≢ 0 → b.rest ≡ Some timer → NoneComes b
 rests_comes b t timer h rests has some waits = (
   rests_generated b t h rests some,
   taken_if (has_generations b) (nat_lt 0 b.generation && (not (current_link b).asked && (is_none b.rest && not b.shut))) (b.links == 0) has
@@ -93,7 +93,7 @@ rests_comes b t timer h rests has some waits = (
     third_false false y = refl
 
 -- one that rests, of which nothing is to be answered or told
-pub record IsResting (trace : List Action) (t : Inner) : Type 0 where
+pub record IsResting (trace : List Action) (t : TurnState) : Type 0 where
   pub sound : Sound trace t
   pub ended : NoneEnds (book trace)
   pub rests : t.life ≡ Resting
@@ -104,7 +104,7 @@ pub record IsResting (trace : List Action) (t : Inner) : Type 0 where
 -- behind an attempt that failed
 --
 -- the timer of the wait may stand
-rest_may : (b : Book) (t : Inner) (g : Generations) (timer ms number : ℕ) → IsRetiring b t → IsShown b → t.manager ≡ Some g → timer ≡ length t.timers → number ≡ g.number → ms ≡ backoff g.settings g.attempt (word_of b.running) → MayRest b timer ms (purpose.Backoff number)
+rest_may : (b : Book) (t : TurnState) (g : Generations) (timer ms number : ℕ) → AfterFailedAttempt b t → IsShown b → t.manager ≡ Some g → timer ≡ length t.timers → number ≡ g.number → ms ≡ backoff g.settings g.attempt (word_of b.running) → MayRest b timer ms (purpose.Backoff number)
 rest_may b t g timer ms number h shown is next same long =
     let k = comes_so b.config b.generation b.attempt t.manager g is h.numbers.comes_back in
     record {
@@ -122,7 +122,7 @@ rest_may b t g timer ms number h shown is next same long =
     both false y e f = cc
 
 -- and then the session rests
-pub rests_on : (trace : List Action) (t : Inner) (g : Generations) (timer ms number : ℕ) → AllStand blank_book trace → IsRetiring (book trace) t → IsShown (book trace) → t.manager ≡ Some g → timer ≡ length t.timers → number ≡ g.number → ms ≡ backoff g.settings g.attempt (word_of (book trace).running)
+pub rests_on : (trace : List Action) (t : TurnState) (g : Generations) (timer ms number : ℕ) → AllStand blank_book trace → AfterFailedAttempt (book trace) t → IsShown (book trace) → t.manager ≡ Some g → timer ≡ length t.timers → number ≡ g.number → ms ≡ backoff g.settings g.attempt (word_of (book trace).running)
     → IsResting (trace ++ action.Timer timer ms (purpose.Backoff number) ∷ []) (at_rest (rested_in t number g.attempt timer))
 rests_on trace t g timer ms number stands h shown is next same long =
     let b = book trace in
@@ -142,11 +142,11 @@ rests_on trace t g timer ms number stands h shown is next same long =
 -- a generation
 --
 -- it may begin where it is due
-generation_may : (b : Book) (t : Inner) (g : Generations) (number : ℕ) → Tied b t → IsShown b → t.manager ≡ Some g → number ≡ g.number + 1 → generation_due b ≡ true → MayGenerate b number
+generation_may : (b : Book) (t : TurnState) (g : Generations) (number : ℕ) → Tied b t → IsShown b → t.manager ≡ Some g → number ≡ g.number + 1 → generation_due b ≡ true → MayGenerate b number
 generation_may b t g number h shown is next due = record { shown = shown; rested = none_rests b t h; due = due; next = next ∙ ap (λ n. n + 1) (sym (manager_is b t g is h).number_is) }
 
 -- and then the session has no link
-pub generates_on : (trace : List Action) (t : Inner) (g : Generations) (number : ℕ) → Sound trace t → IsShown (book trace) → t.manager ≡ Some g → number ≡ g.number + 1 → generation_due (book trace) ≡ true → Tied (entered (book trace) (action.Generation number)) (at_rest (begun_in t number))
+pub generates_on : (trace : List Action) (t : TurnState) (g : Generations) (number : ℕ) → Sound trace t → IsShown (book trace) → t.manager ≡ Some g → number ≡ g.number + 1 → generation_due (book trace) ≡ true → Tied (entered (book trace) (action.Generation number)) (at_rest (begun_in t number))
     → IsResting (trace ++ action.Generation number ∷ []) (at_rest (begun_in t number))
 generates_on trace t g number h shown is next due begun =
     let b = book trace in
@@ -163,7 +163,7 @@ generates_on trace t g number h shown is next due begun =
 -- a link
 --
 -- it is to be asked for
-link_is_due : (b : Book) (t : Inner) → Tied b t → t.life ≡ Resting → has_generations b ≡ true → b.generation ≢ 0 → b.rest ≡ None → t.shut ≡ false → link_due b ≡ true
+link_is_due : (b : Book) (t : TurnState) → Tied b t → t.life ≡ Resting → has_generations b ≡ true → b.generation ≢ 0 → b.rest ≡ None → t.shut ≡ false → link_due b ≡ true
 link_is_due b t h rests has some awake runs =
     let life : TiedLife (b.link t.link) b.created Resting = subst (TiedLife (b.link t.link) b.created) rests h.life in
     let unasked : (current_link b).asked ≡ false = ap (λ l. (b.link l).asked) h.numbers.current_is ∙ life.0 in
@@ -190,7 +190,7 @@ comes_unheard None s e = cc
 comes_unheard (Some config) s e = none_messages config s e
 
 -- it may be, and is
-pub dials_on : (trace : List Action) (t : Inner) (g : Generations) (timer : ℕ) → IsResting trace t → t.manager ≡ Some g → g.number ≢ 0 → (book trace).rest ≡ None → HasInformed (book trace) g.subscribed → t.shut ≡ false → timer ≡ length t.timers → IsHarmless ((book trace).link t.link).heard
+pub dials_on : (trace : List Action) (t : TurnState) (g : Generations) (timer : ℕ) → IsResting trace t → t.manager ≡ Some g → g.number ≢ 0 → (book trace).rest ≡ None → HasInformed (book trace) g.subscribed → t.shut ≡ false → timer ≡ length t.timers → IsHarmless ((book trace).link t.link).heard
     → (let bound = g.settings.connection.connection_timeout in
     Sound (trace ++ action.Connect t.link g.info.host g.info.port ∷ connect_timed t.link timer bound) (dialled_in t (is_last g.settings g.attempt) (repeat_for g) (t.timers ++ connect_purposes t.link bound)) × NoneEnds (book (trace ++ action.Connect t.link g.info.host g.info.port ∷ connect_timed t.link timer bound)))
 dials_on trace t g timer h is some awake informed runs next harmless = by_bound g.settings.connection.connection_timeout refl

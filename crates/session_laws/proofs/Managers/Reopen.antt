@@ -31,13 +31,13 @@ use Rattle.conn_laws.proofs.Ties.Owes.{answered_closed}
 use Rattle.conn_laws.proofs.Requests.Rounded.{admitted_begun, placed_begun}
 use Rattle.conn_laws.proofs.Links.Server.{NoneRenewed, TiedCreds, TiedSetup}
 use Rattle.conn_laws.proofs.Ties.Tied.{AreAside, AreLate, AreUses, IsAside, IsRefused, IsRequest, IsUnknown, IsUse, TiedCreation, TiedLines, TiedLife, TiedNames, TiedNotices, TiedTries, TiedPermits, TiedRounds, TiedStory, TiedWaits, no_link, owner_of, is_reading, waiting_ids}
-use Rattle.session_laws.proofs.Ties.Tied.{AreCalm, Inner, IsAim, IsRetiring, Tied, TiedManager, TiedNumbers}
+use Rattle.session_laws.proofs.Ties.Tied.{NoReconnectCause, TurnState, IsAim, AfterFailedAttempt, Tied, TiedManager, TiedNumbers}
 use Rattle.conn_laws.proofs.Managers.Reopen.{IsMovedTo, none_held, on_blank, told_closed}
 
 -- a session without a link
 --
 -- it has none, and that which is to be its next was never asked for: nobody has a message, or a permit, of it
-pub record HasNoLink (b : Book) (t : Inner) : Type 0 where
+pub record HasNoLink (b : Book) (t : TurnState) : Type 0 where
   pub numbers : TiedNumbers b t
   pub placed : t.links ≡ t.link
   pub unopened : t.opened ≡ false
@@ -46,7 +46,7 @@ pub record HasNoLink (b : Book) (t : Inner) : Type 0 where
   pub others : AreAside t.link t.links b.link t.hears t.renewal.within b.created
   pub unknown : IsUnknown (b.link t.link)
   pub heard_is : hearing_in b.config ≡ t.hears
-  pub calm : AreCalm b.errors
+  pub calm : NoReconnectCause b.errors
   pub creation : TiedCreation b.created t.told
   pub uses : AreUses t.sources t.link false false
   pub renewal : NoneRenewed blank_ledger t.renewal
@@ -63,11 +63,11 @@ pub record HasNoLink (b : Book) (t : Inner) : Type 0 where
   pub late : AreLate b.story t.requests []
 
 -- such a session, as it goes on
-abbrev pub at_rest : Inner → Inner
-at_rest t = record t { life = Resting; untold = []; parting = false; admitted = []; moved = []; letting = []; pending = []; started = [] }
+abbrev pub at_rest : TurnState → TurnState
+at_rest t = record t { life = Resting; untold = []; parting = false; admitted = []; moved = []; being_admitted = []; pending = []; started = [] }
 
 -- it is tied to its book
-pub rest_tied : (b : Book) (t : Inner) → HasNoLink b t → Tied b (at_rest t)
+pub rest_tied : (b : Book) (t : TurnState) → HasNoLink b t → Tied b (at_rest t)
 rest_tied b t h =
     let k = fresh_tied (owner_of t.requests) 0 0 in
     let r = h.renewal in
@@ -162,11 +162,11 @@ manager_rests config generation attempts timer None h = h
 manager_rests config generation attempts timer (Some g) h = record { whole = h.whole; told = h.told; sound = h.sound; settings_are = h.settings_are; at = h.at; bounded = h.bounded; number_is = h.number_is; attempt_is = refl; first = h.first }
 
 -- the session then
-abbrev pub rested_in : Inner → ℕ → ℕ → ℕ → Inner
+abbrev pub rested_in : TurnState → ℕ → ℕ → ℕ → TurnState
 rested_in t number attempt timer = record t { manager = option_map (λ g. failed_behind g attempt timer) t.manager; timers = t.timers ++ purpose.Backoff number ∷ []; link = t.links }
 
 -- with the timer of the wait the session has no link, and all that are open go to the next one
-pub rests_tied : (b : Book) (t : Inner) (timer ms number : ℕ) → IsRetiring b t → ArePast b → HasNoLink (entered b (action.Timer timer ms (purpose.Backoff number))) (rested_in t number b.attempt timer)
+pub rests_tied : (b : Book) (t : TurnState) (timer ms number : ℕ) → AfterFailedAttempt b t → ArePast b → HasNoLink (entered b (action.Timer timer ms (purpose.Backoff number))) (rested_in t number b.attempt timer)
 rests_tied b t timer ms number h past =
     let n = h.numbers in
     let d : Book = entered b (action.Timer timer ms (purpose.Backoff number)) in

@@ -26,7 +26,7 @@ use Rattle.session_laws.proofs.Managers.Reopen.{at_rest, rested_in}
 use Rattle.conn_laws.proofs.Ties.States.{IsFitIn, IsStill}
 use Rattle.session_laws.proofs.Ties.States.{IsHushed}
 use Rattle.conn_laws.proofs.Ties.Tied.{has_ended, link_in}
-use Rattle.session_laws.proofs.Ties.Tied.{ComesBack, IsHeeded, IsRetiring, Sound, Tied, inner}
+use Rattle.session_laws.proofs.Ties.Tied.{ComesBack, IsHeeded, AfterFailedAttempt, Sound, Tied, inner}
 use Rattle.conn_laws.proofs.Internal.Serving.{serves_ready}
 use Rattle.session_laws.proofs.Internal.Informed.{HasInformed, IsInformed, alike_informed, connect_alike, generation_alike, timer_alike}
 
@@ -70,7 +70,7 @@ rest_still c rests = record {
 -- behind an attempt that failed
 --
 -- the session rests, with the timer of the wait
-pub rests_returned : (trace : List Action) (k : Core) (g : Generations) (ms : ℕ) → AllStand blank_book trace → IsRetiring (book trace) (inner k []) → IsShown (book trace) → k.manager ≡ Some g → g.number ≢ 0 → (book trace).failed ≡ g.halted → HasInformed (book trace) g.subscribed → ms ≡ backoff g.settings g.attempt (word_of (book trace).running)
+pub rests_returned : (trace : List Action) (k : Core) (g : Generations) (ms : ℕ) → AllStand blank_book trace → AfterFailedAttempt (book trace) (inner k []) → IsShown (book trace) → k.manager ≡ Some g → g.number ≢ 0 → (book trace).failed ≡ g.halted → HasInformed (book trace) g.subscribed → ms ≡ backoff g.settings g.attempt (word_of (book trace).running)
     → HasReturned (trace ++ action.Timer (length k.timers) ms (purpose.Backoff g.number) ∷ []) (rested k g.number g.attempt (length k.timers))
 rests_returned trace k g ms stands h shown is some failed informed long =
     let timer = length k.timers in

@@ -21,7 +21,7 @@ use Rattle.session_laws.proofs.Turn.Legality.{turn_behind}
 use Rattle.session_laws.proofs.Turn.Opening.{opening_unasked}
 use Rattle.conn_laws.proofs.Links.Server.{AreRenewed, NoneRenewed, TiedRenewal}
 use Rattle.conn_laws.proofs.Ties.Tied.{TiedLife, carried, has_ended, whole_link}
-use Rattle.session_laws.proofs.Ties.Tied.{Inner, Tied, inner}
+use Rattle.session_laws.proofs.Ties.Tied.{TurnState, Tied, inner}
 use Rattle.driver_model.specs.declared.action.Action.{Action}
 use Rattle.conn_laws.proofs.Ties.Grown.{IsGrown}
 use Rattle.session_laws.proofs.Ties.Grown.{turn_grown}
@@ -53,7 +53,7 @@ turn_counted config word events e =
 -- where the session is spent, numbers have run out
 --
 -- the link of a session that is spent is up
-spent_up : (b : Book) (t : Inner) → Tied b t → is_spent_in t.life ≡ true → (b.link t.link).up ≡ true
+spent_up : (b : Book) (t : TurnState) → Tied b t → is_spent_in t.life ≡ true → (b.link t.link).up ≡ true
 spent_up b t h e = by_life t.life h.life e
   where
     by_life : (life : Life) → TiedLife (b.link t.link) b.created life → is_spent_in life ≡ true → (b.link t.link).up ≡ true
@@ -65,7 +65,7 @@ spent_up b t h e = by_life t.life h.life e
     by_life (Ended x) k s = absurd (let far = le_from (2 ^ 32) 0 s in omega arith)
 
 -- and a link that is up has started as many messages
-up_started : (b : Book) (t : Inner) → Tied b t → (b.link t.link).up ≡ true → started_in t.life ≡ length (b.link t.link).starts
+up_started : (b : Book) (t : TurnState) → Tied b t → (b.link t.link).up ≡ true → started_in t.life ≡ length (b.link t.link).starts
 up_started b t h up = by_life t.life h.life h.link
   where
     by_life : (life : Life) → TiedLife (b.link t.link) b.created life → (has_ended life ≡ false → TiedLink (carried life t.requests) (b.link t.link) (whole_link life)) → started_in life ≡ length (b.link t.link).starts
@@ -109,13 +109,13 @@ as_many : (bound n m : ℕ) → bound ≤ n → m ≡ n → bound ≤ m
 as_many bound n m l e = omega arith
 
 -- a session that has begun so many turns before this one has given out the last number of a sort
-abbrev IsSpentBy : ℕ → Inner → Bool
+abbrev IsSpentBy : ℕ → TurnState → Bool
 IsSpentBy turns t =
     nat_le (2 ^ 32) turns
     || (nat_le (2 ^ 32) t.links || ((is_spent_in t.life || nat_le (2 ^ 32) t.renewal.asked) || (nat_le (2 ^ 32) (length t.table) || (nat_le (2 ^ 32) (length t.timers) || nat_le (2 ^ 32) (length t.sources)))))
 
 -- by the numbers of the session
-pub run_out_of : (b : Book) (t : Inner) (turns : ℕ) → Tied b t → t.turns ≡ turns + 1 → (2 ^ 32 ≤ t.renewal.asked → 2 ^ 32 ≤ renewals_asked (b.link t.link)) → IsSpentBy turns t ≡ true → HasRunOut b
+pub run_out_of : (b : Book) (t : TurnState) (turns : ℕ) → Tied b t → t.turns ≡ turns + 1 → (2 ^ 32 ≤ t.renewal.asked → 2 ^ 32 ≤ renewals_asked (b.link t.link)) → IsSpentBy turns t ≡ true → HasRunOut b
 run_out_of b t turns h count renewals e =
     elim (either_true (nat_le (2 ^ 32) turns) (nat_le (2 ^ 32) t.links) (is_spent_in t.life || nat_le (2 ^ 32) t.renewal.asked) (nat_le (2 ^ 32) (length t.table)) (nat_le (2 ^ 32) (length t.timers)) (nat_le (2 ^ 32) (length t.sources)) e) [
       | inl x ↦ inl (turns_out (2 ^ 32) turns b.turns t.turns (le_from (2 ^ 32) turns x) h.numbers.turns count)
@@ -168,7 +168,7 @@ turns_then : (bound turns now next : ℕ) → bound < now → now ≡ next → n
 turns_then bound turns now next l e i = omega arith
 
 -- by the numbers of the session
-pub spent_of : (b : Book) (t : Inner) (turns : ℕ) → Tied b t → t.turns ≡ turns + 1 → (2 ^ 32 ≤ renewals_asked (b.link t.link) → 2 ^ 32 ≤ t.renewal.asked) → HasRunOut b → IsSpentBy turns t ≡ true
+pub spent_of : (b : Book) (t : TurnState) (turns : ℕ) → Tied b t → t.turns ≡ turns + 1 → (2 ^ 32 ≤ renewals_asked (b.link t.link) → 2 ^ 32 ≤ t.renewal.asked) → HasRunOut b → IsSpentBy turns t ≡ true
 spent_of b t turns h count renewals out =
     let first = nat_le (2 ^ 32) turns in
     let second = nat_le (2 ^ 32) t.links in
@@ -235,7 +235,7 @@ unfolding state_after AreUnspent
 asked_behind config word events unspent = asked_on (opening_core config word) events (let none = (opening_unasked config word).told in omega arith) unspent
 
 -- so where they have, they have in its book
-last_asked : (b : Book) (t : Inner) (n : ℕ) (conn : MultiplexedConnection) → t.life ≡ conn.life → t.renewal ≡ conn.renewal → Tied b t → n < 2 ^ 32 → IsGrown n conn → 2 ^ 32 ≤ t.renewal.asked → 2 ^ 32 ≤ renewals_asked (b.link t.link)
+last_asked : (b : Book) (t : TurnState) (n : ℕ) (conn : MultiplexedConnection) → t.life ≡ conn.life → t.renewal ≡ conn.renewal → Tied b t → n < 2 ^ 32 → IsGrown n conn → 2 ^ 32 ≤ t.renewal.asked → 2 ^ 32 ≤ renewals_asked (b.link t.link)
 last_asked b t n conn life renewal h few (inr dialing) many = absurd (let none = (subst (TiedRenewal (b.link t.link) t.renewal) (life ∙ dialing) h.renewal).unasked in omega (arith, many, none))
 last_asked b t n conn life renewal h few (inl (inl same)) many = absurd (let so = ap (λ (r : Renewal). r.asked) renewal in omega (arith, few, so, same, many))
 last_asked b t n conn life renewal h few (inl (inr more)) many = by_life t.life refl
@@ -270,7 +270,7 @@ last_asked b t n conn life renewal h few (inl (inr more)) many = by_life t.life 
         ]
 
 -- and the other way round
-book_asked : (b : Book) (t : Inner) → Tied b t → ((link : LinkState) → t.life ≡ Ready link → is_due t.renewal ≡ true → t.renewal.pending ≡ true) → 2 ^ 32 ≤ renewals_asked (b.link t.link) → 2 ^ 32 ≤ t.renewal.asked
+book_asked : (b : Book) (t : TurnState) → Tied b t → ((link : LinkState) → t.life ≡ Ready link → is_due t.renewal ≡ true → t.renewal.pending ≡ true) → 2 ^ 32 ≤ renewals_asked (b.link t.link) → 2 ^ 32 ≤ t.renewal.asked
 book_asked b t h waits many = by_life t.life refl
   where
     l : Ledger

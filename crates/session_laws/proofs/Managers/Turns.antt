@@ -46,7 +46,7 @@ use Rattle.session_laws.proofs.Requests.Settle.{trace_of_acts}
 use Rattle.session_laws.proofs.Requests.Settled.{IsBetween, applied_moved, applied_ready}
 use Rattle.session_laws.proofs.Ties.States.{HasApplied, HasRetired}
 use Rattle.conn_laws.proofs.Ties.Tied.{waiting_ids}
-use Rattle.session_laws.proofs.Ties.Tied.{ComesBack, HasHeeded, IsHeeded, IsRetiring, Sound, Tied, TiedManager, inner}
+use Rattle.session_laws.proofs.Ties.Tied.{ComesBack, HasHeeded, IsHeeded, AfterFailedAttempt, Sound, Tied, TiedManager, inner}
 use Rattle.session_laws.proofs.Managers.Whole.{heeds_retiring, heeds_tied, managed_between, managed_core, managed_trace, own_is, what_of}
 
 -- before its first generation nothing was asked of a session's connection, unless everything was shut down, and no creation failed
@@ -220,7 +220,7 @@ module _ (before : List Action) (c : Core) (g : Generations) (e : Event) (is : c
   retired_same r = ap (with_work t) (resting_passed (work_of t) r.retiring.rests r.retiring.admitted)
 
   -- and so it rests
-  retired_rests : is_used_up p.core.single.connection ≡ false → (r : IsRetiring (book trace) (inner u.core [])) → what_of c g e.kind u ≡ comeback.Rests q.number q.attempt (length k.timers)
+  retired_rests : is_used_up p.core.single.connection ≡ false → (r : AfterFailedAttempt (book trace) (inner u.core [])) → what_of c g e.kind u ≡ comeback.Rests q.number q.attempt (length k.timers)
   retired_rests unused r =
       let placed = r.placed in
       left_if (is_used_up k.single.connection) comeback.Stays _ unused
@@ -231,9 +231,9 @@ module _ (before : List Action) (c : Core) (g : Generations) (e : Event) (is : c
   retired_some r none =
       let same = retired_same r in
       let stands : AllStand blank_book trace = subst (AllStand blank_book) trace_is (subst (λ (x : Turning). AllStand blank_book (trace_of_acts front t.core x.acts)) (sym same) r.stands) in
-      let retiring : IsRetiring (book trace) (inner u.core []) =
-      subst (λ (x : List Action). IsRetiring (book x) (inner u.core [])) trace_is
-      (subst (λ (x : Turning). IsRetiring (book (trace_of_acts front t.core x.acts)) (inner (numbered x).core [])) (sym same) r.retiring) in
+      let retiring : AfterFailedAttempt (book trace) (inner u.core []) =
+      subst (λ (x : List Action). AfterFailedAttempt (book x) (inner u.core [])) trace_is
+      (subst (λ (x : Turning). AfterFailedAttempt (book (trace_of_acts front t.core x.acts)) (inner (numbered x).core [])) (sym same) r.retiring) in
       let back : ComesBack (book trace).config (book trace).generation (book trace).attempt g = subst (TiedManager (book trace).config (book trace).generation (book trace).attempt) made retiring.numbers.comes_back in
       let links = (is_founded trace stands).first (ap is_some back.settings_are) (back.number_is ∙ none) in
       let tied = retiring.numbers.links in
@@ -245,9 +245,9 @@ module _ (before : List Action) (c : Core) (g : Generations) (e : Event) (is : c
       let same = retired_same r in
       let stands : AllStand blank_book trace = subst (AllStand blank_book) trace_is (subst (λ (x : Turning). AllStand blank_book (trace_of_acts front t.core x.acts)) (sym same) r.stands) in
       let shown : IsShown (book trace) = subst (λ (x : List Action). IsShown (book x)) trace_is (subst (λ (x : Turning). IsShown (book (trace_of_acts front t.core x.acts))) (sym same) r.shown) in
-      let retiring : IsRetiring (book trace) (inner u.core []) =
-      subst (λ (x : List Action). IsRetiring (book x) (inner u.core [])) trace_is
-      (subst (λ (x : Turning). IsRetiring (book (trace_of_acts front t.core x.acts)) (inner (numbered x).core [])) (sym same) r.retiring) in
+      let retiring : AfterFailedAttempt (book trace) (inner u.core []) =
+      subst (λ (x : List Action). AfterFailedAttempt (book x) (inner u.core [])) trace_is
+      (subst (λ (x : Turning). AfterFailedAttempt (book (trace_of_acts front t.core x.acts)) (inner (numbered x).core [])) (sym same) r.retiring) in
       let heard = heeds_retiring (book trace) u.core e.kind u.acts retiring in
       let acted = has_acted before c e.word e.kind u.acts stands in
       let back : ComesBack (book trace).config (book trace).generation (book trace).attempt q = subst (TiedManager (book trace).config (book trace).generation (book trace).attempt) heeds heard.numbers.comes_back in

@@ -27,7 +27,7 @@ use Rattle.session_laws.proofs.Turn.Announce.{turn_of}
 use Rattle.session_laws.proofs.Managers.Return as return
 use Rattle.session_laws.proofs.Requests.Settle.{seen}
 use Rattle.session_laws.proofs.Requests.Settled.{IsBetween, returned_between}
-use Rattle.session_laws.proofs.Ties.Tied.{HasCourse, Inner, IsHeeded, IsRetiring, Sound, Tied, TiedManager, TiedNumbers, inner, is_begun}
+use Rattle.session_laws.proofs.Ties.Tied.{HasCourse, TurnState, IsHeeded, AfterFailedAttempt, Sound, Tied, TiedManager, TiedNumbers, inner, is_begun}
 use Rattle.session_laws.proofs.Links.Write.{HasReturned}
 use Rattle.session_laws.proofs.Internal.Informed.{IsInformed}
 
@@ -38,7 +38,7 @@ abbrev pub AreAlike : Option Generations → Option Generations → Type 0
 AreAlike m n = (is_some n ≡ is_some m) × (is_begun n ≡ is_begun m)
 
 -- a connection comes as far with them
-course_with : (life : Life) (is_last : Bool) (t : Inner) (m : Option Generations) (b : Book) → AreAlike t.manager m → HasCourse is_last (b.link t.link).end t.links t.link t.shut t.manager t.last t.opened t.info t.address life → HasCourse is_last (b.link t.link).end t.links t.link t.shut m t.last t.opened t.info t.address life
+course_with : (life : Life) (is_last : Bool) (t : TurnState) (m : Option Generations) (b : Book) → AreAlike t.manager m → HasCourse is_last (b.link t.link).end t.links t.link t.shut t.manager t.last t.opened t.info t.address life → HasCourse is_last (b.link t.link).end t.links t.link t.shut m t.last t.opened t.info t.address life
 course_with Resting is_last t m b same h = (h.0, same.0 ∙ h.1, h.2, h.3)
 course_with Dialing is_last t m b same h = (h.0, same.1 ∙ h.1, h.2, h.3, h.4)
 course_with (Wanting link) is_last t m b same h = (h.0, same.1 ∙ h.1, h.2, h.3)
@@ -47,7 +47,7 @@ course_with (Ready link) is_last t m b same h = (h.0, same.1 ∙ h.1, h.2, h.3)
 course_with (Ended e) is_last t m b same h = (h.0, same.1 ∙ h.1, h.2)
 
 -- the numbers are the book's
-numbers_with : (b : Book) (t : Inner) (m : Option Generations) → AreAlike t.manager m → TiedManager b.config b.generation b.attempt m → TiedNumbers b t → TiedNumbers b (record t { manager = m })
+numbers_with : (b : Book) (t : TurnState) (m : Option Generations) → AreAlike t.manager m → TiedManager b.config b.generation b.attempt m → TiedNumbers b t → TiedNumbers b (record t { manager = m })
 numbers_with b t m same managed n = record {
   turns = n.turns;
   links = n.links;
@@ -73,7 +73,7 @@ numbers_with b t m same managed n = record {
 }
 
 -- so the session is tied with them
-tied_with : (b : Book) (t : Inner) (m : Option Generations) → AreAlike t.manager m → TiedManager b.config b.generation b.attempt m → Tied b t → Tied b (record t { manager = m })
+tied_with : (b : Book) (t : TurnState) (m : Option Generations) → AreAlike t.manager m → TiedManager b.config b.generation b.attempt m → Tied b t → Tied b (record t { manager = m })
 tied_with b t m same managed h = record {
   numbers = numbers_with b t m same managed h.numbers;
   others = h.others;
@@ -101,7 +101,7 @@ tied_with b t m same managed h = record {
 }
 
 -- also behind a failed attempt
-retiring_with : (b : Book) (t : Inner) (m : Option Generations) → AreAlike t.manager m → TiedManager b.config b.generation b.attempt m → IsRetiring b t → IsRetiring b (record t { manager = m })
+retiring_with : (b : Book) (t : TurnState) (m : Option Generations) → AreAlike t.manager m → TiedManager b.config b.generation b.attempt m → AfterFailedAttempt b t → AfterFailedAttempt b (record t { manager = m })
 retiring_with b t m same managed h = record {
   numbers = numbers_with b t m same managed h.numbers;
   rests = h.rests;
@@ -129,7 +129,7 @@ retiring_with b t m same managed h = record {
   started = h.started;
   fresh = h.fresh;
   free = h.free;
-  letting = h.letting;
+  being_admitted = h.being_admitted;
   rounds_is = h.rounds_is;
   waiting = h.waiting;
   holds = h.holds;
@@ -149,7 +149,7 @@ heeded_managed b kind acts (Some g) h = record { whole = h.whole; told = h.told;
 pub heeds_tied : (b : Book) (u : Core) (kind : EventKind) (acts : List LinkAct) (started : List ℕ) → Tied b (inner u started) → Tied b (inner (heeding u kind acts) started)
 heeds_tied b u kind acts started h = tied_with b (inner u started) (option_map (λ g. heeded g kind acts) u.manager) (heeded_alike kind acts u.manager) (heeded_managed b kind acts u.manager h.numbers.comes_back) h
 
-pub heeds_retiring : (b : Book) (u : Core) (kind : EventKind) (acts : List LinkAct) → IsRetiring b (inner u []) → IsRetiring b (inner (heeding u kind acts) [])
+pub heeds_retiring : (b : Book) (u : Core) (kind : EventKind) (acts : List LinkAct) → AfterFailedAttempt b (inner u []) → AfterFailedAttempt b (inner (heeding u kind acts) [])
 heeds_retiring b u kind acts h = retiring_with b (inner u []) (option_map (λ g. heeded g kind acts) u.manager) (heeded_alike kind acts u.manager) (heeded_managed b kind acts u.manager h.numbers.comes_back) h
 
 -- bytes and waits
@@ -162,7 +162,7 @@ begins_anew trace d h =
     record {
       moved = record {
         started = h.started;
-        holds = subst (λ (t : Inner). Sound (trace ++ []) t) same (subst (λ (x : List Action). Sound x (inner d h.started)) (sym none) h.sound);
+        holds = subst (λ (t : TurnState). Sound (trace ++ []) t) same (subst (λ (x : List Action). Sound x (inner d h.started)) (sym none) h.sound);
         ended = subst (λ (x : List Action). NoneEnds (book x)) (sym none) h.ended;
         fit = h.fit;
         still = h.still;

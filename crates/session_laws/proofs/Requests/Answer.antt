@@ -23,7 +23,7 @@ use Rattle.conn_laws.proofs.Requests.Rounded.{early_closed}
 use Rattle.session_laws.proofs.Requests.Rounded.{rounds_closed}
 use Rattle.conn_laws.proofs.Ties.Numbers.{IsIn, in_either, in_right, in_left, Rising, rising_in, requests_in, request_in}
 use Rattle.conn_laws.proofs.Ties.Tied.{link_in, queue_ids, TiedNames, AreQueued, TiedLines, has_ended}
-use Rattle.session_laws.proofs.Ties.Tied.{AreCalm, Inner, Tied, relined, numbers_kept}
+use Rattle.session_laws.proofs.Ties.Tied.{NoReconnectCause, TurnState, Tied, relined, numbers_kept}
 use Rattle.conn_laws.proofs.Links.Said.{carried_tied}
 use Rattle.session_laws.proofs.Links.Said.{sources_asked}
 use Rattle.conn_laws.proofs.Ties.Names.{name_within, open_within, earlier_name, owners_with, names_with, with_then}
@@ -44,7 +44,7 @@ use Rattle.conn_laws.proofs.Requests.Answer.{answer_closes, ended_ends, ended_ov
 --
 -- an open request of its link is owed that; none before it is owed anything; and on a link that is over nothing is
 -- due before
-pub may_answer : (b : Book) (t : Inner) (p : ℕ) (o : Outcome) → Tied b t → is_open_at t.requests p ≡ true → owed b (name_at t.requests p) ≡ Some o
+pub may_answer : (b : Book) (t : TurnState) (p : ℕ) (o : Outcome) → Tied b t → is_open_at t.requests p ≡ true → owed b (name_at t.requests p) ≡ Some o
     → ((q : ℕ) → q < p → is_open_at t.requests q ≡ true → owed b (name_at t.requests q) ≡ None)
     → (is_heard b ≡ true → (push : Heard) → next_notice (b.link t.link) ≡ Some push → IsBefore b (name_at t.requests p) push)
     → (is_over (b.link t.link) ≡ true → NoneEnds b × VerdictsAreShown b × FailuresAreShown b × EndsAreTold b) → MayAnswer b (name_at t.requests p) o
@@ -64,7 +64,7 @@ may_answer b t p o h e owes before pushed after =
     }
 
 -- on a link that has ended
-pub after_end : (b : Book) (t : Inner) → Tied b t → has_ended t.life ≡ true → NoneEnds b × VerdictsAreShown b × FailuresAreShown b
+pub after_end : (b : Book) (t : TurnState) → Tied b t → has_ended t.life ≡ true → NoneEnds b × VerdictsAreShown b × FailuresAreShown b
 after_end b t h over = (
   (λ m. by_test (m == t.link) _
       (λ same. let e = eq_from m t.link same in subst (λ n. ending (b.link n) ≡ None) (sym e) (ended_ends (b.link t.link) b.created t.life over h.life))
@@ -78,11 +78,11 @@ after_end b t h over = (
 )
 
 -- all that is told of the ends
-pub after_closes : (b : Book) (t : Inner) → Tied b t → t.parting ≡ false → has_ended t.life ≡ true → NoneEnds b × VerdictsAreShown b × FailuresAreShown b × EndsAreTold b
+pub after_closes : (b : Book) (t : TurnState) → Tied b t → t.parting ≡ false → has_ended t.life ≡ true → NoneEnds b × VerdictsAreShown b × FailuresAreShown b × EndsAreTold b
 after_closes b t h done over = let a = after_end b t h over in (a.0, a.1, a.2, ends_told b t h done)
 
 -- where no notice is still to be told none is
-pub none_before : (b : Book) (t : Inner) (n : ℕ) → Tied b t → t.untold ≡ [] → is_heard b ≡ true → (push : Heard) → next_notice (b.link t.link) ≡ Some push → IsBefore b n push
+pub none_before : (b : Book) (t : TurnState) (n : ℕ) → Tied b t → t.untold ≡ [] → is_heard b ≡ true → (push : Heard) → next_notice (b.link t.link) ≡ Some push → IsBefore b n push
 none_before b t n h none heard push next = absurd (no_push (next_notice (b.link t.link)) push (notices_told b t h none t.link heard) next)
 
 -- what it leaves
@@ -141,12 +141,12 @@ lines_answered table story requests link waiting admitted p pending started clos
     }
 
 -- the session with this request closed, and these to be answered
-abbrev pub closed_in : Inner → ℕ → List ℕ → Inner
+abbrev pub closed_in : TurnState → ℕ → List ℕ → TurnState
 closed_in t p pending = record t { requests = with_permits t.requests p progress.Closed 0; free = given_back t.limit t.free (permits_at t.requests p); pending = pending }
 
 -- one that is to be answered is, and is neither in the row nor in the queue; who is told and has not started is there; and the answer
 -- is no cause for the next generation, until the link ends, and confirms nothing while what is subscribed again isn't answered
-pub answer_apart : (b : Book) (t : Inner) (p : ℕ) (pending : List ℕ) (o : Outcome) → (has_ended t.life ≡ false → t.shut ≡ false → AreCalm (faults_in o)) → (has_ended t.life ≡ false → is_outstanding t.again ≡ true → confirmed (b.story (name_at t.requests p)).submission o ≡ []) → is_open_at t.requests p ≡ true → (IsIn p (wanted (link_in t.life).row ++ queue_ids (link_in t.life).queue) → ⊥)
+pub answer_apart : (b : Book) (t : TurnState) (p : ℕ) (pending : List ℕ) (o : Outcome) → (has_ended t.life ≡ false → t.shut ≡ false → NoReconnectCause (faults_in o)) → (has_ended t.life ≡ false → is_outstanding t.again ≡ true → confirmed (b.story (name_at t.requests p)).submission o ≡ []) → is_open_at t.requests p ≡ true → (IsIn p (wanted (link_in t.life).row ++ queue_ids (link_in t.life).queue) → ⊥)
     → (has_ended t.life ≡ false → AreQueued (entered b (action.Outcome (name_at t.requests p) o)).story (with_permits t.requests p progress.Closed 0) t.link (link_in t.life)) → Tied b (record t { pending = p ∷ pending })
     → Tied (entered b (action.Outcome (name_at t.requests p) o)) (closed_in t p pending)
 answer_apart b t p pending o calm tracked open_is apart told h =
@@ -163,7 +163,7 @@ answer_apart b t p pending o calm tracked open_is apart told h =
     let known : n < b.submissions = (let within = name_within t.table t.requests p h.names l in let e = h.numbers.submissions in omega arith) in
     let own : (entered b (action.Outcome n o)).story n ≡ closed n = taken_if (n == n) (closed n) (b.story n) (eq_test n n refl) in
     record {
-      numbers = numbers_kept b b.link (entered b (action.Outcome n o)).story (entered b (action.Outcome n o)).tracked (entered b (action.Outcome n o)).errors (entered b (action.Outcome n o)).placed b.since now t.life (given_back t.limit t.free (permits_at t.requests p)) (with_permits t.requests p progress.Closed 0) t.waiting t.admitted t.fresh t.moved t.letting pending t.started h.numbers;
+      numbers = numbers_kept b b.link (entered b (action.Outcome n o)).story (entered b (action.Outcome n o)).tracked (entered b (action.Outcome n o)).errors (entered b (action.Outcome n o)).placed b.since now t.life (given_back t.limit t.free (permits_at t.requests p)) (with_permits t.requests p progress.Closed 0) t.waiting t.admitted t.fresh t.moved t.being_admitted pending t.started h.numbers;
       others = h.others;
       notices = h.notices;
       life = h.life;
@@ -186,7 +186,7 @@ answer_apart b t p pending o calm tracked open_is apart told h =
           let j = awaited_in q link.queue i in
           let k = rising_in 0 (requests_in t.started ++ (queue ++ kept)) (length t.requests) q h.lines.line (in_right q (requests_in t.started) (queue ++ kept) (in_left q queue kept j)) in
           ((λ same. apart (in_right p rows queue (subst (λ m. IsIn m queue) (sym same) j))), k.1, i)) h.waits;
-      permits = permits_closed b.story (entered b (action.Outcome n o)).story t.table b.submissions t.requests t.link t.limit t.free t.letting p h.names l known (r.on open_is) r.permits_is (λ m other. closed_other b.story t.requests p closed m other)
+      permits = permits_closed b.story (entered b (action.Outcome n o)).story t.table b.submissions t.requests t.link t.limit t.free t.being_admitted p h.names l known (r.on open_is) r.permits_is (λ m other. closed_other b.story t.requests p closed m other)
           (ap (λ (s : Story). s.permits) own) (ap (λ (s : Story). s.link) own ∙ r.on open_is) h.permits;
       rounds = rounds_closed b.story t.requests t.fresh p closed l c h.rounds;
       early = early_closed t.requests t.again t.life p l h.early;
@@ -225,7 +225,7 @@ front_in : (p : ℕ) (xs ys zs : List ℕ) → IsIn p (xs ++ ys) → IsIn p (xs 
 front_in p xs ys zs i = elim (in_either p xs ys i) [ inl j ↦ in_left p xs (ys ++ zs) j | inr j ↦ in_right p xs (ys ++ zs) (in_left p ys zs j) ]
 
 -- where the line rises, and what is subscribed again is answered, or the link has ended
-pub answer_tied : (b : Book) (t : Inner) (p : ℕ) (pending : List ℕ) (o : Outcome) → is_open_at t.requests p ≡ true → owed b (name_at t.requests p) ≡ Some o → IsInLine t.requests (link_in t.life) t.admitted t.waiting (p ∷ pending) → (has_ended t.life ≡ false → is_outstanding t.again ≡ true → ⊥)
+pub answer_tied : (b : Book) (t : TurnState) (p : ℕ) (pending : List ℕ) (o : Outcome) → is_open_at t.requests p ≡ true → owed b (name_at t.requests p) ≡ Some o → IsInLine t.requests (link_in t.life) t.admitted t.waiting (p ∷ pending) → (has_ended t.life ≡ false → is_outstanding t.again ≡ true → ⊥)
     → Tied b (record t { pending = p ∷ pending }) → Tied (entered b (action.Outcome (name_at t.requests p) o)) (closed_in t p pending)
 answer_tied b t p pending o e owes r quiet h =
     let l = open_within t.requests p e in
@@ -239,7 +239,7 @@ answer_tied b t p pending o e owes r quiet h =
     (λ up. told_closed b.story t.requests t.link p (λ n. answered (b.story n) o) link link (λ u. absurd (owed_untold b (name_at t.requests p) o asked owes u)) (λ n. refl) (λ q is i. i) (λ q i. i) (h.told up)) h
 
 -- one that isn't open is answered with nothing shown
-pub skip_tied : (b : Book) (t : Inner) (p : ℕ) (pending : List ℕ) → is_open_at t.requests p ≡ false → Tied b (record t { pending = p ∷ pending }) → Tied b (record t { pending = pending })
+pub skip_tied : (b : Book) (t : TurnState) (p : ℕ) (pending : List ℕ) → is_open_at t.requests p ≡ false → Tied b (record t { pending = p ∷ pending }) → Tied b (record t { pending = pending })
 skip_tied b t p pending closed h =
     relined b (record t { pending = p ∷ pending }) t.waiting t.admitted t.fresh t.moved pending h (record {
       line = h.lines.line;

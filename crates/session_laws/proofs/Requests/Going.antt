@@ -35,7 +35,7 @@ use Rattle.conn_laws.proofs.Links.SetUp.{down_undue, none_due, set_up_undue, set
 use Rattle.conn_laws.proofs.Ties.States.{AreBegun, IsFit}
 use Rattle.conn_laws.proofs.Links.Server.{AreSought, HasSaid, IsSetUp, TiedRenewal, AreRenewed, watch_queued}
 use Rattle.conn_laws.proofs.Ties.Tied.{TiedLife, carried, has_ended, link_in, owner_of, queue_ids, waiting_ids, whole_link, greeter}
-use Rattle.session_laws.proofs.Ties.Tied.{Inner, Sound, Tied, IsToldIn}
+use Rattle.session_laws.proofs.Ties.Tied.{TurnState, Sound, Tied, IsToldIn}
 use Rattle.mux_conn.specs.declared.life.Greeting.TheVariants as greet
 use Rattle.legal_trace.proofs.Setups.{IsUndecided}
 use Rattle.legal_trace.proofs.Watching.{watch_is_up, watch_is_greeted, watch_is_new, watch_is_unset}
@@ -51,18 +51,18 @@ abbrev pub StaysPut : Book → Life → Type 0
 StaysPut b life = goes_on life ≡ false → NoneComes b
 
 -- where everything was shut down while it has none, nobody waits for one
-abbrev pub IsHushedIn : Inner → Type 0
+abbrev pub IsHushedIn : TurnState → Type 0
 IsHushedIn t = t.shut ≡ true → is_resting t.life ≡ true → t.waiting ≡ []
 
 -- nothing must end, all new credentials are told that may be, and a link that is set up takes requests
-pub record IsGoing (trace : List Action) (t : Inner) : Type 0 where
+pub record IsGoing (trace : List Action) (t : TurnState) : Type 0 where
   pub sound : Sound trace t
   pub ended : NoneEnds (book trace)
   pub renewed : HasRenewed t.renewal t.life
   pub served : is_ready t.life ≡ true → is_outstanding t.again ≡ false
 
 -- one more action that may stand
-pub going_more : (trace : List Action) (a : Action) (t : Inner) → AllStand blank_book trace → MayStand (book trace) a → Tied (entered (book trace) a) t → NoneEnds (entered (book trace) a) → HasRenewed t.renewal t.life → (is_ready t.life ≡ true → is_outstanding t.again ≡ false) → IsGoing (trace ++ a ∷ []) t
+pub going_more : (trace : List Action) (a : Action) (t : TurnState) → AllStand blank_book trace → MayStand (book trace) a → Tied (entered (book trace) a) t → NoneEnds (entered (book trace) a) → HasRenewed t.renewal t.life → (is_ready t.life ≡ true → is_outstanding t.again ≡ false) → IsGoing (trace ++ a ∷ []) t
 going_more trace a t stands may tied none renewed served = record {
   sound = sound_more trace a t stands may tied;
   ended = subst NoneEnds (sym (book_more trace a)) none;
@@ -71,20 +71,20 @@ going_more trace a t stands may tied none renewed served = record {
 }
 
 -- what is shown is all that the event does, where no generation begins, and no link is to be asked for
-shown_applied : (b : Book) (t : Inner) → Tied b t → NoneComes b → IsShown b → IsApplied b
+shown_applied : (b : Book) (t : TurnState) → Tied b t → NoneComes b → IsShown b → IsApplied b
 shown_applied b t h comes shown = record { shown = shown; rested = none_rests b t h; generated = comes.0; linked = comes.1; timed = h.numbers.timed }
 
 -- while nothing is to be answered and the link goes on, all that the event does is shown
-pub shown_up : (b : Book) (t : Inner) → Tied b t → t.pending ≡ [] → IsToldIn t → is_resting t.life ≡ false → has_ended t.life ≡ false → NoneEnds b → IsShown b
+pub shown_up : (b : Book) (t : TurnState) → Tied b t → t.pending ≡ [] → IsToldIn t → is_resting t.life ≡ false → has_ended t.life ≡ false → NoneEnds b → IsShown b
 shown_up b t h none told there up ended =
     record { answered = none_owed b t h (λ rests. absurd (not_both (is_resting t.life) there rests)) none up; ended = ended; created = created_is b t h; pushed = notices_told b t h told.0; parted = ends_told b t h told.1; sourced = sources_asked b t h }
 
 -- so the event has had its effect
-pub applied_up : (b : Book) (t : Inner) → Tied b t → t.pending ≡ [] → IsToldIn t → is_resting t.life ≡ false → has_ended t.life ≡ false → NoneEnds b → IsApplied b
+pub applied_up : (b : Book) (t : TurnState) → Tied b t → t.pending ≡ [] → IsToldIn t → is_resting t.life ≡ false → has_ended t.life ≡ false → NoneEnds b → IsApplied b
 applied_up b t h none told there up ended = shown_applied b t h (live_comes b t h there up) (shown_up b t h none told there up ended)
 
 -- each setup has started that is to start, but where its link is held back, where it is so of the link of the session
-pub setups_started : (b : Book) (t : Inner) → Tied b t → ((link : LinkState) (greeting : Greeting) → t.life ≡ SettingUp link greeting → (setup_due (b.link t.link) ≡ None) ⊎ (is_held_back b (b.link t.link) ≡ true)) → SetupsAreStarted b
+pub setups_started : (b : Book) (t : TurnState) → Tied b t → ((link : LinkState) (greeting : Greeting) → t.life ≡ SettingUp link greeting → (setup_due (b.link t.link) ≡ None) ⊎ (is_held_back b (b.link t.link) ≡ true)) → SetupsAreStarted b
 setups_started b t h mine m k due = by_test (m == t.link) _
     (λ same. subst (λ n. is_held_back b (b.link n) ≡ true) (sym (eq_from m t.link same)) (by_life t.life refl (subst (λ n. setup_due (b.link n) ≡ Some k) (eq_from m t.link same) due)))
     (λ other. absurd (undue (b.link m) (down_undue (b.link m) (h.others m (ne_from m t.link other)).down) due))
@@ -107,7 +107,7 @@ setups_started b t h mine m k due = by_test (m == t.link) _
     by_life (Ended x) e d = absurd (undue (b.link t.link) (down_undue (b.link t.link) (subst (TiedLife (b.link t.link) b.created) e h.life).0) d)
 
 -- and so has MONITOR
-pub monitors_started : (b : Book) (t : Inner) → Tied b t → ((link : LinkState) → t.life ≡ SettingUp link greet.Monitor → (monitor_due (b.link t.link) ≡ true → ⊥) ⊎ (is_held_back b (b.link t.link) ≡ true)) → MonitorsAreStarted b
+pub monitors_started : (b : Book) (t : TurnState) → Tied b t → ((link : LinkState) → t.life ≡ SettingUp link greet.Monitor → (monitor_due (b.link t.link) ≡ true → ⊥) ⊎ (is_held_back b (b.link t.link) ≡ true)) → MonitorsAreStarted b
 monitors_started b t h mine m due = by_test (m == t.link) _
     (λ same. subst (λ n. is_held_back b (b.link n) ≡ true) (sym (eq_from m t.link same)) (by_life t.life refl (subst (λ n. monitor_due (b.link n) ≡ true) (eq_from m t.link same) due)))
     (λ other. absurd (not_both (b.link m).up (h.others m (ne_from m t.link other)).down (watch_is_up (b.link m) due)))
@@ -128,7 +128,7 @@ monitors_started b t h mine m due = by_test (m == t.link) _
 -- new credentials
 --
 -- all new credentials have their timers that were to be told so far
-pub renewals_timed : (b : Book) (t : Inner) → Tied b t → ((link : LinkState) → t.life ≡ Ready link → is_renewal_due t.renewal ≡ true → t.renewal.pending ≡ true) → RenewalsAreTimed b
+pub renewals_timed : (b : Book) (t : TurnState) → Tied b t → ((link : LinkState) → t.life ≡ Ready link → is_renewal_due t.renewal ≡ true → t.renewal.pending ≡ true) → RenewalsAreTimed b
 renewals_timed b t h asked m some = by_test (m == t.link) _
     (λ same. subst (λ n. renewals_asked (b.link n) ≤ (b.link n).creds.timed) (sym (eq_from m t.link same)) (by_life t.life refl))
     (λ other. (h.others m (ne_from m t.link other)).timed (λ none. some (h.numbers.within ∙ none)))
@@ -167,7 +167,7 @@ renewals_timed b t h asked m some = by_test (m == t.link) _
         omega arith
 
 -- those that are to be told next wait, where they do on the link of the session
-renewals_held : (b : Book) (t : Inner) → Tied b t → ((link : LinkState) → t.life ≡ Ready link → is_renewal_due t.renewal ≡ true → is_renewal_held b t.link ≡ true) → RenewalsAreStarted b
+renewals_held : (b : Book) (t : TurnState) → Tied b t → ((link : LinkState) → t.life ≡ Ready link → is_renewal_due t.renewal ≡ true → is_renewal_held b t.link ≡ true) → RenewalsAreStarted b
 renewals_held b t h held m c due = by_test (m == t.link) (is_renewal_held b m ≡ true)
     (λ same. subst (λ n. is_renewal_held b n ≡ true) (sym (eq_from m t.link same)) (by_life t.life refl (subst (λ n. renewal_due (b.link n) ≡ Some c) (eq_from m t.link same) due)))
     (λ other. absurd (no_due (b.link m) (down_renewed_due (b.link m) (h.others m (ne_from m t.link other)).down) due))
@@ -184,13 +184,13 @@ renewals_held b t h held m c due = by_test (m == t.link) (is_renewal_held b m �
     by_life (Ended x) e d = absurd (no_due (b.link t.link) (down_renewed_due (b.link t.link) (subst (TiedLife (b.link t.link) b.created) e h.life).0) d)
 
 -- so it is where their link is held back
-renewals_started : (b : Book) (t : Inner) → Tied b t → ((link : LinkState) → t.life ≡ Ready link → link.boundary ≡ t.bound) → HasRenewed t.renewal t.life → RenewalsAreStarted b
+renewals_started : (b : Book) (t : TurnState) → Tied b t → ((link : LinkState) → t.life ≡ Ready link → link.boundary ≡ t.bound) → HasRenewed t.renewal t.life → RenewalsAreStarted b
 renewals_started b t h bound renewed = renewals_held b t h (λ link e due.
     let tied : TiedLink (owner_of t.requests) (b.link t.link) link = subst (λ (x : Life). TiedLink (carried x t.requests) (b.link t.link) (whole_link x)) e (h.link (ap has_ended e)) in
     held_with_link b t.link (held_by b t (owner_of t.requests) link h.numbers (bound link e) tied ∙ (renewed link e due).1))
 
 -- so on a link that is up requests may be moved, where new credentials that are to be told have their timer and wait
-pub begun_with : (b : Book) (t : Inner) → Tied b t → IsRunning t → IsToldIn t → NoneEnds b → ((link : LinkState) → t.life ≡ Ready link → is_renewal_due t.renewal ≡ true → (t.renewal.pending ≡ true) × (is_renewal_held b t.link ≡ true)) → IsBegun b
+pub begun_with : (b : Book) (t : TurnState) → Tied b t → IsRunning t → IsToldIn t → NoneEnds b → ((link : LinkState) → t.life ≡ Ready link → is_renewal_due t.renewal ≡ true → (t.renewal.pending ≡ true) × (is_renewal_held b t.link ≡ true)) → IsBegun b
 begun_with b t h r told ended renewed = record {
   applied = applied_up b t h r.settled told (ready_there t.life r.up) (ready_alive t.life r.up) ended;
   setups = setups_started b t h (λ link greeting e. absurd (ready_not_setting t.life link greeting r.up e));
@@ -202,14 +202,14 @@ begun_with b t h r told ended renewed = record {
 }
 
 -- as they do on a link that is held back
-pub begun_up : (b : Book) (t : Inner) → Tied b t → IsRunning t → IsToldIn t → NoneEnds b → HasRenewed t.renewal t.life → IsBegun b
+pub begun_up : (b : Book) (t : TurnState) → Tied b t → IsRunning t → IsToldIn t → NoneEnds b → HasRenewed t.renewal t.life → IsBegun b
 begun_up b t h r told ended renewed = begun_with b t h r told ended (λ link e due.
     let tied : TiedLink (owner_of t.requests) (b.link t.link) link = subst (λ (x : Life). TiedLink (carried x t.requests) (b.link t.link) (whole_link x)) e (h.link (ap has_ended e)) in
     let k = renewed link e due in
     (k.0, held_with_link b t.link (held_by b t (owner_of t.requests) link h.numbers (ap (λ (x : Life). (link_in x).boundary) (sym e) ∙ r.fit.bound_is) tied ∙ k.1)))
 
 -- or none waits
-pub shown_over : (b : Book) (t : Inner) (life : Life) → line_of (link_in life) t.admitted t.waiting ≡ kept_ids t.admitted t.waiting → Tied b t → t.pending ≡ [] → IsToldIn t → t.life ≡ life → kept_ids t.admitted t.waiting ≡ [] → NoneEnds b → IsShown b
+pub shown_over : (b : Book) (t : TurnState) (life : Life) → line_of (link_in life) t.admitted t.waiting ≡ kept_ids t.admitted t.waiting → Tied b t → t.pending ≡ [] → IsToldIn t → t.life ≡ life → kept_ids t.admitted t.waiting ≡ [] → NoneEnds b → IsShown b
 shown_over b t life bare h none told over empty ended = record {
   answered = λ n o. absurd (none_open b t life n bare h none over empty o);
   ended = ended;
@@ -219,11 +219,11 @@ shown_over b t life bare h none told over empty ended = record {
   sourced = sources_asked b t h;
 }
 
-pub applied_over : (b : Book) (t : Inner) (life : Life) → line_of (link_in life) t.admitted t.waiting ≡ kept_ids t.admitted t.waiting → Tied b t → NoneComes b → t.pending ≡ [] → IsToldIn t → t.life ≡ life → kept_ids t.admitted t.waiting ≡ [] → NoneEnds b → IsApplied b
+pub applied_over : (b : Book) (t : TurnState) (life : Life) → line_of (link_in life) t.admitted t.waiting ≡ kept_ids t.admitted t.waiting → Tied b t → NoneComes b → t.pending ≡ [] → IsToldIn t → t.life ≡ life → kept_ids t.admitted t.waiting ≡ [] → NoneEnds b → IsApplied b
 applied_over b t life bare h comes none told over empty ended = shown_applied b t h comes (shown_over b t life bare h none told over empty ended)
 
 -- or there is no link, and where everything was shut down none waits
-pub shown_resting : (b : Book) (t : Inner) → Tied b t → IsHushedIn t → t.pending ≡ [] → IsToldIn t → t.life ≡ Resting → t.admitted ≡ [] → NoneEnds b → IsShown b
+pub shown_resting : (b : Book) (t : TurnState) → Tied b t → IsHushedIn t → t.pending ≡ [] → IsToldIn t → t.life ≡ Resting → t.admitted ≡ [] → NoneEnds b → IsShown b
 shown_resting b t h hushed none told rests nobody ended = by_test t.shut _
     (λ over. shown_over b t Resting refl h none told rests (λ i. kept_ids (nobody i) (hushed over (ap is_resting rests) i)) ended)
     (λ awake. record {
@@ -235,7 +235,7 @@ shown_resting b t h hushed none told rests nobody ended = by_test t.shut _
       sourced = sources_asked b t h;
     })
 
-pub applied_resting : (b : Book) (t : Inner) → Tied b t → NoneComes b → IsHushedIn t → t.pending ≡ [] → IsToldIn t → t.life ≡ Resting → t.admitted ≡ [] → NoneEnds b → IsApplied b
+pub applied_resting : (b : Book) (t : TurnState) → Tied b t → NoneComes b → IsHushedIn t → t.pending ≡ [] → IsToldIn t → t.life ≡ Resting → t.admitted ≡ [] → NoneEnds b → IsApplied b
 applied_resting b t h comes hushed none told rests nobody ended = shown_applied b t h comes (shown_resting b t h hushed none told rests nobody ended)
 
 -- a line of one link that ends none
@@ -249,7 +249,7 @@ none_ends_mine b n line here h m = chosen (λ (ls : List Line). ending (noted_ea
 -- whose step is first
 --
 -- who is still to start is in the line behind those that started
-later_in : (t : Inner) (n : ℕ) (l : IsLater t n) → IsIn l.p (queue_ids (link_in t.life).queue ++ kept_ids t.admitted t.waiting)
+later_in : (t : TurnState) (n : ℕ) (l : IsLater t n) → IsIn l.p (queue_ids (link_in t.life).queue ++ kept_ids t.admitted t.waiting)
 later_in t n l =
     let queue = queue_ids (link_in t.life).queue in
     let kept = kept_ids t.admitted t.waiting in
@@ -272,17 +272,17 @@ moves_up : (b : Book) (n : ℕ) → CanMove b n → (b.link (b.story n).link).up
 moves_up b n m = by_test (b.link (b.story n).link).up _ (λ up. up) (λ down. absurd (not_both (is_due (next_step b n)) (down_stays b n down) m.due))
 
 -- and is the connection's
-moves_here : (b : Book) (t : Inner) (n : ℕ) → Tied b t → CanMove b n → (b.story n).link ≡ t.link
+moves_here : (b : Book) (t : TurnState) (n : ℕ) → Tied b t → CanMove b n → (b.story n).link ≡ t.link
 moves_here b t n h m =
     let l = (b.story n).link in
     by_test (l == t.link) _ (λ same. eq_from l t.link same) (λ other. absurd (not_both (b.link l).up (h.others l (ne_from l t.link other)).down (moves_up b n m)))
 
 -- one that makes a step is still to start
-pub moves_later : (b : Book) (t : Inner) (n : ℕ) → Tied b t → IsRunning t → CanMove b n → IsLater t n
+pub moves_later : (b : Book) (t : TurnState) (n : ℕ) → Tied b t → IsRunning t → CanMove b n → IsLater t n
 moves_later b t n h r m = later_of b t n h r.settled (ready_alive t.life r.up) (moves_here b t n h m) m.unstarted
 
 -- the first of the queue is the first that makes a step
-pub first_in_queue : (b : Book) (t : Inner) (q : ℕ) (rest : List ℕ) → Tied b t → IsRunning t → queue_ids (link_in t.life).queue ≡ q ∷ rest → IsFirstToMove b (name_at t.requests q)
+pub first_in_queue : (b : Book) (t : TurnState) (q : ℕ) (rest : List ℕ) → Tied b t → IsRunning t → queue_ids (link_in t.life).queue ≡ q ∷ rest → IsFirstToMove b (name_at t.requests q)
 first_in_queue b t q rest h r first n before m =
     let kept = kept_ids t.admitted t.waiting in
     let l = moves_later b t n h r m in
@@ -295,15 +295,15 @@ first_in_queue b t q rest h r first n before m =
     omega arith
 
 -- a message of the queue makes none while its link is held back
-held_stays : (b : Book) (t : Inner) (p : ℕ) → Tied b t → IsRunning t → holds_back (link_in t.life) ≡ true → IsIn p (queue_ids (link_in t.life).queue) → is_due (next_step b (name_at t.requests p)) ≡ false
+held_stays : (b : Book) (t : TurnState) (p : ℕ) → Tied b t → IsRunning t → holds_back (link_in t.life) ≡ true → IsIn p (queue_ids (link_in t.life).queue) → is_due (next_step b (name_at t.requests p)) ≡ false
 held_stays b t p h r held i = ap is_due (queue_step b t p h r i ∙ ap starts_or_waits held)
 
 -- what is in the queue makes no step, since there is nothing or the link is held back
-pub queue_stays : (b : Book) (t : Inner) (p : ℕ) → Tied b t → IsRunning t → ((link_in t.life).queue ≡ []) ⊎ (holds_back (link_in t.life) ≡ true) → IsIn p (queue_ids (link_in t.life).queue) → is_due (next_step b (name_at t.requests p)) ≡ false
+pub queue_stays : (b : Book) (t : TurnState) (p : ℕ) → Tied b t → IsRunning t → ((link_in t.life).queue ≡ []) ⊎ (holds_back (link_in t.life) ≡ true) → IsIn p (queue_ids (link_in t.life).queue) → is_due (next_step b (name_at t.requests p)) ≡ false
 queue_stays b t p h r still i = elim still [ inl none ↦ absurd (subst (λ qs. IsIn p (queue_ids qs)) none i) | inr held ↦ held_stays b t p h r held i ]
 
 -- so the first of those that wait is the first that makes one
-pub first_behind : (b : Book) (t : Inner) (q : ℕ) (rest : List ℕ) → Tied b t → IsRunning t → ((link_in t.life).queue ≡ []) ⊎ (holds_back (link_in t.life) ≡ true) → kept_ids t.admitted t.waiting ≡ q ∷ rest → IsFirstToMove b (name_at t.requests q)
+pub first_behind : (b : Book) (t : TurnState) (q : ℕ) (rest : List ℕ) → Tied b t → IsRunning t → ((link_in t.life).queue ≡ []) ⊎ (holds_back (link_in t.life) ≡ true) → kept_ids t.admitted t.waiting ≡ q ∷ rest → IsFirstToMove b (name_at t.requests q)
 first_behind b t q rest h r still first n before m =
     let ids = queue_ids (link_in t.life).queue in
     let kept = kept_ids t.admitted t.waiting in
@@ -320,42 +320,42 @@ first_behind b t q rest h r still first n before m =
 -- every step that may be made was made
 --
 -- nothing of a link that isn't up does
-down_moves_none : (b : Book) (t : Inner) → Tied b t → (b.link t.link).up ≡ false → (n : ℕ) → CanMove b n → ⊥
+down_moves_none : (b : Book) (t : TurnState) → Tied b t → (b.link t.link).up ≡ false → (n : ℕ) → CanMove b n → ⊥
 down_moves_none b t h down n m = not_both (b.link t.link).up down (subst (λ l. (b.link l).up ≡ true) (moves_here b t n h m) (moves_up b n m))
 
 -- nor does one on a link that waits for credentials
-wanting_moves_none : (b : Book) (t : Inner) (link : LinkState) → Tied b t → t.life ≡ Wanting link → (n : ℕ) → CanMove b n → ⊥
+wanting_moves_none : (b : Book) (t : TurnState) (link : LinkState) → Tied b t → t.life ≡ Wanting link → (n : ℕ) → CanMove b n → ⊥
 wanting_moves_none b t link h e n m =
     let a = alive_behind b t n h (unstarted_alive (b.story n) m.unstarted) in
     not_both (is_due (next_step b n)) (ap (λ k. is_due (next_step b k)) (sym a.name) ∙ ap is_due (creds_step b t a.p link h e (ap (λ k. (b.story k).link) a.name ∙ moves_here b t n h m))) m.due
 
 -- nor does one on a link that isn't set up
-setting_moves_none : (b : Book) (t : Inner) (link : LinkState) (greeting : Greeting) → Tied b t → t.life ≡ SettingUp link greeting → (n : ℕ) → CanMove b n → ⊥
+setting_moves_none : (b : Book) (t : TurnState) (link : LinkState) (greeting : Greeting) → Tied b t → t.life ≡ SettingUp link greeting → (n : ℕ) → CanMove b n → ⊥
 setting_moves_none b t link greeting h e n m =
     let a = alive_behind b t n h (unstarted_alive (b.story n) m.unstarted) in
     not_both (is_due (next_step b n)) (ap (λ k. is_due (next_step b k)) (sym a.name) ∙ ap is_due (setup_step b t a.p link greeting h e (ap (λ k. (b.story k).link) a.name ∙ moves_here b t n h m))) m.due
 
 -- nor does one on a link on which what is subscribed again isn't answered
-repeating_moves_none : (b : Book) (t : Inner) (link : LinkState) → Tied b t → t.life ≡ Ready link → is_outstanding t.again ≡ true → (n : ℕ) → CanMove b n → ⊥
+repeating_moves_none : (b : Book) (t : TurnState) (link : LinkState) → Tied b t → t.life ≡ Ready link → is_outstanding t.again ≡ true → (n : ℕ) → CanMove b n → ⊥
 repeating_moves_none b t link h e goes n m =
     let a = alive_behind b t n h (unstarted_alive (b.story n) m.unstarted) in
     not_both (is_due (next_step b n)) (ap (λ k. is_due (next_step b k)) (sym a.name) ∙ ap is_due (repeat_step b t a.p link h e goes (ap (λ k. (b.story k).link) a.name ∙ moves_here b t n h m))) m.due
 
 -- a link is held back by what is unwritten
-setting_held : (b : Book) (t : Inner) (link : LinkState) (greeting : Greeting) → Tied b t → t.life ≡ SettingUp link greeting → IsFit t.size t.bound link → holds_back link ≡ true → is_held_back b (b.link t.link) ≡ true
+setting_held : (b : Book) (t : TurnState) (link : LinkState) (greeting : Greeting) → Tied b t → t.life ≡ SettingUp link greeting → IsFit t.size t.bound link → holds_back link ≡ true → is_held_back b (b.link t.link) ≡ true
 setting_held b t link greeting h e fit stuck =
     let l = b.link t.link in
     let tied : TiedLink (λ (p : ℕ). greeter greeting) l link = subst (λ (x : Life). TiedLink (carried x t.requests) l (whole_link x)) e (h.link (ap has_ended e)) in
     held_by b t (λ (p : ℕ). greeter greeting) link h.numbers fit.bound_is tied ∙ stuck
 
 -- it is to start no more, or is held back
-setting_done : (b : Book) (t : Inner) (link : LinkState) (greeting : Greeting) → Tied b t → t.life ≡ SettingUp link greeting → IsFit t.size t.bound link → (link.queue ≡ []) ⊎ (holds_back link ≡ true) → (setup_due (b.link t.link) ≡ None) ⊎ (is_held_back b (b.link t.link) ≡ true)
+setting_done : (b : Book) (t : TurnState) (link : LinkState) (greeting : Greeting) → Tied b t → t.life ≡ SettingUp link greeting → IsFit t.size t.bound link → (link.queue ≡ []) ⊎ (holds_back link ≡ true) → (setup_due (b.link t.link) ≡ None) ⊎ (is_held_back b (b.link t.link) ≡ true)
 setting_done b t link greeting h e fit held =
     let said = (subst (HasSaid (b.link t.link) t.started) e h.setup.said).1 in
     elim held [ inl empty ↦ inl (setup_gone (b.link t.link) link greeting said empty) | inr stuck ↦ inr (setting_held b t link greeting h e fit stuck) ]
 
 -- and so is MONITOR
-watching_done : (b : Book) (t : Inner) (link : LinkState) → Tied b t → t.life ≡ SettingUp link greet.Monitor → IsFit t.size t.bound link → (link.queue ≡ []) ⊎ (holds_back link ≡ true) → (monitor_due (b.link t.link) ≡ true → ⊥) ⊎ (is_held_back b (b.link t.link) ≡ true)
+watching_done : (b : Book) (t : TurnState) (link : LinkState) → Tied b t → t.life ≡ SettingUp link greet.Monitor → IsFit t.size t.bound link → (link.queue ≡ []) ⊎ (holds_back link ≡ true) → (monitor_due (b.link t.link) ≡ true → ⊥) ⊎ (is_held_back b (b.link t.link) ≡ true)
 watching_done b t link h e fit held =
     let l = b.link t.link in
     let said = (subst (HasSaid l t.started) e h.setup.said).1 in
@@ -368,7 +368,7 @@ watching_done b t link h e fit held =
     ]
 
 -- on a link that takes requests what is in the queue is held back, those that wait for a place find it full, and the others no permit
-up_moves_none : (b : Book) (t : Inner) → Tied b t → IsRunning t → t.letting ≡ [] → ((link_in t.life).queue ≡ []) ⊎ (holds_back (link_in t.life) ≡ true) → (t.admitted ≡ []) ⊎ (is_full_beside (link_in t.life) (in_front t.renewal) ≡ true)
+up_moves_none : (b : Book) (t : TurnState) → Tied b t → IsRunning t → t.being_admitted ≡ [] → ((link_in t.life).queue ≡ []) ⊎ (holds_back (link_in t.life) ≡ true) → (t.admitted ≡ []) ⊎ (is_full_beside (link_in t.life) (in_front t.renewal) ≡ true)
     → (t.waiting ≡ []) ⊎ (has_no_permit t.limit t.free ≡ true) → AreBegun t.rounds t.again t.life t.requests → (n : ℕ) → CanMove b n → ⊥
 up_moves_none b t h r nobody still full none begun n m =
     let l = moves_later b t n h r m in
@@ -388,7 +388,7 @@ up_moves_none b t h r nobody still full none begun n m =
     ]
 
 -- and where the rounds of all before it have begun, that of a request may begin
-pub first_round : (b : Book) (t : Inner) (p : ℕ) → Tied b t → IsRunning t → t.letting ≡ [] → ((link_in t.life).queue ≡ []) ⊎ (holds_back (link_in t.life) ≡ true) → (t.admitted ≡ []) ⊎ (is_full_beside (link_in t.life) (in_front t.renewal) ≡ true)
+pub first_round : (b : Book) (t : TurnState) (p : ℕ) → Tied b t → IsRunning t → t.being_admitted ≡ [] → ((link_in t.life).queue ≡ []) ⊎ (holds_back (link_in t.life) ≡ true) → (t.admitted ≡ []) ⊎ (is_full_beside (link_in t.life) (in_front t.renewal) ≡ true)
     → (t.waiting ≡ []) ⊎ (has_no_permit t.limit t.free ≡ true) → p < length t.requests → ((m : ℕ) → m < p → is_unbegun_at t.requests m ≡ false) → IsFirstToMove b (name_at t.requests p)
 first_round b t p h r nobody still full none within begun n before m =
     let l = moves_later b t n h r m in
@@ -409,7 +409,7 @@ first_round b t p h r nobody still full none within begun n before m =
     ]
 
 -- where nothing is to be answered, nothing must end, nothing moves, and no generation begins
-pub is_moved : (b : Book) (t : Inner) → Tied b t → t.pending ≡ [] → IsToldIn t → t.letting ≡ [] → NoneEnds b → ((link : LinkState) → t.life ≡ Ready link → IsFit t.size t.bound link) → (serves t.life t.again ≡ false → t.admitted ≡ [])
+pub is_moved : (b : Book) (t : TurnState) → Tied b t → t.pending ≡ [] → IsToldIn t → t.being_admitted ≡ [] → NoneEnds b → ((link : LinkState) → t.life ≡ Ready link → IsFit t.size t.bound link) → (serves t.life t.again ≡ false → t.admitted ≡ [])
     → ((link : LinkState) → t.life ≡ Ready link → (link.queue ≡ []) ⊎ (holds_back link ≡ true)) → ((link : LinkState) → t.life ≡ Ready link → (t.admitted ≡ []) ⊎ (is_full_beside link (in_front t.renewal) ≡ true))
     → ((link : LinkState) → t.life ≡ Ready link → is_outstanding t.again ≡ false → (t.waiting ≡ []) ⊎ (has_no_permit t.limit t.free ≡ true)) → (has_ended t.life ≡ true → t.waiting ≡ []) → IsHushedIn t → StaysPut b t.life
     → ((link : LinkState) (greeting : Greeting) → t.life ≡ SettingUp link greeting → IsFit t.size t.bound link) → ((link : LinkState) (greeting : Greeting) → t.life ≡ SettingUp link greeting → (link.queue ≡ []) ⊎ (holds_back link ≡ true))

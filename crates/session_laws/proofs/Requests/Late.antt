@@ -39,7 +39,7 @@ use Rattle.conn_laws.proofs.Requests.Rounded.{rounds_same}
 use Rattle.conn_laws.proofs.Internal.Renewals.{renewal_alike}
 use Rattle.conn_laws.proofs.Ties.Numbers.{IsIn, in_left, in_right, in_either, Rising, rising_right, rising_tail, requests_in, request_in, request_of, request_other, is_own}
 use Rattle.conn_laws.proofs.Ties.Tied.{no_link, link_in, queue_ids, IsQueued, AreQueued, TiedLines, TiedPermits, TiedStory, TiedWaits, has_ended, shown_wait, TiedRounds}
-use Rattle.session_laws.proofs.Ties.Tied.{Inner, inner, Tied}
+use Rattle.session_laws.proofs.Ties.Tied.{TurnState, inner, Tied}
 use Rattle.conn_laws.proofs.Ties.States.{IsStopped}
 use Rattle.session_laws.proofs.Ties.States.{Between, HasApplied}
 use Rattle.conn_laws.proofs.Ties.Behind.{open_untold}
@@ -302,7 +302,7 @@ fired_overdue b c started word n p h is o =
 -- the answer
 --
 -- the rows and the queue are without it
-late_apart : (b : Book) (t : Inner) (life : Life) (p : ℕ) → Tied b t → t.life ≡ life → has_ended life ≡ false → is_own p ≡ false → is_open (b.story (name_at t.requests p)) ≡ true → IsIn p (wanted (link_in (cancelled_in life p)).row ++ queue_ids (link_in (cancelled_in life p)).queue) → ⊥
+late_apart : (b : Book) (t : TurnState) (life : Life) (p : ℕ) → Tied b t → t.life ≡ life → has_ended life ≡ false → is_own p ≡ false → is_open (b.story (name_at t.requests p)) ≡ true → IsIn p (wanted (link_in (cancelled_in life p)).row ++ queue_ids (link_in (cancelled_in life p)).queue) → ⊥
 late_apart b t Resting p h e up other o i = i
 late_apart b t Dialing p h e up other o i = i
 late_apart b t (Wanting link) p h e up other o i = i
@@ -320,7 +320,7 @@ late_apart b t (Ready link) p h e up other o i =
     ]
 
 -- who else is open is owed nothing
-others_unowed : (b : Book) (t : Inner) (p q : ℕ) → Tied b t → IsAwake t → t.pending ≡ p ∷ [] → has_ended t.life ≡ false → q < p → is_open_at t.requests q ≡ true → owed b (name_at t.requests q) ≡ None
+others_unowed : (b : Book) (t : TurnState) (p q : ℕ) → Tied b t → IsAwake t → t.pending ≡ p ∷ [] → has_ended t.life ≡ false → q < p → is_open_at t.requests q ≡ true → owed b (name_at t.requests q) ≡ None
 others_unowed b t p q h awake is up less o =
     let apart : IsIn q t.pending → ⊥ = λ i. elim (subst (IsIn q) is i) [ inl same ↦ omega (arith, same) | inr none ↦ none ] in
     let link = link_in t.life in
@@ -356,7 +356,7 @@ open_awake before c started p h o rests = by_test c.shut _
     b : Book
     b = book before
 
-    t : Inner
+    t : TurnState
     t = inner c started
 
     conn : MultiplexedConnection

@@ -45,7 +45,7 @@ use Rattle.conn_laws.proofs.Requests.Rounded.{rounds_with, early_never}
 use Rattle.conn_laws.proofs.Links.Said.{carried_tied}
 use Rattle.conn_laws.proofs.Ties.States.{IsFit}
 use Rattle.conn_laws.proofs.Ties.Tied.{IsPacked, TiedPermits, TiedRounds, TiedWaits, link_in, queue_ids, waiting_ids}
-use Rattle.session_laws.proofs.Ties.Tied.{IsAim, AreAimed, Inner, Tied, TiedNumbers, numbers_kept, IsToldIn}
+use Rattle.session_laws.proofs.Ties.Tied.{IsAim, AreAimed, TurnState, Tied, TiedNumbers, numbers_kept, IsToldIn}
 use Rattle.conn_laws.proofs.Ties.Moves.{or_true}
 use Rattle.conn_laws.proofs.Internal.Repeats.{serves}
 use Rattle.conn_laws.proofs.Internal.Serving.{answered_serves}
@@ -55,19 +55,19 @@ use Rattle.conn_laws.proofs.Changes.Kept.{took_conn}
 -- stories that change in permits, timers, rounds and waits alone
 --
 -- the session where that request waits on, its round begun, and these are let in
-abbrev pub waits_on : Inner → ℕ → ℕ → ℕ → List Purpose → List ℕ → Inner
-waits_on t p count free timers letting = record t { requests = with_permits t.requests p progress.Begun count; free = free; timers = timers; letting = letting }
+abbrev pub waits_on : TurnState → ℕ → ℕ → ℕ → List Purpose → List ℕ → TurnState
+waits_on t p count free timers being_admitted = record t { requests = with_permits t.requests p progress.Begun count; free = free; timers = timers; being_admitted = being_admitted }
 
 -- so it is with that request let in so far
-abbrev pub lets : Inner → ℕ → ℕ → ℕ → List Purpose → Inner
+abbrev pub lets : TurnState → ℕ → ℕ → ℕ → List Purpose → TurnState
 lets t p count free timers = waits_on t p count free timers (p ∷ [])
 
 -- it is tied to the book with these stories and timers, where its waits, its permits and its rounds are
-pub waits_on_tied : (b : Book) (t : Inner) (p count free : ℕ) (g : ℕ → Story) (placed : ℕ → Option ℕ) (since : ℕ → ℕ) (noted timers : List Purpose) (letting : List ℕ) → serves t.life t.again ≡ true → is_waiting_at t.requests p ≡ true → AreEased b.story g (name_at t.requests p) → (g (name_at t.requests p)).permits ≡ count
-    → TiedNumbers (record b { story = g; timers = noted; placed = placed; since = since }) (waits_on t p count free timers letting) → (let requests = with_permits t.requests p progress.Begun count in
-    TiedWaits g requests t.again t.life t.fresh t.moved → TiedPermits g b.submissions requests t.link t.limit free letting → TiedRounds (has_generations b) g requests (serves t.life t.again) t.fresh t.rounds → Tied b t
-    → Tied (record b { story = g; timers = noted; placed = placed; since = since }) (waits_on t p count free timers letting))
-waits_on_tied b t p count free g placed since noted timers letting ready w eased has numbers waits permits rounds h = record {
+pub waits_on_tied : (b : Book) (t : TurnState) (p count free : ℕ) (g : ℕ → Story) (placed : ℕ → Option ℕ) (since : ℕ → ℕ) (noted timers : List Purpose) (being_admitted : List ℕ) → serves t.life t.again ≡ true → is_waiting_at t.requests p ≡ true → AreEased b.story g (name_at t.requests p) → (g (name_at t.requests p)).permits ≡ count
+    → TiedNumbers (record b { story = g; timers = noted; placed = placed; since = since }) (waits_on t p count free timers being_admitted) → (let requests = with_permits t.requests p progress.Begun count in
+    TiedWaits g requests t.again t.life t.fresh t.moved → TiedPermits g b.submissions requests t.link t.limit free being_admitted → TiedRounds (has_generations b) g requests (serves t.life t.again) t.fresh t.rounds → Tied b t
+    → Tied (record b { story = g; timers = noted; placed = placed; since = since }) (waits_on t p count free timers being_admitted))
+waits_on_tied b t p count free g placed since noted timers being_admitted ready w eased has numbers waits permits rounds h = record {
   numbers = numbers;
   others = h.others;
   notices = h.notices;
@@ -95,19 +95,19 @@ waits_on_tied b t p count free g placed since noted timers letting ready w eased
 }
 
 -- so it is while it is let in
-let_tied : (b : Book) (t : Inner) (p count free : ℕ) (g : ℕ → Story) (placed : ℕ → Option ℕ) (since : ℕ → ℕ) (noted timers : List Purpose) → serves t.life t.again ≡ true → is_waiting_at t.requests p ≡ true → HasBegun t p → ((m : ℕ) → IsIn m t.letting → p ≡ m) → AreEased b.story g (name_at t.requests p) → AreStill b.story g
+let_tied : (b : Book) (t : TurnState) (p count free : ℕ) (g : ℕ → Story) (placed : ℕ → Option ℕ) (since : ℕ → ℕ) (noted timers : List Purpose) → serves t.life t.again ≡ true → is_waiting_at t.requests p ≡ true → HasBegun t p → ((m : ℕ) → IsIn m t.being_admitted → p ≡ m) → AreEased b.story g (name_at t.requests p) → AreStill b.story g
     → (g (name_at t.requests p)).permits ≡ count → ((k : ℕ) → t.limit ≡ Some k → permits_held g t.link b.submissions + free ≡ k) → TiedNumbers (record b { story = g; timers = noted; placed = placed; since = since }) (lets t p count free timers) → Tied b t
     → Tied (record b { story = g; timers = noted; placed = placed; since = since }) (lets t p count free timers)
 let_tied b t p count free g placed since noted timers ready w begun alone eased still has sum numbers h =
     let o = waiting_open t.requests p w in
     waits_on_tied b t p count free g placed since noted timers (p ∷ []) ready w eased has numbers (waits_let b.story g t.requests t.again t.life t.fresh t.moved p count w still.waiting h.waits)
-    (permits_eased b.story g t.table b.submissions t.requests t.link t.limit t.free free t.letting p count h.names w alone eased sum h.permits)
+    (permits_eased b.story g t.table b.submissions t.requests t.link t.limit t.free free t.being_admitted p count h.names w alone eased sum h.permits)
     (rounds_with b.story g t.requests t.fresh p progress.Begun count (there_within is_waiting t.requests p w) refl still.rounded (λ shows unclosed. h.rounds.begun p shows o (begun shows)) h.rounds) h
 
 -- whose step is first
 --
 -- the first of those that wait for the connection, or for a permit, where those that wait for a place find the queue full
-pub first_early : (b : Book) (t : Inner) (q : ℕ) (rest : List ℕ) → Tied b t → IsRunning t → ((link_in t.life).queue ≡ []) ⊎ (holds_back (link_in t.life) ≡ true) → (t.admitted ≡ []) ⊎ (is_full_beside (link_in t.life) (in_front t.renewal) ≡ true) → waiting_ids t.waiting ≡ q ∷ rest
+pub first_early : (b : Book) (t : TurnState) (q : ℕ) (rest : List ℕ) → Tied b t → IsRunning t → ((link_in t.life).queue ≡ []) ⊎ (holds_back (link_in t.life) ≡ true) → (t.admitted ≡ []) ⊎ (is_full_beside (link_in t.life) (in_front t.renewal) ≡ true) → waiting_ids t.waiting ≡ q ∷ rest
     → IsFirstToMove b (name_at t.requests q)
 first_early b t q rest h r still full first n before m =
     let ids = queue_ids (link_in t.life).queue in
@@ -131,7 +131,7 @@ first_early b t q rest h r still full first n before m =
 
 -- a connection that is up, whose next is to be let in: what is in its queue is held back, those that wait for a place find it
 -- full, and new credentials are told that may be
-pub record IsOpening (t : Inner) (link : LinkState) (q : Waiting) (qs : List Waiting) : Type 0 where
+pub record IsOpening (t : TurnState) (link : LinkState) (q : Waiting) (qs : List Waiting) : Type 0 where
   pub life : t.life ≡ Ready link
   pub served : is_outstanding t.again ≡ false
   pub settled : t.pending ≡ []
@@ -146,11 +146,11 @@ pub record IsOpening (t : Inner) (link : LinkState) (q : Waiting) (qs : List Wai
   pub begun : HasBegun t q.number
 
 -- it runs
-opening_running : (t : Inner) (link : LinkState) (q : Waiting) (qs : List Waiting) → IsOpening t link q qs → IsRunning t
+opening_running : (t : TurnState) (link : LinkState) (q : Waiting) (qs : List Waiting) → IsOpening t link q qs → IsRunning t
 opening_running t link q qs o = running_of t link o.settled o.life o.served o.fit o.seats
 
 -- its step is first
-opening_first : (b : Book) (t : Inner) (link : LinkState) (q : Waiting) (qs : List Waiting) → IsOpening t link q qs → Tied b t → IsFirstToMove b (name_at t.requests q.number)
+opening_first : (b : Book) (t : TurnState) (link : LinkState) (q : Waiting) (qs : List Waiting) → IsOpening t link q qs → Tied b t → IsFirstToMove b (name_at t.requests q.number)
 opening_first b t link q qs o h =
     let here : link_in t.life ≡ link = ap link_in o.life in
     first_early b t q.number (waiting_ids qs) h (opening_running t link q qs o)
@@ -159,13 +159,13 @@ opening_first b t link q qs o h =
     (ap waiting_ids o.waiting)
 
 -- and it is still to start
-opening_unstarted : (b : Book) (t : Inner) (link : LinkState) (q : Waiting) (qs : List Waiting) → IsOpening t link q qs → Tied b t → is_unstarted (b.story (name_at t.requests q.number)) ≡ true
+opening_unstarted : (b : Book) (t : TurnState) (link : LinkState) (q : Waiting) (qs : List Waiting) → IsOpening t link q qs → Tied b t → is_unstarted (b.story (name_at t.requests q.number)) ≡ true
 opening_unstarted b t link q qs o h =
     kept_unstarted b t q.number h (waiting_open t.requests q.number o.is_waiting)
     (in_right q.number (waiting_ids t.admitted) (waiting_ids t.waiting) (subst (λ ws. IsIn q.number (waiting_ids ws)) (sym o.waiting) (inl refl)))
 
 -- it is as its submission says
-opening_packed : (b : Book) (t : Inner) (link : LinkState) (q : Waiting) (qs : List Waiting) → IsOpening t link q qs → Tied b t → IsPacked b.story t.requests q
+opening_packed : (b : Book) (t : TurnState) (link : LinkState) (q : Waiting) (qs : List Waiting) → IsOpening t link q qs → Tied b t → IsPacked b.story t.requests q
 opening_packed b t link q qs o h = (subst (AllByRecursion (IsPacked b.story t.requests)) o.waiting h.lines.packs).0
 
 -- it takes its permits
@@ -177,7 +177,7 @@ taken_some free Confirmation k some = let no_zero : free ≢ 0 = some in (omega 
 taken_some free (Pipeline offset count transaction) k some = let no_zero : free ≢ 0 = some in (omega arith, omega arith)
 
 -- it may take them
-may_take : (b : Book) (t : Inner) (link : LinkState) (q : Waiting) (qs : List Waiting) (k : ℕ) → IsOpening t link q qs → t.letting ≡ [] → t.limit ≡ Some k → t.free ≢ 0 → Tied b t → NoneEnds b
+may_take : (b : Book) (t : TurnState) (link : LinkState) (q : Waiting) (qs : List Waiting) (k : ℕ) → IsOpening t link q qs → t.being_admitted ≡ [] → t.limit ≡ Some k → t.free ≢ 0 → Tied b t → NoneEnds b
     → MayTake b (name_at t.requests q.number) t.link (min t.free (permits_for q.shape k))
 may_take b t link q qs k o alone e some h ends =
     let p = q.number in
@@ -206,7 +206,7 @@ still_at f n c waits rounds = record {
 }
 
 -- what it takes is shown
-take_tied : (b : Book) (t : Inner) (p count : ℕ) → serves t.life t.again ≡ true → is_waiting_at t.requests p ≡ true → HasBegun t p → t.letting ≡ [] → count ≤ t.free → Tied b t
+take_tied : (b : Book) (t : TurnState) (p count : ℕ) → serves t.life t.again ≡ true → is_waiting_at t.requests p ≡ true → HasBegun t p → t.being_admitted ≡ [] → count ≤ t.free → Tied b t
     → Tied (entered b (action.Took (owner.Try (name_at t.requests p) 0) t.link count)) (lets t p count (t.free - count) t.timers)
 take_tied b t p count ready w begun alone most h =
     let n = name_at t.requests p in
@@ -229,7 +229,7 @@ take_tied b t p count ready w begun alone most h =
     (numbers_kept b b.link g b.tracked b.errors (entered b taken).placed b.since t t.life (t.free - count) (with_permits t.requests p progress.Begun count) t.waiting t.admitted t.fresh t.moved (p ∷ []) t.pending t.started h.numbers) h
 
 -- where permits aren't counted nothing is
-free_tied : (b : Book) (t : Inner) (p : ℕ) → serves t.life t.again ≡ true → is_waiting_at t.requests p ≡ true → HasBegun t p → t.letting ≡ [] → t.limit ≡ None → Tied b t → Tied b (lets t p 0 (t.free - 0) t.timers)
+free_tied : (b : Book) (t : TurnState) (p : ℕ) → serves t.life t.again ≡ true → is_waiting_at t.requests p ≡ true → HasBegun t p → t.being_admitted ≡ [] → t.limit ≡ None → Tied b t → Tied b (lets t p 0 (t.free - 0) t.timers)
 free_tied b t p ready w begun alone e h =
     let n = name_at t.requests p in
     let within = there_within is_waiting t.requests p w in
@@ -249,7 +249,7 @@ aims_more timers link count n l h k what e = elim (get_more timers (purpose.Resp
 ]
 
 -- it may be asked for
-may_time : (b : Book) (t : Inner) (link : LinkState) (q : Waiting) (qs : List Waiting) (number ms : ℕ) → IsOpening t link q qs → Tied b t → NoneEnds b → number ≡ length t.timers
+may_time : (b : Book) (t : TurnState) (link : LinkState) (q : Waiting) (qs : List Waiting) (number ms : ℕ) → IsOpening t link q qs → Tied b t → NoneEnds b → number ≡ length t.timers
     → (is_none t.limit || nat_lt 0 (b.story (name_at t.requests q.number)).permits) ≡ true → q.timeout ≡ Some ms → (b.story (name_at t.requests q.number)).clock ≡ None
     → MayTime b number ms (purpose.Response (owner.Try (name_at t.requests q.number) 0))
 may_time b t link q qs number ms o h ends counted has time none =
@@ -265,7 +265,7 @@ may_time b t link q qs number ms o h ends counted has time none =
     }
 
 -- and is
-ask_tied : (b : Book) (t : Inner) (p number ms : ℕ) → serves t.life t.again ≡ true → is_waiting_at t.requests p ≡ true → HasBegun t p → ((m : ℕ) → IsIn m t.letting → p ≡ m) → Tied b t
+ask_tied : (b : Book) (t : TurnState) (p number ms : ℕ) → serves t.life t.again ≡ true → is_waiting_at t.requests p ≡ true → HasBegun t p → ((m : ℕ) → IsIn m t.being_admitted → p ≡ m) → Tied b t
     → Tied (entered b (action.Timer number ms (purpose.Response (owner.Try (name_at t.requests p) 0)))) (lets t p (permits_at t.requests p) t.free (t.timers ++ purpose.Response (owner.Try (name_at t.requests p) 0) ∷ []))
 ask_tied b t p number ms ready w begun alone h =
     let n = name_at t.requests p in
@@ -309,7 +309,7 @@ ask_tied b t p number ms ready w begun alone h =
 -- a request is let in by its connection
 --
 -- one that waits holds its permits, where they are counted, and has no timer
-pub record HasTaken (before : List Action) (f : Core) (t : Inner) (p count : ℕ) (acts : List LinkAct) : Type 0 where
+pub record HasTaken (before : List Action) (f : Core) (t : TurnState) (p count : ℕ) (acts : List LinkAct) : Type 0 where
   pub going : IsGoing (trace_of_acts before f acts) (lets t p count (t.free - count) (f.timers ++ timers_of f.single.link acts))
   pub has : (is_none t.limit || nat_lt 0 ((book (trace_of_acts before f acts)).story (name_at t.requests p)).permits) ≡ true
   pub none : ((book (trace_of_acts before f acts)).story (name_at t.requests p)).clock ≡ None
@@ -372,13 +372,13 @@ has_taken before f acts conn started link q qs (Some k) o e some h =
     (some_taken before f acts conn started link q qs k o e (ne_from conn.free 0 some) h)
 
 -- it is let in
-pub record HasLet (before : List Action) (f : Core) (t : Inner) (p count : ℕ) (acts : List LinkAct) : Type 0 where
+pub record HasLet (before : List Action) (f : Core) (t : TurnState) (p count : ℕ) (acts : List LinkAct) : Type 0 where
   pub going : IsGoing (trace_of_acts before f acts) (lets t p count (t.free - count) (f.timers ++ timers_of f.single.link acts))
   pub is : is_let_in t.limit ((book (trace_of_acts before f acts)).story (name_at t.requests p)) ≡ true
   pub sourced : f.sources ++ sources_of f.single.link acts ≡ t.sources
 
 -- it is still to be let in when it holds its permits
-opening_taken : (t : Inner) (link : LinkState) (q : Waiting) (qs : List Waiting) (count free : ℕ) (timers : List Purpose) → IsOpening t link q qs → IsOpening (lets t q.number count free timers) link q qs
+opening_taken : (t : TurnState) (link : LinkState) (q : Waiting) (qs : List Waiting) (count free : ℕ) (timers : List Purpose) → IsOpening t link q qs → IsOpening (lets t q.number count free timers) link q qs
 opening_taken t link q qs count free timers o = record {
   life = o.life;
   served = o.served;
@@ -395,7 +395,7 @@ opening_taken t link q qs count free timers o = record {
 }
 
 -- where it has no time, no timer is asked for
-let_untimed : (before : List Action) (f : Core) (t : Inner) (link : LinkState) (q : Waiting) (qs : List Waiting) (count : ℕ) (acts : List LinkAct) → IsOpening t link q qs → q.timeout ≡ None → HasTaken before f t q.number count acts → HasLet before f t q.number count acts
+let_untimed : (before : List Action) (f : Core) (t : TurnState) (link : LinkState) (q : Waiting) (qs : List Waiting) (count : ℕ) (acts : List LinkAct) → IsOpening t link q qs → q.timeout ≡ None → HasTaken before f t q.number count acts → HasLet before f t q.number count acts
 let_untimed before f t link q qs count acts o e h =
     let b = book (trace_of_acts before f acts) in
     let n = name_at t.requests q.number in
@@ -406,7 +406,7 @@ let_untimed before f t link q qs count acts o e h =
     record { going = h.going; is = λ i. h.has i && (is_none (time i) || is_some (b.story n).clock); sourced = h.sourced }
 
 -- where it has one, it is
-let_timed : (before : List Action) (f : Core) (t : Inner) (link : LinkState) (q : Waiting) (qs : List Waiting) (count ms : ℕ) (acts : List LinkAct) → IsOpening t link q qs → q.timeout ≡ Some ms → t.link ≡ f.single.link → HasTaken before f t q.number count acts
+let_timed : (before : List Action) (f : Core) (t : TurnState) (link : LinkState) (q : Waiting) (qs : List Waiting) (count ms : ℕ) (acts : List LinkAct) → IsOpening t link q qs → q.timeout ≡ Some ms → t.link ≡ f.single.link → HasTaken before f t q.number count acts
     → HasLet before f t q.number count (acts ++ act.Timer (name_at t.requests q.number) ms ∷ [])
 let_timed before f t link q qs count ms acts o e same h =
     let p = q.number in
@@ -443,7 +443,7 @@ let_timed before f t link q qs count ms acts o e same h =
     }
 
 -- by its time
-let_by_time : (before : List Action) (f : Core) (t : Inner) (link : LinkState) (q : Waiting) (qs : List Waiting) (count : ℕ) (v : Work) (timeout : Option ℕ) → IsOpening t link q qs → q.timeout ≡ timeout → t.link ≡ f.single.link → name_at v.conn.requests q.number ≡ name_at t.requests q.number
+let_by_time : (before : List Action) (f : Core) (t : TurnState) (link : LinkState) (q : Waiting) (qs : List Waiting) (count : ℕ) (v : Work) (timeout : Option ℕ) → IsOpening t link q qs → q.timeout ≡ timeout → t.link ≡ f.single.link → name_at v.conn.requests q.number ≡ name_at t.requests q.number
     → HasTaken before f t q.number count v.acts → HasLet before f t q.number count (timer_asked v q.number timeout).acts
 let_by_time before f t link q qs count v None o e same named h = let_untimed before f t link q qs count v.acts o e h
 let_by_time before f t link q qs count v (Some ms) o e same named h =

@@ -34,7 +34,7 @@ use Rattle.session_laws.proofs.Links.Watches.{setting_begun}
 use Rattle.session_laws.proofs.Requests.Settle.{Holds, seen, trace_of_acts}
 use Rattle.conn_laws.proofs.Ties.States.{IsFit, IsFitIn, IsStill, AreBegun, IsStopped}
 use Rattle.conn_laws.proofs.Ties.Tied.{has_ended, link_in, queue_ids, waiting_ids}
-use Rattle.session_laws.proofs.Ties.Tied.{Inner, Sound, Tied}
+use Rattle.session_laws.proofs.Ties.Tied.{TurnState, Sound, Tied}
 use Rattle.conn_laws.proofs.Internal.Repeats.{serves}
 use Rattle.conn_laws.proofs.Internal.Serving.{unready_serves, outstanding_serves, answered_serves, serves_ready}
 use Rattle.conn_laws.proofs.Internal.RepeatsDue.{served_repeated, down_repeated}
@@ -257,7 +257,7 @@ setting_moved before f w started link greeting life h =
 -- on a link that has ended
 --
 -- so it is on a link that has ended, where none waits for a place
-open_waits : (b : Book) (t : Inner) (error : RedisError) → Tied b t → t.pending ≡ [] → t.life ≡ Ended error → t.admitted ≡ [] → OpenWaits t.requests
+open_waits : (b : Book) (t : TurnState) (error : RedisError) → Tied b t → t.pending ≡ [] → t.life ≡ Ended error → t.admitted ≡ [] → OpenWaits t.requests
 open_waits b t error h none over empty p e = elim (h.lines.there p e) [
   | inl i ↦ absurd (subst (λ (x : Life). IsIn p ([] ++ (requests_in (wanted (link_in x).row) ++ awaited_ids (link_in x).queue))) over (subst (λ ns. IsIn p (ns ++ (requests_in (wanted (link_in t.life).row) ++ awaited_ids (link_in t.life).queue))) none i))
   | inr k ↦ elim k [ inl a ↦ absurd (subst (λ ws. IsIn p (waiting_ids ws)) empty a.1) | inr w ↦ w.0 ]

@@ -45,28 +45,28 @@ use Rattle.conn_laws.proofs.Requests.Starts.{each_fit, each_held, shown_is, show
 use Rattle.session_laws.proofs.Requests.Starts.{each_going, shows_sources, shows_timers}
 use Rattle.conn_laws.proofs.Ties.States.{IsFit}
 use Rattle.conn_laws.proofs.Ties.Tied.{queue_ids, waiting_ids, link_in}
-use Rattle.session_laws.proofs.Ties.Tied.{Inner, Tied}
-use Rattle.conn_laws.proofs.Requests.Passes.{AreAmong, entering, fit_enqueued, found_full, free_link, let_in_is, letting, order_next, renewed_enqueued, seated_keeps, seated_once, seats_enqueued}
+use Rattle.session_laws.proofs.Ties.Tied.{TurnState, Tied}
+use Rattle.conn_laws.proofs.Requests.Passes.{AreAmong, entering, fit_enqueued, found_full, free_link, let_in_is, being_admitted, order_next, renewed_enqueued, seated_keeps, seated_once, seats_enqueued}
 
 -- the session with this connection, of which these wait for a place, and these for the connection, when these acts are shown
-abbrev pub moving : Core → List LinkAct → MultiplexedConnection → List Waiting → List Waiting → List ℕ → Inner
+abbrev pub moving : Core → List LinkAct → MultiplexedConnection → List Waiting → List Waiting → List ℕ → TurnState
 moving f acts conn admitted waiting started = seen f acts (record conn { admitted = admitted; waiting = waiting }) [] started
 
 -- the same while this one is being let in
-abbrev pub letting_in : Core → List LinkAct → MultiplexedConnection → List Waiting → List Waiting → List ℕ → List ℕ → Inner
-letting_in f acts conn admitted waiting letting started = record (moving f acts conn admitted waiting started) { letting = letting }
+abbrev pub admitting_in : Core → List LinkAct → MultiplexedConnection → List Waiting → List Waiting → List ℕ → List ℕ → TurnState
+admitting_in f acts conn admitted waiting being_admitted started = record (moving f acts conn admitted waiting started) { being_admitted = being_admitted }
 
 -- a connection that is up, between two moves: what is in its queue is held back, if anything is; these wait still for
 -- a place and for the connection, and this one is being let in; and those that are still to be moved are above all
 -- that were in this turn, who found places where they are in the queue
-pub record IsUp (before : List Action) (f : Core) (w : Work) (admitted waiting : List Waiting) (letting next : List ℕ) : Type 0 where
+pub record IsUp (before : List Action) (f : Core) (w : Work) (admitted waiting : List Waiting) (being_admitted next : List ℕ) : Type 0 where
   pub link : LinkState
   pub life : w.conn.life ≡ Ready link
   pub fit : IsFit w.conn.size w.conn.boundary link
   pub seats : HasSeats w.conn.moved (in_front w.conn.renewal) link w.conn.size
   pub held : (link.queue ≡ []) ⊎ (holds_back link ≡ true)
   pub started : List ℕ
-  pub going : IsGoing (trace_of_acts before f w.acts) (letting_in f w.acts w.conn admitted waiting letting started)
+  pub going : IsGoing (trace_of_acts before f w.acts) (admitting_in f w.acts w.conn admitted waiting being_admitted started)
   pub order : Rising 0 (w.conn.moved ++ next) (length w.conn.requests)
 
 -- messages start, and what is in the queue behind them is held back
@@ -93,15 +93,15 @@ started_up before f w link admitted waiting next done fit seats h order =
     })
 
 -- the session with its link
-up_going : (before : List Action) (f : Core) (w : Work) (admitted waiting : List Waiting) (letting next : List ℕ) (h : IsUp before f w admitted waiting letting next)
-    → IsGoing (trace_of_acts before f w.acts) (on_link (letting_in f w.acts w.conn admitted waiting letting h.started) h.link)
-up_going before f w admitted waiting letting next h = subst (λ (x : Life). IsGoing (trace_of_acts before f w.acts) (record (letting_in f w.acts w.conn admitted waiting letting h.started) { life = x })) h.life h.going
+up_going : (before : List Action) (f : Core) (w : Work) (admitted waiting : List Waiting) (being_admitted next : List ℕ) (h : IsUp before f w admitted waiting being_admitted next)
+    → IsGoing (trace_of_acts before f w.acts) (on_link (admitting_in f w.acts w.conn admitted waiting being_admitted h.started) h.link)
+up_going before f w admitted waiting being_admitted next h = subst (λ (x : Life). IsGoing (trace_of_acts before f w.acts) (record (admitting_in f w.acts w.conn admitted waiting being_admitted h.started) { life = x })) h.life h.going
 
 -- one takes its place
 --
 -- where nobody awaits its reply it may be told
-tell_may : (b : Book) (t : Inner) (link : LinkState) (q : Waiting) (waiting admitted : List Waiting) → q.awaited ≡ false → IsFit t.size t.bound link → HasSeats t.moved (in_front t.renewal) link t.size → (link.queue ≡ []) ⊎ (holds_back link ≡ true) → is_full_beside link (in_front t.renewal) ≡ false
-    → IsNext b.story t.requests t.limit t.letting t.moved t.waiting t.admitted q waiting admitted → is_outstanding t.again ≡ false → Tied b (on_link t link) → NoneEnds b → HasRenewed t.renewal (Ready link) → MayTell b (name_at t.requests q.number) (outcome.One Nil)
+tell_may : (b : Book) (t : TurnState) (link : LinkState) (q : Waiting) (waiting admitted : List Waiting) → q.awaited ≡ false → IsFit t.size t.bound link → HasSeats t.moved (in_front t.renewal) link t.size → (link.queue ≡ []) ⊎ (holds_back link ≡ true) → is_full_beside link (in_front t.renewal) ≡ false
+    → IsNext b.story t.requests t.limit t.being_admitted t.moved t.waiting t.admitted q waiting admitted → is_outstanding t.again ≡ false → Tied b (on_link t link) → NoneEnds b → HasRenewed t.renewal (Ready link) → MayTell b (name_at t.requests q.number) (outcome.One Nil)
 tell_may b t link q waiting admitted not_awaited fit seats held room next served h ends renewed =
     let was = on_link t link in
     let p = q.number in
@@ -118,8 +118,8 @@ tell_may b t link q waiting admitted not_awaited fit seats held room next served
     }
 
 -- it is, and has its place
-told_going : (trace : List Action) (t : Inner) (link : LinkState) (q : Waiting) (waiting admitted : List Waiting) → q.awaited ≡ false → IsFit t.size t.bound link → HasSeats t.moved (in_front t.renewal) link t.size → (link.queue ≡ []) ⊎ (holds_back link ≡ true) → is_full_beside link (in_front t.renewal) ≡ false
-    → IsNext (book trace).story t.requests t.limit t.letting t.moved t.waiting t.admitted q waiting admitted → IsGoing trace (on_link t link)
+told_going : (trace : List Action) (t : TurnState) (link : LinkState) (q : Waiting) (waiting admitted : List Waiting) → q.awaited ≡ false → IsFit t.size t.bound link → HasSeats t.moved (in_front t.renewal) link t.size → (link.queue ≡ []) ⊎ (holds_back link ≡ true) → is_full_beside link (in_front t.renewal) ≡ false
+    → IsNext (book trace).story t.requests t.limit t.being_admitted t.moved t.waiting t.admitted q waiting admitted → IsGoing trace (on_link t link)
     → IsGoing (trace ++ action.Outcome (name_at t.requests q.number) (outcome.One Nil) ∷ []) (with_told t link q waiting admitted)
 told_going trace t link q waiting admitted not_awaited fit seats held room next h =
     let b = book trace in
@@ -129,7 +129,7 @@ told_going trace t link q waiting admitted not_awaited fit seats held room next 
     h.ended (renewed_enqueued t.renewal link (message_of q) h.renewed) (λ up. h.served refl)
 
 -- one whose reply is awaited has its place
-placed_going : (trace : List Action) (t : Inner) (link : LinkState) (q : Waiting) (waiting admitted : List Waiting) → q.awaited ≡ true → IsNext (book trace).story t.requests t.limit t.letting t.moved t.waiting t.admitted q waiting admitted → IsGoing trace (on_link t link)
+placed_going : (trace : List Action) (t : TurnState) (link : LinkState) (q : Waiting) (waiting admitted : List Waiting) → q.awaited ≡ true → IsNext (book trace).story t.requests t.limit t.being_admitted t.moved t.waiting t.admitted q waiting admitted → IsGoing trace (on_link t link)
     → IsGoing trace (with_place t link q waiting admitted)
 placed_going trace t link q waiting admitted yes_awaited next h = record {
   sound = record { stands = h.sound.stands; tied = place_tied (book trace) t link q waiting admitted yes_awaited next (h.served refl) h.sound.tied };
@@ -143,22 +143,22 @@ order_last : (moved : List ℕ) (p : ℕ) (next : List ℕ) (hi : ℕ) → Risin
 order_last moved p next hi h = rising_left 0 (moved ++ p ∷ []) next hi (subst (λ ns. Rising 0 ns hi) (sym (append_assoc moved (p ∷ []) next)) h)
 
 -- one whose reply is awaited has its place, and messages start
-placed_up : (before : List Action) (f : Core) (w : Work) (q : Waiting) (was_admitted was_waiting admitted waiting : List Waiting) (letting next : List ℕ) (h : IsUp before f w was_admitted was_waiting letting (q.number ∷ next)) → q.awaited ≡ true → is_full_beside h.link (in_front w.conn.renewal) ≡ false
-    → IsNext (book (trace_of_acts before f w.acts)).story w.conn.requests w.conn.limit letting w.conn.moved was_waiting was_admitted q waiting admitted → IsUp before f (started (placed_at w q (Ready h.link))) admitted waiting [] next
-placed_up before f w q was_admitted was_waiting admitted waiting letting next h yes_awaited room first =
+placed_up : (before : List Action) (f : Core) (w : Work) (q : Waiting) (was_admitted was_waiting admitted waiting : List Waiting) (being_admitted next : List ℕ) (h : IsUp before f w was_admitted was_waiting being_admitted (q.number ∷ next)) → q.awaited ≡ true → is_full_beside h.link (in_front w.conn.renewal) ≡ false
+    → IsNext (book (trace_of_acts before f w.acts)).story w.conn.requests w.conn.limit being_admitted w.conn.moved was_waiting was_admitted q waiting admitted → IsUp before f (started (placed_at w q (Ready h.link))) admitted waiting [] next
+placed_up before f w q was_admitted was_waiting admitted waiting being_admitted next h yes_awaited room first =
     let p = q.number in
     started_up before f (progressed (noted w p) p progress.Placed) (enqueued h.link (message_of q)) admitted waiting next h.started (fit_enqueued w.conn.size w.conn.boundary (in_front w.conn.renewal) h.link (message_of q) room h.fit)
     (seats_enqueued w.conn.size w.conn.boundary (in_front w.conn.renewal) (w.conn.moved ++ p ∷ []) h.link (message_of q) room h.fit)
-    (placed_going (trace_of_acts before f w.acts) (letting_in f w.acts w.conn was_admitted was_waiting letting h.started) h.link q waiting admitted yes_awaited first (up_going before f w was_admitted was_waiting letting (p ∷ next) h))
+    (placed_going (trace_of_acts before f w.acts) (admitting_in f w.acts w.conn was_admitted was_waiting being_admitted h.started) h.link q waiting admitted yes_awaited first (up_going before f w was_admitted was_waiting being_admitted (p ∷ next) h))
     (order_next w.conn.moved p next w.conn.requests progress.Placed h.order)
 
 -- and one whose reply nobody awaits is answered before
-told_up : (before : List Action) (f : Core) (w : Work) (q : Waiting) (was_admitted was_waiting admitted waiting : List Waiting) (letting next : List ℕ) (h : IsUp before f w was_admitted was_waiting letting (q.number ∷ next)) → q.awaited ≡ false → is_full_beside h.link (in_front w.conn.renewal) ≡ false
-    → IsNext (book (trace_of_acts before f w.acts)).story w.conn.requests w.conn.limit letting w.conn.moved was_waiting was_admitted q waiting admitted → IsUp before f (started (answered (placed_at w q (Ready h.link)) q.number (outcome.One Nil))) admitted waiting [] next
-told_up before f w q was_admitted was_waiting admitted waiting letting next h not_awaited room first =
+told_up : (before : List Action) (f : Core) (w : Work) (q : Waiting) (was_admitted was_waiting admitted waiting : List Waiting) (being_admitted next : List ℕ) (h : IsUp before f w was_admitted was_waiting being_admitted (q.number ∷ next)) → q.awaited ≡ false → is_full_beside h.link (in_front w.conn.renewal) ≡ false
+    → IsNext (book (trace_of_acts before f w.acts)).story w.conn.requests w.conn.limit being_admitted w.conn.moved was_waiting was_admitted q waiting admitted → IsUp before f (started (answered (placed_at w q (Ready h.link)) q.number (outcome.One Nil))) admitted waiting [] next
+told_up before f w q was_admitted was_waiting admitted waiting being_admitted next h not_awaited room first =
     let p = q.number in
     let link = enqueued h.link (message_of q) in
-    let t = letting_in f w.acts w.conn was_admitted was_waiting letting h.started in
+    let t = admitting_in f w.acts w.conn was_admitted was_waiting being_admitted h.started in
     let trace = trace_of_acts before f w.acts in
     let at = progressed (noted w p) p progress.Placed in
     let placed = at.conn.requests in
@@ -166,7 +166,7 @@ told_up before f w q was_admitted was_waiting admitted waiting letting next h no
     let a = act.Outcome (name_at placed p) nil in
     let within = open_within w.conn.requests p first.open_at in
     let is_open : is_open_at placed p ≡ true = there_same is_open_progress w.conn.requests p progress.Placed within in
-    let going = told_going trace t h.link q waiting admitted not_awaited h.fit h.seats h.held room first (up_going before f w was_admitted was_waiting letting (p ∷ next) h) in
+    let going = told_going trace t h.link q waiting admitted not_awaited h.fit h.seats h.held room first (up_going before f w was_admitted was_waiting being_admitted (p ∷ next) h) in
     let shown : trace ++ action.Outcome (name_at w.conn.requests p) nil ∷ [] ≡ trace_of_acts before f (w.acts ++ a ∷ []) =
     ap (λ n. trace ++ action.Outcome n nil ∷ []) (sym (name_still w.conn.requests p progress.Placed p)) ∙ sym (shown_more before f.single.link (length f.timers) (length f.sources) w.acts a) in
     let after = with_told t h.link q waiting admitted in
@@ -174,7 +174,7 @@ told_up before f w q was_admitted was_waiting admitted waiting letting next h no
     let twice : with_permits w.conn.requests p progress.Closed 0 ≡ with_permits placed p progress.Closed 0 = sym (permits_twice w.conn.requests p progress.Placed progress.Closed (permits_at w.conn.requests p) 0) in
     let back : given_back w.conn.limit w.conn.free (permits_at w.conn.requests p) ≡ given_back w.conn.limit w.conn.free (permits_at placed p) = ap (given_back w.conn.limit w.conn.free) (sym (permits_still w.conn.requests p p progress.Placed within)) in
     let acts = w.acts ++ a ∷ [] in
-    let closed_one : Inner = record after { requests = with_permits placed p progress.Closed 0; free = given_back w.conn.limit w.conn.free (permits_at placed p) } in
+    let closed_one : TurnState = record after { requests = with_permits placed p progress.Closed 0; free = given_back w.conn.limit w.conn.free (permits_at placed p) } in
     let here = subst (IsGoing (trace_of_acts before f acts)) (quiet_asks f closed_one w.acts a refl refl)
     (subst (λ n. IsGoing (trace_of_acts before f acts) (record after { requests = with_permits placed p progress.Closed 0; free = n })) back (subst (λ (x : List Request). IsGoing (trace_of_acts before f acts) (record after { requests = x })) twice there)) in
     let order = subst (λ (x : List Request). Rising 0 ((w.conn.moved ++ p ∷ []) ++ next) (length x)) twice (subst (λ n. Rising 0 ((w.conn.moved ++ p ∷ []) ++ next) n) (length_still w.conn.requests p progress.Placed ∙ sym (length_with w.conn.requests p progress.Closed 0)) (order_next w.conn.moved p next w.conn.requests progress.Placed h.order)) in
@@ -183,14 +183,14 @@ told_up before f w q was_admitted was_waiting admitted waiting letting next h no
     (seats_enqueued w.conn.size w.conn.boundary (in_front w.conn.renewal) (w.conn.moved ++ p ∷ []) h.link (message_of q) room h.fit) here order)
 
 -- the next takes its place, and messages start
-seated_up : (before : List Action) (f : Core) (w : Work) (q : Waiting) (was_admitted was_waiting admitted waiting : List Waiting) (letting next : List ℕ) (h : IsUp before f w was_admitted was_waiting letting (q.number ∷ next)) → is_full_beside h.link (in_front w.conn.renewal) ≡ false
-    → IsNext (book (trace_of_acts before f w.acts)).story w.conn.requests w.conn.limit letting w.conn.moved was_waiting was_admitted q waiting admitted → IsUp before f (seated w q) admitted waiting [] next
-seated_up before f w q was_admitted was_waiting admitted waiting letting next h room first =
+seated_up : (before : List Action) (f : Core) (w : Work) (q : Waiting) (was_admitted was_waiting admitted waiting : List Waiting) (being_admitted next : List ℕ) (h : IsUp before f w was_admitted was_waiting being_admitted (q.number ∷ next)) → is_full_beside h.link (in_front w.conn.renewal) ≡ false
+    → IsNext (book (trace_of_acts before f w.acts)).story w.conn.requests w.conn.limit being_admitted w.conn.moved was_waiting was_admitted q waiting admitted → IsUp before f (seated w q) admitted waiting [] next
+seated_up before f w q was_admitted was_waiting admitted waiting being_admitted next h room first =
     let w1 = placed_at w q (Ready h.link) in
     subst (λ (x : Life). IsUp before f (started (told_at_place (placed_at w q x) q)) admitted waiting [] next) (sym h.life)
     (chosen (λ (x : Work). IsUp before f (started x) admitted waiting [] next) q.awaited w1 (answered w1 q.number (outcome.One Nil))
-    (λ t. placed_up before f w q was_admitted was_waiting admitted waiting letting next h t room first)
-    (λ e. told_up before f w q was_admitted was_waiting admitted waiting letting next h e room first))
+    (λ t. placed_up before f w q was_admitted was_waiting admitted waiting being_admitted next h t room first)
+    (λ e. told_up before f w q was_admitted was_waiting admitted waiting being_admitted next h e room first))
 
 -- those that wait for a place
 --
@@ -338,9 +338,9 @@ first_rounded before f w q qs s wt some =
 -- a request that is let in
 --
 -- it is let in, while those that wait for a place find the queue full
-letting_up : (before : List Action) (f : Core) (w : Work) (q : Waiting) (qs : List Waiting) → IsRounded before f w q qs
-    → IsUp before f (letting w q) w.conn.admitted (q ∷ qs) (q.number ∷ []) (waiting_ids (q ∷ qs)) × (is_let_in w.conn.limit ((book (trace_of_acts before f (let_in w q).acts)).story (name_at (letting w q).conn.requests q.number)) ≡ true)
-letting_up before f w q qs r =
+admitting_up : (before : List Action) (f : Core) (w : Work) (q : Waiting) (qs : List Waiting) → IsRounded before f w q qs
+    → IsUp before f (being_admitted w q) w.conn.admitted (q ∷ qs) (q.number ∷ []) (waiting_ids (q ∷ qs)) × (is_let_in w.conn.limit ((book (trace_of_acts before f (let_in w q).acts)).story (name_at (being_admitted w q).conn.requests q.number)) ≡ true)
+admitting_up before f w q qs r =
     let s = r.seated in
     let h = s.up in
     let p = q.number in
@@ -381,14 +381,14 @@ admitted_seated : (before : List Action) (f : Core) (w : Work) (q : Waiting) (qs
 admitted_seated before f w q qs r none room =
     let s = r.seated in
     let wt = r.waits in
-    let g = letting w q in
+    let g = being_admitted w q in
     let p = q.number in
     let count = permits_taken w.conn.limit w.conn.free q.shape in
     let b = book (trace_of_acts before f g.acts) in
     let ids = waiting_ids (q ∷ qs) in
-    let l = letting_up before f w q qs r in
+    let l = admitting_up before f w q qs r in
     let h = subst (λ ws. IsUp before f g ws (q ∷ qs) (p ∷ []) ids) none l.0 in
-    let t = letting_in f g.acts g.conn [] (q ∷ qs) (p ∷ []) h.started in
+    let t = admitting_in f g.acts g.conn [] (q ∷ qs) (p ∷ []) h.started in
     let within = open_within w.conn.requests p (waiting_open w.conn.requests p wt) in
     let waits : is_waiting_at g.conn.requests p ≡ true = with_same is_waiting w.conn.requests p progress.Begun count within in
     let begun : is_unbegun_at g.conn.requests p ≡ false = with_same is_unbegun w.conn.requests p progress.Begun count within in
@@ -407,17 +407,17 @@ admitted_behind before f w q qs r none =
     let s = r.seated in
     let wt = r.waits in
     let p = q.number in
-    let g = letting w q in
+    let g = being_admitted w q in
     let count = permits_taken w.conn.limit w.conn.free q.shape in
     let b = book (trace_of_acts before f g.acts) in
     let ids = waiting_ids (q ∷ qs) in
-    let l = letting_up before f w q qs r in
+    let l = admitting_up before f w q qs r in
     let h = l.0 in
     let v = put_behind (entering w q) q in
     let within = open_within w.conn.requests p (waiting_open w.conn.requests p wt) in
     let waits : is_waiting_at g.conn.requests p ≡ true = with_same is_waiting w.conn.requests p progress.Begun count within in
     let begun : is_unbegun_at g.conn.requests p ≡ false = with_same is_unbegun w.conn.requests p progress.Begun count within in
-    let t = letting_in f g.acts g.conn w.conn.admitted qs (p ∷ []) h.started in
+    let t = admitting_in f g.acts g.conn w.conn.admitted qs (p ∷ []) h.started in
     let after = moving f v.acts v.conn v.conn.admitted qs h.started in
     let was = up_going before f g w.conn.admitted (q ∷ qs) (p ∷ []) ids h in
     let twice : at_progress g.conn.requests p progress.Admitted ≡ with_permits w.conn.requests p progress.Admitted count =

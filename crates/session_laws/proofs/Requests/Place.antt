@@ -39,7 +39,7 @@ use Rattle.session_laws.proofs.Requests.Rounded.{rounds_closed}
 use Rattle.conn_laws.proofs.Requests.Start.{not_setting, not_wanting}
 use Rattle.session_laws.proofs.Requests.Start.{on_link}
 use Rattle.conn_laws.proofs.Ties.Tied.{IsOf, IsPacked, IsQueued, owner_of, queue_ids, shown_wait, waiting_ids}
-use Rattle.session_laws.proofs.Ties.Tied.{Inner, Tied, relined, numbers_kept}
+use Rattle.session_laws.proofs.Ties.Tied.{TurnState, Tied, relined, numbers_kept}
 use Rattle.conn_laws.proofs.Ties.Ahead.{admitted_open, early_open}
 use Rattle.session_laws.proofs.Managers.Calm.{calm_more}
 use Rattle.conn_laws.proofs.Requests.Place.{IsNext, entries_further, late_further, line_next, line_without, lines_enqueued, lines_further, lines_next, next_apart, open_further, packs_further, queue_ids-push, queued_further, shown_early, shown_further, story_further, told_further, tries_further, waits_admitted, waits_enqueued, waits_placed}
@@ -47,7 +47,7 @@ use Rattle.conn_laws.proofs.Requests.Place.{IsNext, entries_further, late_furthe
 -- those that wait no longer are passed over
 --
 -- where it doesn't wait for one
-pub passed_admitted : (b : Book) (t : Inner) (link : LinkState) (q : Waiting) (qs : List Waiting) → is_admitted_at t.requests q.number ≡ false → Tied b (record (on_link t link) { admitted = q ∷ qs }) → Tied b (record (on_link t link) { admitted = qs })
+pub passed_admitted : (b : Book) (t : TurnState) (link : LinkState) (q : Waiting) (qs : List Waiting) → is_admitted_at t.requests q.number ≡ false → Tied b (record (on_link t link) { admitted = q ∷ qs }) → Tied b (record (on_link t link) { admitted = qs })
 passed_admitted b t link q qs gone h =
     relined b (record (on_link t link) { admitted = q ∷ qs }) t.waiting qs t.fresh t.moved [] h (record {
       line = line_without (requests_in t.started) (queue_ids link.queue) q qs t.waiting (length t.requests) h.lines.line;
@@ -65,7 +65,7 @@ passed_admitted b t link q qs gone h =
     }) h.waits h.rounds h.late
 
 -- or for the connection
-pub passed_waiting : (b : Book) (t : Inner) (link : LinkState) (q : Waiting) (qs : List Waiting) → is_waiting_at t.requests q.number ≡ false → Tied b (record (on_link t link) { waiting = q ∷ qs }) → Tied b (record (on_link t link) { waiting = qs })
+pub passed_waiting : (b : Book) (t : TurnState) (link : LinkState) (q : Waiting) (qs : List Waiting) → is_waiting_at t.requests q.number ≡ false → Tied b (record (on_link t link) { waiting = q ∷ qs }) → Tied b (record (on_link t link) { waiting = qs })
 passed_waiting b t link q qs gone h =
     let hi = length t.requests in
     let queue = queue_ids link.queue in
@@ -91,7 +91,7 @@ passed_waiting b t link q qs gone h =
 -- the next that is moved
 --
 -- it is the first of those that wait for a place
-pub next_admitted : (b : Book) (t : Inner) (link : LinkState) (q : Waiting) (qs : List Waiting) → is_admitted_at t.requests q.number ≡ true → Rising 0 (t.moved ++ q.number ∷ []) (length t.requests) → Tied b (record (on_link t link) { admitted = q ∷ qs; letting = [] })
+pub next_admitted : (b : Book) (t : TurnState) (link : LinkState) (q : Waiting) (qs : List Waiting) → is_admitted_at t.requests q.number ≡ true → Rising 0 (t.moved ++ q.number ∷ []) (length t.requests) → Tied b (record (on_link t link) { admitted = q ∷ qs; being_admitted = [] })
     → IsNext b.story t.requests t.limit [] t.moved t.waiting (q ∷ qs) q t.waiting qs
 next_admitted b t link q qs a last h = record {
   open_at = (admitted_open t.requests q.number a).0;
@@ -111,8 +111,8 @@ next_admitted b t link q qs a last h = record {
 }
 
 -- or of those that wait for the connection, where none waits for a place, and it is being let in
-pub next_waiting : (b : Book) (t : Inner) (link : LinkState) (q : Waiting) (qs : List Waiting) → is_waiting_at t.requests q.number ≡ true → is_unbegun_at t.requests q.number ≡ false → is_let_in t.limit (b.story (name_at t.requests q.number)) ≡ true → Rising 0 (t.moved ++ q.number ∷ []) (length t.requests)
-    → Tied b (record (on_link t link) { admitted = []; waiting = q ∷ qs; letting = q.number ∷ [] }) → IsNext b.story t.requests t.limit (q.number ∷ []) t.moved (q ∷ qs) [] q qs []
+pub next_waiting : (b : Book) (t : TurnState) (link : LinkState) (q : Waiting) (qs : List Waiting) → is_waiting_at t.requests q.number ≡ true → is_unbegun_at t.requests q.number ≡ false → is_let_in t.limit (b.story (name_at t.requests q.number)) ≡ true → Rising 0 (t.moved ++ q.number ∷ []) (length t.requests)
+    → Tied b (record (on_link t link) { admitted = []; waiting = q ∷ qs; being_admitted = q.number ∷ [] }) → IsNext b.story t.requests t.limit (q.number ∷ []) t.moved (q ∷ qs) [] q qs []
 next_waiting b t link q qs w begun is last h = record {
   open_at = waiting_open t.requests q.number w;
   let_in = is;
@@ -133,24 +133,24 @@ next_waiting b t link q qs w begun is last h = record {
 -- the session
 --
 -- with the request in its place, where these wait still
-abbrev pub with_place : Inner → LinkState → Waiting → List Waiting → List Waiting → Inner
+abbrev pub with_place : TurnState → LinkState → Waiting → List Waiting → List Waiting → TurnState
 with_place t link q waiting admitted = record (on_link t (enqueued link (message_of q))) {
   requests = at_progress t.requests q.number progress.Placed;
   waiting = waiting;
   admitted = admitted;
   moved = t.moved ++ q.number ∷ [];
-  letting = [];
+  being_admitted = [];
 }
 
 -- and with one that is answered at its place, and gives its permits back
-abbrev pub with_told : Inner → LinkState → Waiting → List Waiting → List Waiting → Inner
+abbrev pub with_told : TurnState → LinkState → Waiting → List Waiting → List Waiting → TurnState
 with_told t link q waiting admitted = record (on_link t (enqueued link (message_of q))) {
   free = given_back t.limit t.free (permits_at t.requests q.number);
   requests = with_permits t.requests q.number progress.Closed 0;
   waiting = waiting;
   admitted = admitted;
   moved = t.moved ++ q.number ∷ [];
-  letting = [];
+  being_admitted = [];
 }
 
 -- the one that is awaited
@@ -159,13 +159,13 @@ awaited_only true p n e i = i
 awaited_only false p n e i = cc
 
 -- one whose reply is awaited has its place
-pub place_tied : (b : Book) (t : Inner) (link : LinkState) (q : Waiting) (waiting admitted : List Waiting) → q.awaited ≡ true → IsNext b.story t.requests t.limit t.letting t.moved t.waiting t.admitted q waiting admitted → is_outstanding t.again ≡ false → Tied b (on_link t link)
+pub place_tied : (b : Book) (t : TurnState) (link : LinkState) (q : Waiting) (waiting admitted : List Waiting) → q.awaited ≡ true → IsNext b.story t.requests t.limit t.being_admitted t.moved t.waiting t.admitted q waiting admitted → is_outstanding t.again ≡ false → Tied b (on_link t link)
     → Tied b (with_place t link q waiting admitted)
 place_tied b t link q waiting admitted yes_awaited next none h =
     let p = q.number in
     let o = next.open_at in
     let within = open_within t.requests p o in
-    let apart = next_apart b.story t.requests link t.limit t.letting t.moved t.waiting t.admitted t.started q waiting admitted next h.lines in
+    let apart = next_apart b.story t.requests link t.limit t.being_admitted t.moved t.waiting t.admitted t.started q waiting admitted next h.lines in
     let placed = at_progress t.requests p progress.Placed in
     let still = length_still t.requests p progress.Placed in
     let queued : IsQueued b.story placed (message_of q) = record {
@@ -193,7 +193,7 @@ place_tied b t link q waiting admitted yes_awaited next none h =
       lines = lines_enqueued b.story placed link waiting admitted (message_of q) (p ∷ []) t.started queued
           (subst (Rising 0 (requests_in t.started ++ (queue_ids (link.queue ++ message_of q ∷ []) ++ kept_ids admitted waiting))) (sym still) (line_next t.requests link t.moved t.waiting t.admitted (requests_in t.started) q waiting admitted next.first h.lines.line))
           (λ n i. awaited_only q.awaited p n yes_awaited i)
-          (lines_further b.story t.requests link waiting admitted p progress.Placed t.started refl refl o apart (lines_next b.story t.requests link t.limit t.letting t.moved t.waiting t.admitted t.started q waiting admitted next h.lines));
+          (lines_further b.story t.requests link waiting admitted p progress.Placed t.started refl refl o apart (lines_next b.story t.requests link t.limit t.being_admitted t.moved t.waiting t.admitted t.started q waiting admitted next h.lines));
       told = λ e.
           let was = told_further b.story t.requests t.link link p progress.Placed (h.told refl) in
           record {
@@ -208,14 +208,14 @@ place_tied b t link q waiting admitted yes_awaited next none h =
           };
       waits = waits_enqueued b.story placed t.again link (message_of q) t.fresh t.moved (subst (Rising 0 (t.moved ++ p ∷ [])) (sym still) next.last) (there_same is_admitted t.requests p progress.Placed within)
           (λ e. next.shown (sym (shown_further b.story t.requests p progress.Placed p) ∙ e)) (waits_placed b.story t.requests p t.again (Ready link) t.fresh t.moved within h.waits);
-      permits = permits_further b.story b.submissions t.requests t.link t.limit t.free t.letting p progress.Placed within refl next.let_in next.alone h.permits;
+      permits = permits_further b.story b.submissions t.requests t.link t.limit t.free t.being_admitted p progress.Placed within refl next.let_in next.alone h.permits;
       rounds = rounds_with b.story b.story t.requests t.fresh p progress.Placed (permits_at t.requests p) within refl (λ n. refl) (λ shows unclosed. h.rounds.begun p shows o next.begun) h.rounds;
       early = early_never placed t.again (Ready (enqueued link (message_of q))) (answered_serves (Ready (enqueued link (message_of q))) t.again refl none);
       late = late_further b.story t.requests p progress.Placed [] refl o h.late;
     }
 
 -- it is none of the link
-apart_from_link : (b : Book) (t : Inner) (link : LinkState) (q : Waiting) (waiting admitted : List Waiting) → IsNext b.story t.requests t.limit t.letting t.moved t.waiting t.admitted q waiting admitted → Tied b (on_link t link)
+apart_from_link : (b : Book) (t : TurnState) (link : LinkState) (q : Waiting) (waiting admitted : List Waiting) → IsNext b.story t.requests t.limit t.being_admitted t.moved t.waiting t.admitted q waiting admitted → Tied b (on_link t link)
     → IsIn q.number (wanted link.row ++ queue_ids link.queue) → ⊥
 apart_from_link b t link q waiting admitted next h i =
     let p = q.number in
@@ -233,7 +233,7 @@ apart_from_link b t link q waiting admitted next h i =
     ]
 
 -- one whose reply nobody awaits has its place, and is answered there
-pub tell_tied : (b : Book) (t : Inner) (link : LinkState) (q : Waiting) (waiting admitted : List Waiting) → q.awaited ≡ false → IsNext b.story t.requests t.limit t.letting t.moved t.waiting t.admitted q waiting admitted → is_outstanding t.again ≡ false → Tied b (on_link t link)
+pub tell_tied : (b : Book) (t : TurnState) (link : LinkState) (q : Waiting) (waiting admitted : List Waiting) → q.awaited ≡ false → IsNext b.story t.requests t.limit t.being_admitted t.moved t.waiting t.admitted q waiting admitted → is_outstanding t.again ≡ false → Tied b (on_link t link)
     → Tied (entered b (action.Outcome (name_at t.requests q.number) (outcome.One Nil))) (with_told t link q waiting admitted)
 tell_tied b t link q waiting admitted not_awaited next none h =
     let p = q.number in
@@ -276,7 +276,7 @@ tell_tied b t link q waiting admitted not_awaited next none h =
       lines = lines_enqueued after closed link waiting admitted (message_of q) [] t.started queued
           (subst (Rising 0 (requests_in t.started ++ (queue_ids (link.queue ++ message_of q ∷ []) ++ kept_ids admitted waiting))) (sym still) (line_next t.requests link t.moved t.waiting t.admitted (requests_in t.started) q waiting admitted next.first h.lines.line))
           (λ m i. absurd i)
-          (lines_answered t.table b.story t.requests link waiting admitted p [] t.started done h.names within c apart (lines_next b.story t.requests link t.limit t.letting t.moved t.waiting t.admitted t.started q waiting admitted next h.lines));
+          (lines_answered t.table b.story t.requests link waiting admitted p [] t.started done h.names within c apart (lines_next b.story t.requests link t.limit t.being_admitted t.moved t.waiting t.admitted t.started q waiting admitted next h.lines));
       told = λ e.
           let after_link : (m : ℕ) → (after m).link ≡ (b.story m).link = λ m. chosen (λ (x : Story). x.link ≡ (b.story m).link) (n == m) (done m) (b.story m) (λ t. refl) (λ f. refl) in
           record {
@@ -298,17 +298,17 @@ tell_tied b t link q waiting admitted not_awaited next none h =
           let kept = kept_ids t.admitted t.waiting in
           let j = awaited_in m link.queue i in
           let k = rising_in 0 (requests_in t.started ++ (queue ++ kept)) (length t.requests) m h.lines.line (in_right m (requests_in t.started) (queue ++ kept) (in_left m queue kept j)) in
-          ((λ s. next_apart b.story t.requests link t.limit t.letting t.moved t.waiting t.admitted t.started q waiting admitted next h.lines (subst (λ x. IsIn x queue) (sym s) j)), k.1, i)) h.waits);
-      permits = permits_let after b.submissions closed t.link t.limit (given_back t.limit t.free (permits_at t.requests p)) t.letting p (with_same is_waiting t.requests p progress.Closed 0 within) next.alone
-          (permits_closed b.story after t.table b.submissions t.requests t.link t.limit t.free t.letting p h.names within known (r.on o) r.permits_is (closed_other b.story t.requests p done) (ap (λ (s : Story). s.permits) (sym same)) (ap (λ (s : Story). s.link) (sym same) ∙ r.on o) h.permits);
+          ((λ s. next_apart b.story t.requests link t.limit t.being_admitted t.moved t.waiting t.admitted t.started q waiting admitted next h.lines (subst (λ x. IsIn x queue) (sym s) j)), k.1, i)) h.waits);
+      permits = permits_let after b.submissions closed t.link t.limit (given_back t.limit t.free (permits_at t.requests p)) t.being_admitted p (with_same is_waiting t.requests p progress.Closed 0 within) next.alone
+          (permits_closed b.story after t.table b.submissions t.requests t.link t.limit t.free t.being_admitted p h.names within known (r.on o) r.permits_is (closed_other b.story t.requests p done) (ap (λ (s : Story). s.permits) (sym same)) (ap (λ (s : Story). s.link) (sym same) ∙ r.on o) h.permits);
       rounds = rounds_closed b.story t.requests t.fresh p done within c h.rounds;
       early = early_never closed t.again (Ready (enqueued link (message_of q))) (answered_serves (Ready (enqueued link (message_of q))) t.again refl none);
       late = late_closed t.table b.story t.requests p done [] [] h.names within (λ m x i. i) h.late;
     }
 
 -- one that waits for the connection waits for a place behind the others
-pub admit_tied : (b : Book) (t : Inner) (link : LinkState) (q : Waiting) (qs : List Waiting) → is_waiting_at t.requests q.number ≡ true → is_unbegun_at t.requests q.number ≡ false → is_let_in t.limit (b.story (name_at t.requests q.number)) ≡ true → Rising 0 (t.moved ++ q.number ∷ []) (length t.requests)
-    → is_outstanding t.again ≡ false → Tied b (record (on_link t link) { waiting = q ∷ qs; letting = q.number ∷ [] }) → Tied b (record (on_link t link) { requests = at_progress t.requests q.number progress.Admitted; waiting = qs; admitted = t.admitted ++ q ∷ []; moved = t.moved ++ q.number ∷ []; letting = [] })
+pub admit_tied : (b : Book) (t : TurnState) (link : LinkState) (q : Waiting) (qs : List Waiting) → is_waiting_at t.requests q.number ≡ true → is_unbegun_at t.requests q.number ≡ false → is_let_in t.limit (b.story (name_at t.requests q.number)) ≡ true → Rising 0 (t.moved ++ q.number ∷ []) (length t.requests)
+    → is_outstanding t.again ≡ false → Tied b (record (on_link t link) { waiting = q ∷ qs; being_admitted = q.number ∷ [] }) → Tied b (record (on_link t link) { requests = at_progress t.requests q.number progress.Admitted; waiting = qs; admitted = t.admitted ++ q ∷ []; moved = t.moved ++ q.number ∷ []; being_admitted = [] })
 admit_tied b t link q qs w begun is last none h =
     let p = q.number in
     let o = waiting_open t.requests p w in
@@ -323,7 +323,7 @@ admit_tied b t link q qs w begun is last none h =
     let apart : IsIn p queue → ⊥ = λ i. (let k = rising_apart 0 queue (front ++ (p ∷ rest)) hi p p line i (in_right p front (p ∷ rest) (inl refl)) in omega arith) in
     let same : kept_ids t.admitted (q ∷ qs) ≡ kept_ids (t.admitted ++ q ∷ []) qs = sym (append_assoc front (p ∷ []) rest) ∙ ap (λ ns. ns ++ rest) (sym (waiting_ids-push t.admitted q)) in
     record {
-      numbers = numbers_kept b _ _ _ _ _ _ (record (on_link t link) { waiting = q ∷ qs; letting = q.number ∷ [] }) _ _ _ _ _ _ _ _ _ _ h.numbers;
+      numbers = numbers_kept b _ _ _ _ _ _ (record (on_link t link) { waiting = q ∷ qs; being_admitted = q.number ∷ [] }) _ _ _ _ _ _ _ _ _ _ h.numbers;
       others = h.others;
       notices = h.notices;
       life = h.life;

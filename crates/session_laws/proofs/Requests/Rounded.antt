@@ -9,7 +9,7 @@ use Rattle.legal_trace.specs.Story.{Story}
 use Rattle.conn_laws.proofs.Requests.Closing.{Closes}
 use Rattle.session_laws.proofs.Requests.Closing.{with_closed}
 use Rattle.conn_laws.proofs.Ties.Tied.{TiedRounds}
-use Rattle.session_laws.proofs.Ties.Tied.{Inner, Tied}
+use Rattle.session_laws.proofs.Ties.Tied.{TurnState, Tied}
 use Rattle.conn_laws.proofs.Requests.Rounded.{rounds_with}
 
 -- a request is closed
@@ -23,5 +23,5 @@ rounds_closed story requests fresh p closed within c h =
 -- until the link takes requests
 --
 -- so the book says of a request whose round has begun, where rounds are shown
-pub has_begun : (b : Book) (t : Inner) (p : ℕ) → Tied b t → is_open_at t.requests p ≡ true → (t.rounds ≡ true → is_unbegun_at t.requests p ≡ false) → has_generations b ≡ true → (b.story (name_at t.requests p)).rounded ≡ true
+pub has_begun : (b : Book) (t : TurnState) (p : ℕ) → Tied b t → is_open_at t.requests p ≡ true → (t.rounds ≡ true → is_unbegun_at t.requests p ≡ false) → has_generations b ≡ true → (b.story (name_at t.requests p)).rounded ≡ true
 has_begun b t p h o begun comes = let shows = sym h.rounds.rounds_is ∙ comes in h.rounds.begun p shows o (begun shows)

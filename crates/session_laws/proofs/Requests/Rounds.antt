@@ -28,7 +28,7 @@ use Rattle.conn_laws.proofs.Ties.Numbers.{IsIn, Rising, in_right}
 use Rattle.session_laws.proofs.Ties.Owes.{open_on, request_story}
 use Rattle.conn_laws.proofs.Ties.Permits.{IsHolding, holding_same, permits_same}
 use Rattle.conn_laws.proofs.Ties.Tied.{TiedRounds, TiedWaits, link_in, shown_wait, waiting_ids}
-use Rattle.session_laws.proofs.Ties.Tied.{IsToldIn, Inner, Tied, numbers_kept}
+use Rattle.session_laws.proofs.Ties.Tied.{IsToldIn, TurnState, Tied, numbers_kept}
 use Rattle.conn_laws.proofs.Requests.Waits.{awaited_placed, waiting_apart}
 use Rattle.session_laws.proofs.Requests.Waits.{waiting_there}
 use Rattle.conn_laws.proofs.Internal.Repeats.{serves}
@@ -36,7 +36,7 @@ use Rattle.conn_laws.proofs.Internal.Serving.{answered_serves, serves_ready, ser
 use Rattle.conn_laws.proofs.Requests.Rounds.{round_permits}
 
 -- the action that shows it
-abbrev pub round_action : Inner → ℕ → Action
+abbrev pub round_action : TurnState → ℕ → Action
 round_action t p = action.Round (owner.Try (name_at t.requests p) 0) (Some t.link)
 
 -- the stories then
@@ -44,7 +44,7 @@ abbrev rounds_at : ℕ → (ℕ → Story) → ℕ → Story
 rounds_at m story n = if_own (m == n) (rounds (story n)) (story n)
 
 -- the session then
-abbrev pub with_round : Inner → ℕ → Inner
+abbrev pub with_round : TurnState → ℕ → TurnState
 with_round t p = record t { requests = at_progress t.requests p progress.Begun }
 
 -- it changes its round and its wait alone
@@ -60,7 +60,7 @@ round_other : (story : ℕ → Story) (n m : ℕ) → n ≢ m → rounds_at n st
 round_other story n m other = left_if (n == m) (rounds (story m)) (story m) (ne_test n m other)
 
 -- the wait of another request is as it was
-other_shown : (b : Book) (t : Inner) (p m : ℕ) → Tied b t → p < length t.requests → m < length t.requests → p ≢ m → shown_wait (rounds_at (name_at t.requests p) b.story) (at_progress t.requests p progress.Begun) m ≡ shown_wait b.story t.requests m
+other_shown : (b : Book) (t : TurnState) (p m : ℕ) → Tied b t → p < length t.requests → m < length t.requests → p ≢ m → shown_wait (rounds_at (name_at t.requests p) b.story) (at_progress t.requests p progress.Begun) m ≡ shown_wait b.story t.requests m
 other_shown b t p m h within inside other =
     let n = name_at t.requests p in
     ap (λ k. (rounds_at n b.story k).waiting) (name_still t.requests p progress.Begun m)
@@ -73,7 +73,7 @@ own_shown story requests p =
     ap (λ k. (rounds_at n story k).waiting) (name_still requests p progress.Begun p) ∙ ap (λ (s : Story). s.waiting) (round_own story n)
 
 -- the waits, on a link that takes requests: its own is to be shown anew
-round_waits : (b : Book) (t : Inner) (p : ℕ) → Tied b t → serves t.life t.again ≡ true → is_unbegun_at t.requests p ≡ true → IsIn p t.fresh → TiedWaits (rounds_at (name_at t.requests p) b.story) (at_progress t.requests p progress.Begun) t.again t.life t.fresh t.moved
+round_waits : (b : Book) (t : TurnState) (p : ℕ) → Tied b t → serves t.life t.again ≡ true → is_unbegun_at t.requests p ≡ true → IsIn p t.fresh → TiedWaits (rounds_at (name_at t.requests p) b.story) (at_progress t.requests p progress.Begun) t.again t.life t.fresh t.moved
 round_waits b t p h serving u anew =
     let ready = serves_ready t.life t.again serving in
     let answered = serves_answered t.life t.again serving in
@@ -124,7 +124,7 @@ round_waits b t p h serving u anew =
     }
 
 -- the rounds: its own has begun
-round_rounds : (b : Book) (t : Inner) (p : ℕ) → Tied b t → is_unbegun_at t.requests p ≡ true
+round_rounds : (b : Book) (t : TurnState) (p : ℕ) → Tied b t → is_unbegun_at t.requests p ≡ true
     → TiedRounds (has_generations b) (rounds_at (name_at t.requests p) b.story) (at_progress t.requests p progress.Begun) (serves t.life t.again) t.fresh t.rounds
 round_rounds b t p h u =
     let requests = t.requests in
@@ -149,22 +149,22 @@ round_rounds b t p h u =
     }
 
 -- so the session is tied with it, on a link that takes requests
-round_tied : (b : Book) (t : Inner) (p : ℕ) → serves t.life t.again ≡ true → t.rounds ≡ true → is_unbegun_at t.requests p ≡ true → Tied b t → Tied (entered b (round_action t p)) (with_round t p)
+round_tied : (b : Book) (t : TurnState) (p : ℕ) → serves t.life t.again ≡ true → t.rounds ≡ true → is_unbegun_at t.requests p ≡ true → Tied b t → Tied (entered b (round_action t p)) (with_round t p)
 round_tied b t p ready shows u h =
     let requests = t.requests in
     let n = name_at requests p in
     let w = unbegun_waits requests p u in
     let g = rounds_at n b.story in
     let holding = λ (m : ℕ). chosen (IsHolding (b.story m)) (n == m) (rounds (b.story m)) (b.story m) (λ t1. record { link = refl; permits = refl; timeout = refl; clock = refl }) (λ f. holding_same (b.story m)) in
-    waits_on_tied b t p (permits_at requests p) t.free g (entered b (round_action t p)).placed b.since b.timers t.timers t.letting ready w (round_eased b.story n)
+    waits_on_tied b t p (permits_at requests p) t.free g (entered b (round_action t p)).placed b.since b.timers t.timers t.being_admitted ready w (round_eased b.story n)
     (ap (λ (s : Story). s.permits) (round_own b.story n) ∙ (request_story b t p h (there_within is_waiting requests p w)).permits_is)
-    (numbers_kept b b.link g b.tracked b.errors (entered b (round_action t p)).placed b.since t t.life t.free (at_progress requests p progress.Begun) t.waiting t.admitted t.fresh t.moved t.letting t.pending t.started h.numbers)
+    (numbers_kept b b.link g b.tracked b.errors (entered b (round_action t p)).placed b.since t t.life t.free (at_progress requests p progress.Begun) t.waiting t.admitted t.fresh t.moved t.being_admitted t.pending t.started h.numbers)
     (round_waits b t p h ready u (h.rounds.new p shows ready u))
-    (round_permits g b.submissions requests t.link t.limit t.free t.letting p w (permits_same b.story g b.submissions requests t.link t.limit t.free t.letting holding h.permits))
+    (round_permits g b.submissions requests t.link t.limit t.free t.being_admitted p w (permits_same b.story g b.submissions requests t.link t.limit t.free t.being_admitted holding h.permits))
     (round_rounds b t p h u) h
 
 -- it may stand, where its step is the first
-round_may : (b : Book) (t : Inner) (p : ℕ) → IsRunning t → IsToldIn t → HasRenewed t.renewal t.life → t.rounds ≡ true → is_unbegun_at t.requests p ≡ true → IsFirstToMove b (name_at t.requests p) → NoneEnds b → Tied b t → MayRound b (name_at t.requests p) t.link
+round_may : (b : Book) (t : TurnState) (p : ℕ) → IsRunning t → IsToldIn t → HasRenewed t.renewal t.life → t.rounds ≡ true → is_unbegun_at t.requests p ≡ true → IsFirstToMove b (name_at t.requests p) → NoneEnds b → Tied b t → MayRound b (name_at t.requests p) t.link
 round_may b t p r told renewed shows u first ended h =
     let o = waiting_open t.requests p (unbegun_waits t.requests p u) in
     record {
@@ -176,7 +176,7 @@ round_may b t p r told renewed shows u first ended h =
     }
 
 -- and it begins
-pub round_going : (trace : List Action) (t : Inner) (p : ℕ) → IsRunning t → IsToldIn t → t.rounds ≡ true → is_unbegun_at t.requests p ≡ true → IsFirstToMove (book trace) (name_at t.requests p) → IsGoing trace t
+pub round_going : (trace : List Action) (t : TurnState) (p : ℕ) → IsRunning t → IsToldIn t → t.rounds ≡ true → is_unbegun_at t.requests p ≡ true → IsFirstToMove (book trace) (name_at t.requests p) → IsGoing trace t
     → IsGoing (trace ++ round_action t p ∷ []) (with_round t p)
 round_going trace t p r told shows u first h =
     let b = book trace in

@@ -29,7 +29,7 @@ use Rattle.legal_trace.specs.Legal.{AllStand, MayStand, MayAnswer, IsBefore, is_
 use Rattle.conn_laws.proofs.Ties.Numbers.{Rising, is_own, requests_behind, requests_first, requests_in}
 use Rattle.conn_laws.proofs.Links.Server.{OnLink, TiedRenewal}
 use Rattle.conn_laws.proofs.Ties.Tied.{link_in, waiting_ids, AreAside}
-use Rattle.session_laws.proofs.Ties.Tied.{Inner, Tied, Sound}
+use Rattle.session_laws.proofs.Ties.Tied.{TurnState, Tied, Sound}
 use Rattle.session_laws.proofs.Ties.Entered.{book_more, quiet_sources, quiet_timers, sound_more, shown_more, sources_more, timers_more}
 use Rattle.conn_laws.proofs.Ties.Names.{open_within, name_with, with_then}
 use Rattle.conn_laws.proofs.Changes.Requests.{progress_count as length_with}
@@ -40,7 +40,7 @@ use Rattle.conn_laws.proofs.Requests.Settle.{AnswersNone, IsDue, IsDueError, ans
 
 -- a session in the middle of a turn, by its connection, and by the acts so far, which may ask for timers and for sources of
 -- credentials
-abbrev pub seen : Core → List LinkAct → MultiplexedConnection → List ℕ → List ℕ → Inner
+abbrev pub seen : Core → List LinkAct → MultiplexedConnection → List ℕ → List ℕ → TurnState
 seen f acts conn pending started = record {
   manager = f.manager;
   turns = f.turns;
@@ -73,7 +73,7 @@ seen f acts conn pending started = record {
   fresh = conn.fresh;
   moved = conn.moved;
   rounds = conn.rounds;
-  letting = [];
+  being_admitted = [];
   pending = pending;
   started = started;
 }
@@ -113,7 +113,7 @@ add_is xs [] = sym (append-nil xs)
 add_is xs (y ∷ ys) = refl
 
 -- the session once one more act is shown
-abbrev pub seen_more : Core → List LinkAct → LinkAct → MultiplexedConnection → List ℕ → List ℕ → Inner
+abbrev pub seen_more : Core → List LinkAct → LinkAct → MultiplexedConnection → List ℕ → List ℕ → TurnState
 seen_more f acts a conn pending started =
     let l = f.single.link in
     record (seen f acts conn pending started) { timers = added (f.timers ++ timers_of f.single.link acts) (timer_of f.single.link a); sources = added (f.sources ++ sources_of l acts) (source_of l a) }
@@ -127,11 +127,11 @@ seen_is f acts a conn pending started =
     λ i. record (seen f acts conn pending started) { timers = ts i; sources = ss i }
 
 -- a session with what acts have asked for
-abbrev pub asked_by : Core → Inner → List LinkAct → Inner
+abbrev pub asked_by : Core → TurnState → List LinkAct → TurnState
 asked_by f t acts = record t { timers = f.timers ++ timers_of f.single.link acts; sources = f.sources ++ sources_of f.single.link acts }
 
 -- an act that asks for no timer and for no source leaves it
-pub quiet_asks : (f : Core) (t : Inner) (acts : List LinkAct) (a : LinkAct) → timer_of f.single.link a ≡ [] → source_of f.single.link a ≡ [] → asked_by f t acts ≡ asked_by f t (acts ++ a ∷ [])
+pub quiet_asks : (f : Core) (t : TurnState) (acts : List LinkAct) (a : LinkAct) → timer_of f.single.link a ≡ [] → source_of f.single.link a ≡ [] → asked_by f t acts ≡ asked_by f t (acts ++ a ∷ [])
 quiet_asks f t acts a timers sources =
     let ts = quiet_timers f.single.link acts a timers in
     let ss = quiet_sources f.single.link acts a sources in
@@ -141,7 +141,7 @@ quiet_asks f t acts a timers sources =
 pub sound_told : (before : List Action) (f : Core) (acts : List LinkAct) (a : LinkAct) (conn : MultiplexedConnection) (untold : List Heard) (parting : Bool) (pending started : List ℕ) → AllStand blank_book (trace_of_acts before f acts) → MayStand (book (trace_of_acts before f acts)) (shown_now f acts a)
     → Tied (entered (book (trace_of_acts before f acts)) (shown_now f acts a)) (record (seen_more f acts a conn pending started) { untold = untold; parting = parting }) → Sound (trace_of_acts before f (acts ++ a ∷ [])) (record (seen f (acts ++ a ∷ []) conn pending started) { untold = untold; parting = parting })
 sound_told before f acts a conn untold parting pending started stands may tied =
-    subst (λ (t : Inner). Sound (trace_of_acts before f (acts ++ a ∷ [])) (record t { untold = untold; parting = parting })) (seen_is f acts a conn pending started)
+    subst (λ (t : TurnState). Sound (trace_of_acts before f (acts ++ a ∷ [])) (record t { untold = untold; parting = parting })) (seen_is f acts a conn pending started)
     (subst (λ (x : List Action). Sound x (record (seen_more f acts a conn pending started) { untold = untold; parting = parting })) (sym (shown_more before f.single.link (length f.timers) (length f.sources) acts a))
     (sound_more (trace_of_acts before f acts) (shown_now f acts a) (record (seen_more f acts a conn pending started) { untold = untold; parting = parting }) stands may tied))
 
@@ -149,7 +149,7 @@ sound_told before f acts a conn untold parting pending started stands may tied =
 pub sound_act : (before : List Action) (f : Core) (acts : List LinkAct) (a : LinkAct) (conn : MultiplexedConnection) (pending started : List ℕ) → AllStand blank_book (trace_of_acts before f acts) → MayStand (book (trace_of_acts before f acts)) (shown_now f acts a)
     → Tied (entered (book (trace_of_acts before f acts)) (shown_now f acts a)) (seen_more f acts a conn pending started) → Sound (trace_of_acts before f (acts ++ a ∷ [])) (seen f (acts ++ a ∷ []) conn pending started)
 sound_act before f acts a conn pending started stands may tied =
-    subst (λ (t : Inner). Sound (trace_of_acts before f (acts ++ a ∷ [])) t) (seen_is f acts a conn pending started)
+    subst (λ (t : TurnState). Sound (trace_of_acts before f (acts ++ a ∷ [])) t) (seen_is f acts a conn pending started)
     (subst (λ (x : List Action). Sound x (seen_more f acts a conn pending started)) (sym (shown_more before f.single.link (length f.timers) (length f.sources) acts a))
     (sound_more (trace_of_acts before f acts) (shown_now f acts a) (seen_more f acts a conn pending started) stands may tied))
 
@@ -183,7 +183,7 @@ pub answering : (before : List Action) (f : Core) (w : Work) (pending started : 
 answering before f w pending started h line quiet = record { holds = h; line = line; quiet = quiet; ledger_is = refl; owed_is = λ n. refl; named = λ p. refl; opens = λ p o. o }
 
 -- the first of those that are to be answered may be
-pub first_may : (b : Book) (t : Inner) (p : ℕ) (pending : List ℕ) (o : Outcome) → Tied b (record t { pending = p ∷ pending }) → IsInLine t.requests (link_in t.life) t.admitted t.waiting (p ∷ pending) → is_open_at t.requests p ≡ true
+pub first_may : (b : Book) (t : TurnState) (p : ℕ) (pending : List ℕ) (o : Outcome) → Tied b (record t { pending = p ∷ pending }) → IsInLine t.requests (link_in t.life) t.admitted t.waiting (p ∷ pending) → is_open_at t.requests p ≡ true
     → owed b (name_at t.requests p) ≡ Some o → (is_heard b ≡ true → (push : Heard) → next_notice (b.link t.link) ≡ Some push → IsBefore b (name_at t.requests p) push) → t.parting ≡ false → MayAnswer b (name_at t.requests p) o
 first_may b t p pending o h line e owes pushed done =
     let now = record t { pending = p ∷ pending } in
@@ -238,7 +238,7 @@ answered_holds before f ledger owes name was w p o pending started due h =
 -- what replies that are settled make of new credentials
 --
 -- a session is tied with other new credentials where its link is
-pub renewal_tied : (b : Book) (t : Inner) (r : Renewal) → r.within ≡ t.renewal.within → r.wanted ≡ t.renewal.wanted → r.waiting ≡ t.renewal.waiting → TiedRenewal (b.link t.link) r t.life → Tied b t → Tied b (record t { renewal = r })
+pub renewal_tied : (b : Book) (t : TurnState) (r : Renewal) → r.within ≡ t.renewal.within → r.wanted ≡ t.renewal.wanted → r.waiting ≡ t.renewal.waiting → TiedRenewal (b.link t.link) r t.life → Tied b t → Tied b (record t { renewal = r })
 renewal_tied b t r within wanted waiting tied h = record {
   numbers = record {
     turns = h.numbers.turns;
@@ -288,7 +288,7 @@ renewal_tied b t r within wanted waiting tied h = record {
 }
 
 -- on a link that has ended it is so with any
-pub renewal_over : (b : Book) (t : Inner) (r : Renewal) (e : RedisError) → r.within ≡ t.renewal.within → r.wanted ≡ t.renewal.wanted → r.waiting ≡ t.renewal.waiting → r.asked ≡ t.renewal.asked → t.life ≡ Ended e → Tied b t → Tied b (record t { renewal = r })
+pub renewal_over : (b : Book) (t : TurnState) (r : Renewal) (e : RedisError) → r.within ≡ t.renewal.within → r.wanted ≡ t.renewal.wanted → r.waiting ≡ t.renewal.waiting → r.asked ≡ t.renewal.asked → t.life ≡ Ended e → Tied b t → Tied b (record t { renewal = r })
 renewal_over b t r e within wanted waiting asked over h =
     let l = b.link t.link in
     let was = subst (TiedRenewal l t.renewal) over h.renewal in

@@ -38,7 +38,7 @@ use Rattle.session_laws.proofs.Requests.Settle.{book_of_more, seen, sound_act, t
 use Rattle.conn_laws.proofs.Ties.States.{IsFitIn, IsStill, IsStopped}
 use Rattle.session_laws.proofs.Ties.States.{Between, HasApplied, trace_with, HasEffect}
 use Rattle.conn_laws.proofs.Ties.Tied.{TiedLife, TiedWaits, has_ended, link_in, owner_of, queue_ids, shown_wait, waiting_ids}
-use Rattle.session_laws.proofs.Ties.Tied.{Inner, Sound, Tied, relined, IsHeeded}
+use Rattle.session_laws.proofs.Ties.Tied.{TurnState, Sound, Tied, relined, IsHeeded}
 use Rattle.conn_laws.proofs.Requests.Waits.{admitted_unplaced, awaited_placed, waiting_apart}
 use Rattle.session_laws.proofs.Requests.Waits.{IsEarly, IsPlacedOrKept, IsQuiet, WaitsSo, admitted_there, behind_places, down_admits, fresh_waits, located, moved_waits, passed_waits, permit_holds, place_holds, placed_there, room_holds, stale_waits, wait_may, wait_tied, waiting_is, waiting_there, waits_at, with_unshown}
 use Rattle.conn_laws.proofs.Links.Write.{IsOfferedIn, hushed_in}
@@ -65,7 +65,7 @@ pub record IsShowing (before : List Action) (f : Core) (w : Work) (moved fresh s
   pub informed : IsInformed (book (trace_of_acts before f w.acts)) f.manager
 
 -- the session then
-abbrev unshown : Core → Work → List ℕ → List ℕ → List ℕ → Inner
+abbrev unshown : Core → Work → List ℕ → List ℕ → List ℕ → TurnState
 unshown f w moved fresh started = with_unshown (seen f w.acts w.conn [] started) moved fresh
 
 -- nothing moves in it
@@ -133,7 +133,7 @@ behind_first p ps hi m h l (inl e) = omega (arith, e)
 behind_first p ps hi m h l (inr i) = let k = rising_in (suc p) ps hi m h.1 i in omega (arith, k.0)
 
 -- who waits for a place waits so
-admitted_so : (b : Book) (t : Inner) (p : ℕ) → Tied b t → is_admitted_at t.requests p ≡ true → WaitsSo t p wait.Place
+admitted_so : (b : Book) (t : TurnState) (p : ℕ) → Tied b t → is_admitted_at t.requests p ≡ true → WaitsSo t p wait.Place
 admitted_so b t p h a = record {
   place = λ x. refl;
   room = λ i. absurd (not_both (is_placed_at t.requests p) (admitted_unplaced t.requests p a) (awaited_placed b.story t.requests (link_in t.life).queue p h.lines.queued i));
@@ -141,7 +141,7 @@ admitted_so b t p h a = record {
 }
 
 -- and so does who has its place
-placed_so : (t : Inner) (p : ℕ) → is_placed_at t.requests p ≡ true → WaitsSo t p wait.Room
+placed_so : (t : TurnState) (p : ℕ) → is_placed_at t.requests p ≡ true → WaitsSo t p wait.Room
 placed_so t p placed = record {
   place = λ a. absurd (not_both (is_placed_at t.requests p) (admitted_unplaced t.requests p a) placed);
   room = λ i. refl;
@@ -149,7 +149,7 @@ placed_so t p placed = record {
 }
 
 -- the numbers of a queue rise
-queue_rises : (b : Book) (t : Inner) → Tied b t → Rising 0 (queue_ids (link_in t.life).queue) (length t.requests)
+queue_rises : (b : Book) (t : TurnState) → Tied b t → Rising 0 (queue_ids (link_in t.life).queue) (length t.requests)
 queue_rises b t h =
     let queue = queue_ids (link_in t.life).queue in
     let kept = kept_ids t.admitted t.waiting in
@@ -221,7 +221,7 @@ moved_each_up before f w (p ∷ ps) fresh started link e served h =
     moved_each_up before f (wait_shown w p kind) ps fresh started link (ap (λ (c : MultiplexedConnection). c.life) (wait_conn w p kind) ∙ e) (ap (λ (c : MultiplexedConnection). is_outstanding c.again) (wait_conn w p kind) ∙ served) (moved_shown_up before f w p ps fresh started link e served h)
 
 -- and none waits for a place or is in the queue
-down_waits : (b : Book) (t : Inner) → Tied b t → (link_in t.life).queue ≡ [] → ((p : ℕ) → is_admitted_at t.requests p ≡ false) → TiedWaits b.story t.requests t.again t.life t.fresh []
+down_waits : (b : Book) (t : TurnState) → Tied b t → (link_in t.life).queue ≡ [] → ((p : ℕ) → is_admitted_at t.requests p ≡ false) → TiedWaits b.story t.requests t.again t.life t.fresh []
 down_waits b t h empty none = record {
   early = h.waits.early;
   backoff = h.waits.backoff;
@@ -247,18 +247,18 @@ down_waits b t h empty none = record {
 }
 
 -- on a link that has ended none is open
-ended_none : (b : Book) (t : Inner) (p : ℕ) (x : RedisError) → Tied b t → IsQuiet t → t.life ≡ Ended x → is_open_at t.requests p ≡ true → ⊥
+ended_none : (b : Book) (t : TurnState) (p : ℕ) (x : RedisError) → Tied b t → IsQuiet t → t.life ≡ Ended x → is_open_at t.requests p ≡ true → ⊥
 ended_none b t p x h q e o =
     let empty : kept_ids t.admitted t.waiting ≡ [] = (λ i. kept_ids (q.none (unready_serves t.life t.again (ap is_ready e)) i) (q.gone (ap has_ended e) i)) in
     none_open b t (Ended x) (name_at t.requests p) refl h q.settled e empty ((request_story b t p h (open_within t.requests p o)).open_is ∙ o)
 
 -- so nobody waits for a place
-ended_admits : (b : Book) (t : Inner) (p : ℕ) (x : RedisError) → Tied b t → IsQuiet t → t.life ≡ Ended x → is_admitted_at t.requests p ≡ false
+ended_admits : (b : Book) (t : TurnState) (p : ℕ) (x : RedisError) → Tied b t → IsQuiet t → t.life ≡ Ended x → is_admitted_at t.requests p ≡ false
 ended_admits b t p x h q e = by_test (is_admitted_at t.requests p) _ (λ a. absurd (ended_none b t p x h q e (admitted_open t.requests p a).0)) (λ f. f)
 
 -- those that came in this turn, or whose connect was answered in it
 --
-early_kind : (b : Book) (t : Inner) → Tied b t → has_ended t.life ≡ false → IsEarly t (wait_at t.life t.again)
+early_kind : (b : Book) (t : TurnState) → Tied b t → has_ended t.life ≡ false → IsEarly t (wait_at t.life t.again)
 early_kind b t h up = record {
   either = by_life t.life t.again up;
   backoff = λ e. ap (λ (x : Life). wait_at x t.again) e;
@@ -281,12 +281,12 @@ early_kind b t h up = record {
     by_life (Ended x) a f = cc
 
 -- its wait is true, and was not shown
-record EarlyHolds (b : Book) (t : Inner) (p : ℕ) (kind : WaitKind) : Type 0 where
+record EarlyHolds (b : Book) (t : TurnState) (p : ℕ) (kind : WaitKind) : Type 0 where
   pub new : shown_wait b.story t.requests p ≢ Some kind
   pub holds : WaitHolds b (name_at t.requests p) kind
 
 -- of the first of them
-early_holds : (b : Book) (t : Inner) (p : ℕ) (ps : List ℕ) → Tied b t → IsQuiet t → t.fresh ≡ p ∷ ps → has_ended t.life ≡ false → is_waiting_at t.requests p ≡ true → EarlyHolds b t p (wait_at t.life t.again)
+early_holds : (b : Book) (t : TurnState) (p : ℕ) (ps : List ℕ) → Tied b t → IsQuiet t → t.fresh ≡ p ∷ ps → has_ended t.life ≡ false → is_waiting_at t.requests p ≡ true → EarlyHolds b t p (wait_at t.life t.again)
 early_holds b t p ps h q is up w = by_life t.life refl
   where
     first : IsIn p t.fresh
@@ -308,7 +308,7 @@ early_holds b t p ps h q is up w = by_life t.life refl
     by_life (Ended x) e = absurd (ended_none b t p x h q e (waiting_open t.requests p w))
 
 -- where one waits the link has not ended
-waiting_alive : (b : Book) (t : Inner) (p : ℕ) → Tied b t → IsQuiet t → is_waiting_at t.requests p ≡ true → has_ended t.life ≡ false
+waiting_alive : (b : Book) (t : TurnState) (p : ℕ) → Tied b t → IsQuiet t → is_waiting_at t.requests p ≡ true → has_ended t.life ≡ false
 waiting_alive b t p h q w = by_life t.life refl
   where
     by_life : (x : Life) → t.life ≡ x → has_ended t.life ≡ false
@@ -408,7 +408,7 @@ waits_hold before f w h = by_life w.conn.life refl
     b : Book
     b = book (trace_of_acts before f w.acts)
 
-    t : Inner
+    t : TurnState
     t = unshown f (none_moved w) w.conn.moved w.conn.fresh started
 
     quiet : IsQuiet t
@@ -441,7 +441,7 @@ waits_hold before f w h = by_life w.conn.life refl
 -- what is open then
 --
 -- a message that takes items is started, and offered
-row_goes : (b : Book) (t : Inner) (n : ℕ) → Tied b t → IsWritten b → (link : LinkState) → t.life ≡ Ready link → (r : IsOpenRequest t n) → IsIn r.number (wanted (link_in t.life).row) → IsStarted b n
+row_goes : (b : Book) (t : TurnState) (n : ℕ) → Tied b t → IsWritten b → (link : LinkState) → t.life ≡ Ready link → (r : IsOpenRequest t n) → IsIn r.number (wanted (link_in t.life).row) → IsStarted b n
 row_goes b t n h written link life r i =
     let l = b.link t.link in
     let name = owner_of t.requests in
@@ -461,7 +461,7 @@ row_goes b t n h written link life r i =
     }
 
 -- the turn is settled
-pub is_settled : (b : Book) (t : Inner) → Tied b t → IsQuiet t → t.fresh ≡ [] → t.moved ≡ [] → IsWritten b → IsSettled b
+pub is_settled : (b : Book) (t : TurnState) → Tied b t → IsQuiet t → t.fresh ≡ [] → t.moved ≡ [] → IsWritten b → IsSettled b
 is_settled b t h q fresh moved written = record {
   written = written;
   goes = λ n asked.

@@ -38,21 +38,21 @@ use Rattle.conn_laws.proofs.Links.SetUp.{set_up_begins, setups_begins}
 use Rattle.conn_laws.proofs.Internal.Renewals.{begins_renewed}
 use Rattle.conn_laws.proofs.Links.Server.{setup_owners}
 use Rattle.conn_laws.proofs.Ties.Tied.{AreQueued, IsEntry, IsQueued, TiedLines, TiedTries, TiedWaits, owner_of, owners_each, queue_ids, shown_wait}
-use Rattle.session_laws.proofs.Ties.Tied.{Inner, Tied, numbers_kept}
+use Rattle.session_laws.proofs.Ties.Tied.{TurnState, Tied, numbers_kept}
 use Rattle.driver_model.specs.Hearing.{is_watching}
 use Rattle.conn_laws.proofs.Internal.Repeats.{begins_repeated}
 use Rattle.conn_laws.proofs.Requests.Start.{LosesWaits, first_apart, first_new, first_within, owners-append, owners_each-append, owners_length, requests_wanted, setup_owners-append, tried_request, waits_up, with_queue}
 
 -- the action that its start shows
-abbrev pub start_action : Inner → LinkState → Queued → Action
+abbrev pub start_action : TurnState → LinkState → Queued → Action
 start_action t link q = action.Start t.link link.started (owner.Try (name_at t.requests q.id) 0) (need_of q.shape) (length q.packed)
 
 -- the session with this link, where nothing is to be answered
-abbrev pub on_link : Inner → LinkState → Inner
+abbrev pub on_link : TurnState → LinkState → TurnState
 on_link t link = record t { life = Ready link; pending = []; untold = []; parting = false }
 
 -- the session once the first message of the queue has started
-abbrev pub after_start : Inner → LinkState → Queued → List Queued → Inner
+abbrev pub after_start : TurnState → LinkState → Queued → List Queued → TurnState
 after_start t link q qs = record t { life = Ready (with_queue (begun link q) qs); pending = []; untold = []; parting = false; started = t.started ++ q.id ∷ [] }
 
 -- the story of one submission with one try more
@@ -161,7 +161,7 @@ tried_others : (m link k : ℕ) (story : ℕ → Story) (n : ℕ) → m ≢ n �
 tried_others m link k story n other = ap (λ (x : Story). x.waiting) (left_if (m == n) (tried (story n) link k) (story n) (ne_test m n other))
 
 -- who is open and has no place is none of the queue
-queued_apart : (b : Book) (t : Inner) (q : Queued) → Tied b t → q.id < length t.requests → IsQueued b.story t.requests q → (is_open_at t.requests q.id ≡ true) × (is_placed_at t.requests q.id ≡ false) → ⊥
+queued_apart : (b : Book) (t : TurnState) (q : Queued) → Tied b t → q.id < length t.requests → IsQueued b.story t.requests q → (is_open_at t.requests q.id ≡ true) × (is_placed_at t.requests q.id ≡ false) → ⊥
 queued_apart b t q h within is a =
     let s = b.story (name_at t.requests q.id) in
     by_test q.awaited _
@@ -169,7 +169,7 @@ queued_apart b t q h within is a =
     (λ f. not_both (is_told s) (open_untold s ((request_story b t q.id h within).open_is ∙ a.0)) (nil_told s (sym is.is_of.awaited_is ∙ f) (is.told f)))
 
 -- what is shown of waits is true when the first of the queue has started
-waits_started : (b : Book) (t : Inner) (link : LinkState) (q : Queued) (qs : List Queued) (k l : ℕ) → Tied b (on_link t (with_queue link (q ∷ qs)))
+waits_started : (b : Book) (t : TurnState) (link : LinkState) (q : Queued) (qs : List Queued) (k l : ℕ) → Tied b (on_link t (with_queue link (q ∷ qs)))
     → TiedWaits (tried_at (name_at t.requests q.id) k l b.story) t.requests t.again (Ready (with_queue (begun link q) qs)) t.fresh t.moved
 waits_started b t link q qs k l h =
     let was = on_link t (with_queue link (q ∷ qs)) in
@@ -188,7 +188,7 @@ waits_started b t link q qs k l h =
     h.waits
 
 -- who was told and has not started is in the queue still
-told_started : (b : Book) (t : Inner) (link : LinkState) (q : Queued) (qs : List Queued) (k l : ℕ) → AreQueued b.story t.requests t.link (with_queue link (q ∷ qs))
+told_started : (b : Book) (t : TurnState) (link : LinkState) (q : Queued) (qs : List Queued) (k l : ℕ) → AreQueued b.story t.requests t.link (with_queue link (q ∷ qs))
     → AreQueued (tried_at (name_at t.requests q.id) k l b.story) t.requests t.link (with_queue (begun link q) qs)
 told_started b t link q qs k l h =
     let m = name_at t.requests q.id in
@@ -204,11 +204,11 @@ told_started b t link q qs k l h =
 -- the session and its book
 --
 -- what is shown of a message of the queue
-queued_some : (b : Book) (t : Inner) (q : Queued) → Tied b t → q.id < length t.requests → IsQueued b.story t.requests q → q.packed ≢ []
+queued_some : (b : Book) (t : TurnState) (q : Queued) → Tied b t → q.id < length t.requests → IsQueued b.story t.requests q → q.packed ≢ []
 queued_some b t q h within is e = (request_story b t q.id h within).some (sym is.is_of.packs ∙ e)
 
 -- the session is tied to the book with one start more
-pub start_tied : (b : Book) (t : Inner) (link : LinkState) (q : Queued) (qs : List Queued) → Tied b (on_link t (with_queue link (q ∷ qs))) → Tied (entered b (start_action t link q)) (after_start t link q qs)
+pub start_tied : (b : Book) (t : TurnState) (link : LinkState) (q : Queued) (qs : List Queued) → Tied b (on_link t (with_queue link (q ∷ qs))) → Tied (entered b (start_action t link q)) (after_start t link q qs)
 start_tied b t link q qs h =
     let was = on_link t (with_queue link (q ∷ qs)) in
     let l = b.link t.link in
@@ -248,7 +248,7 @@ start_tied b t link q qs h =
       lines = lines_started b.story t.requests link t.waiting t.admitted t.started q qs t.link link.started other h.lines;
       told = λ e. told_started b t link q qs t.link link.started (h.told refl);
       waits = waits_started b t link q qs t.link link.started h;
-      permits = permits_same b.story (tried_at n t.link link.started b.story) b.submissions t.requests t.link t.limit t.free t.letting (tried_holds n t.link link.started b.story) h.permits;
+      permits = permits_same b.story (tried_at n t.link link.started b.story) b.submissions t.requests t.link t.limit t.free t.being_admitted (tried_holds n t.link link.started b.story) h.permits;
       rounds = rounds_same b.story (tried_at n t.link link.started b.story) t.requests t.fresh (tried_rounds n t.link link.started b.story) h.rounds;
       early = λ unserved alive. absurd (let no : q ∷ qs ≡ [] = (h.early unserved alive).empty in cc);
       late = λ p o e. h.late p o (sym (tried_late n t.link link.started b.story (name_at t.requests p)) ∙ e);

@@ -29,15 +29,15 @@ use Rattle.conn_laws.proofs.Requests.Start.{with_queue}
 use Rattle.session_laws.proofs.Requests.Start.{after_start, on_link, start_action, start_tied}
 use Rattle.conn_laws.proofs.Ties.States.{IsFit}
 use Rattle.conn_laws.proofs.Ties.Tied.{queue_ids}
-use Rattle.session_laws.proofs.Ties.Tied.{Inner, Tied}
+use Rattle.session_laws.proofs.Ties.Tied.{TurnState, Tied}
 use Rattle.conn_laws.proofs.Requests.Starts.{begins_ends_none, fit_next, seats_next, show_start, shows, shows-append}
 
 -- a session on a link that is up, with this queue
-pub running_on : (t : Inner) (link : LinkState) (qs : List Queued) → IsFit t.size t.bound (with_queue link qs) → HasSeats t.moved (in_front t.renewal) (with_queue link qs) t.size → is_outstanding t.again ≡ false → IsRunning (on_link t (with_queue link qs))
+pub running_on : (t : TurnState) (link : LinkState) (qs : List Queued) → IsFit t.size t.bound (with_queue link qs) → HasSeats t.moved (in_front t.renewal) (with_queue link qs) t.size → is_outstanding t.again ≡ false → IsRunning (on_link t (with_queue link qs))
 running_on t link qs fit seats served = record { settled = refl; up = refl; served = served; fit = fit; seats = seats }
 
 -- the first message of the queue may start, where nothing holds it back
-start_may : (b : Book) (t : Inner) (link : LinkState) (q : Queued) (qs : List Queued) → IsFit t.size t.bound (with_queue link (q ∷ qs)) → HasSeats t.moved (in_front t.renewal) (with_queue link (q ∷ qs)) t.size → holds_back link ≡ false → is_outstanding t.again ≡ false
+start_may : (b : Book) (t : TurnState) (link : LinkState) (q : Queued) (qs : List Queued) → IsFit t.size t.bound (with_queue link (q ∷ qs)) → HasSeats t.moved (in_front t.renewal) (with_queue link (q ∷ qs)) t.size → holds_back link ≡ false → is_outstanding t.again ≡ false
     → Tied b (on_link t (with_queue link (q ∷ qs))) → NoneEnds b → HasRenewed t.renewal (Ready (with_queue link (q ∷ qs))) → MayStart b t.link link.started (name_at t.requests q.id) (need_of q.shape) (length q.packed)
 start_may b t link q qs fit seats free served h ended renewed =
     let was = on_link t (with_queue link (q ∷ qs)) in
@@ -55,7 +55,7 @@ start_may b t link q qs fit seats free served h ended renewed =
     }
 
 -- it starts
-start_going : (trace : List Action) (t : Inner) (link : LinkState) (q : Queued) (qs : List Queued) → IsFit t.size t.bound (with_queue link (q ∷ qs)) → HasSeats t.moved (in_front t.renewal) (with_queue link (q ∷ qs)) t.size → holds_back link ≡ false
+start_going : (trace : List Action) (t : TurnState) (link : LinkState) (q : Queued) (qs : List Queued) → IsFit t.size t.bound (with_queue link (q ∷ qs)) → HasSeats t.moved (in_front t.renewal) (with_queue link (q ∷ qs)) t.size → holds_back link ≡ false
     → IsGoing trace (on_link t (with_queue link (q ∷ qs)))
     → IsGoing (trace ++ start_action t link q ∷ []) (after_start t link q qs)
 start_going trace t link q qs fit seats free h =
@@ -88,7 +88,7 @@ shows_sources l acts requests ss = sources_of-append l acts (shows requests ss) 
     none (s ∷ ss) = none ss
 
 -- what is in a queue starts as long as nothing holds it back
-pub each_going : (before : List Action) (n c : ℕ) (acts : List LinkAct) (t : Inner) (s : Starting) (qs : List Queued) → IsFit t.size t.bound (with_queue s.link qs) → HasSeats t.moved (in_front t.renewal) (with_queue s.link qs) t.size
+pub each_going : (before : List Action) (n c : ℕ) (acts : List LinkAct) (t : TurnState) (s : Starting) (qs : List Queued) → IsFit t.size t.bound (with_queue s.link qs) → HasSeats t.moved (in_front t.renewal) (with_queue s.link qs) t.size
     → IsGoing (before ++ shown_each t.link n c (acts ++ shows t.requests s.out)) (on_link t (with_queue s.link qs))
     → IsGoing (before ++ shown_each t.link n c (acts ++ shows t.requests (started_each s qs).out)) (record (on_link t (started_each s qs).link) { started = t.started ++ queue_ids (starting s.link qs) })
 each_going before n c acts t s [] fit seats h = subst (λ ns. IsGoing (before ++ shown_each t.link n c (acts ++ shows t.requests s.out)) (record (on_link t (with_queue s.link [])) { started = ns })) (sym (append-nil t.started)) h

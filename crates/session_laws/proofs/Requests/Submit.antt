@@ -28,7 +28,7 @@ use Rattle.conn_laws.proofs.Ties.Aside.{aside_silent}
 use Rattle.conn_laws.proofs.Internal.Renewals.{renewal_alike}
 use Rattle.conn_laws.proofs.Ties.Numbers.{IsIn, in_left, in_right, Rising, rising_in, requests_in, request_in}
 use Rattle.conn_laws.proofs.Ties.Tied.{carried, link_in, queue_ids, waiting_ids, whole_link, IsRefused, TiedStory}
-use Rattle.session_laws.proofs.Ties.Tied.{inner, Tied, AreCalm}
+use Rattle.session_laws.proofs.Ties.Tied.{inner, Tied, NoReconnectCause}
 use Rattle.conn_laws.proofs.Ties.Names.{there_within, names_refused}
 use Rattle.session_laws.proofs.Ties.Names.{submits_unwatched}
 use Rattle.session_laws.proofs.Ties.Owes.{started_within, ends_told, notices_told}
@@ -105,10 +105,10 @@ IsErrorOf late unspoken what e =
     ⊎ ((late ≡ false) × (unspoken ≡ false) × ((length (packed_bytes what) == 0) ≡ true) × (e ≡ error.EmptyCommand)))
 
 -- where nothing was shut down, it is no cause for the next generation
-error_calm : (late unspoken : Bool) (what : Submission) (e : RedisError) → late ≡ false → IsErrorOf late unspoken what e → AreCalm (e ∷ [])
+error_calm : (late unspoken : Bool) (what : Submission) (e : RedisError) → late ≡ false → IsErrorOf late unspoken what e → NoReconnectCause (e ∷ [])
 error_calm late unspoken what e awake (inl h) = absurd (not_both late awake h.0)
-error_calm late unspoken what e awake (inr (inl h)) = subst (λ (x : RedisError). AreCalm (x ∷ [])) (sym h.2) refl
-error_calm late unspoken what e awake (inr (inr h)) = subst (λ (x : RedisError). AreCalm (x ∷ [])) (sym h.3) refl
+error_calm late unspoken what e awake (inr (inl h)) = subst (λ (x : RedisError). NoReconnectCause (x ∷ [])) (sym h.2) refl
+error_calm late unspoken what e awake (inr (inr h)) = subst (λ (x : RedisError). NoReconnectCause (x ∷ [])) (sym h.3) refl
 
 -- what it is owed then
 new_owed : (b now : Book) (what : Submission) (e : RedisError) → IsErrorOf b.shut (is_unspoken b what) what e → owed_in now (new_story b what) ≡ Some (outcome.Fault e)

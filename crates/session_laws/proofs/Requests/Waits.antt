@@ -37,7 +37,7 @@ use Rattle.session_laws.proofs.Ties.Owes.{later_unstarted, none_open, open_reque
 use Rattle.conn_laws.proofs.Ties.Permits.{IsHolding, permits_same}
 use Rattle.conn_laws.proofs.Ties.States.{IsFit, AreBegun}
 use Rattle.conn_laws.proofs.Ties.Tied.{IsKept, TiedWaits, has_ended, link_in, queue_ids, shown_wait, waiting_ids}
-use Rattle.session_laws.proofs.Ties.Tied.{Inner, Tied, numbers_kept}
+use Rattle.session_laws.proofs.Ties.Tied.{TurnState, Tied, numbers_kept}
 use Rattle.conn_laws.proofs.Internal.Repeats.{serves}
 use Rattle.conn_laws.proofs.Internal.Serving.{unready_serves, outstanding_serves, answered_serves}
 use Rattle.conn_laws.proofs.Requests.Waits.{admitted_unplaced, awaited_placed, first_from, queued_still, waiting_apart, waits_request, wanted_placed}
@@ -45,7 +45,7 @@ use Rattle.conn_laws.proofs.Requests.Waits.{admitted_unplaced, awaited_placed, f
 -- what is shown of a wait
 --
 -- the session with these that were moved, and these that came in this turn, whose waits aren't shown yet
-abbrev pub with_unshown : Inner → List ℕ → List ℕ → Inner
+abbrev pub with_unshown : TurnState → List ℕ → List ℕ → TurnState
 with_unshown t moved fresh = record t { moved = moved; fresh = fresh }
 
 -- the action that shows a wait
@@ -95,7 +95,7 @@ shown_other story requests p q kind other =
     ap (λ (s : Story). s.waiting) (left_if (name_at requests p == n) (waits_now (story n) kind) (story n) (ne_test (name_at requests p) n other))
 
 -- the session is tied to the book with one wait more, where its waits are
-pub wait_tied : (b : Book) (t : Inner) (p : ℕ) (kind : WaitKind) (moved fresh : List ℕ) → p < length t.requests → Tied b t → ((q : ℕ) → t.rounds ≡ true → serves t.life t.again ≡ true → is_unbegun_at t.requests q ≡ true → IsIn q fresh) → TiedWaits (waits_at (name_at t.requests p) kind b.story) t.requests t.again t.life fresh moved
+pub wait_tied : (b : Book) (t : TurnState) (p : ℕ) (kind : WaitKind) (moved fresh : List ℕ) → p < length t.requests → Tied b t → ((q : ℕ) → t.rounds ≡ true → serves t.life t.again ≡ true → is_unbegun_at t.requests q ≡ true → IsIn q fresh) → TiedWaits (waits_at (name_at t.requests p) kind b.story) t.requests t.again t.life fresh moved
     → Tied (entered b (wait_action (name_at t.requests p) kind)) (with_unshown t moved fresh)
 wait_tied b t p kind moved fresh within h new waits =
     let n = name_at t.requests p in
@@ -103,7 +103,7 @@ wait_tied b t p kind moved fresh within h new waits =
     let same = waits_submissions n kind b.story in
     let answers = waits_outcomes n kind b.story in
     record {
-      numbers = numbers_kept b b.link after b.tracked b.errors (entered b (wait_action n kind)).placed b.since t t.life t.free t.requests t.waiting t.admitted fresh moved t.letting t.pending t.started h.numbers;
+      numbers = numbers_kept b b.link after b.tracked b.errors (entered b (wait_action n kind)).placed b.since t t.life t.free t.requests t.waiting t.admitted fresh moved t.being_admitted t.pending t.started h.numbers;
       others = h.others;
       notices = h.notices;
       life = h.life;
@@ -129,16 +129,16 @@ wait_tied b t p kind moved fresh within h new waits =
       };
       told = λ up. queued_still b.story after t.requests t.link (link_in t.life) same answers (waits_tries n kind b.story) (λ m. sym (waits_holding n kind b.story m).link) (h.told up);
       waits = waits;
-      permits = permits_same b.story after b.submissions t.requests t.link t.limit t.free t.letting (waits_holding n kind b.story) h.permits;
+      permits = permits_same b.story after b.submissions t.requests t.link t.limit t.free t.being_admitted (waits_holding n kind b.story) h.permits;
       rounds = rounds_new after t.requests t.fresh fresh new (rounds_same b.story after t.requests t.fresh (waits_rounds n kind b.story) h.rounds);
       early = h.early;
       late = λ q o late. h.late q o (sym (waits_late n kind b.story (name_at t.requests q)) ∙ late);
     }
 
 -- a session whose event has had its effect, and in which nothing moves
-pub record IsQuiet (t : Inner) : Type 0 where
+pub record IsQuiet (t : TurnState) : Type 0 where
   pub settled : t.pending ≡ []
-  pub alone : t.letting ≡ []
+  pub alone : t.being_admitted ≡ []
   pub fit : (link : LinkState) → t.life ≡ Ready link → IsFit t.size t.bound link
   pub setup_fit : (link : LinkState) (greeting : Greeting) → t.life ≡ SettingUp link greeting → IsFit t.size t.bound link
   pub none : serves t.life t.again ≡ false → t.admitted ≡ []
@@ -153,36 +153,36 @@ pub record IsQuiet (t : Inner) : Type 0 where
 -- where an open request is
 --
 -- in the queue, or among those that have no place
-abbrev pub IsPlacedOrKept : Inner → ℕ → Type 0
+abbrev pub IsPlacedOrKept : TurnState → ℕ → Type 0
 IsPlacedOrKept t p = IsIn p (awaited_ids (link_in t.life).queue) ⊎ IsKept t.requests t.waiting t.admitted p
 
 -- or in the row
-pub located : (b : Book) (t : Inner) (p : ℕ) → Tied b t → t.pending ≡ [] → is_open_at t.requests p ≡ true → IsIn p (wanted (link_in t.life).row) ⊎ IsPlacedOrKept t p
+pub located : (b : Book) (t : TurnState) (p : ℕ) → Tied b t → t.pending ≡ [] → is_open_at t.requests p ≡ true → IsIn p (wanted (link_in t.life).row) ⊎ IsPlacedOrKept t p
 located b t p h none o = elim (h.lines.there p o) [
   | inl i ↦ elim (in_either p (requests_in (wanted (link_in t.life).row)) (awaited_ids (link_in t.life).queue) (subst (λ ns. IsIn p (ns ++ (requests_in (wanted (link_in t.life).row) ++ awaited_ids (link_in t.life).queue))) none i)) [ inl j ↦ inl (request_of p (wanted (link_in t.life).row) j) | inr j ↦ inr (inl j) ]
   | inr k ↦ inr (inr k)
 ]
 
 -- who is there stands in the line
-placed_or_kept_in : (t : Inner) (p : ℕ) → IsPlacedOrKept t p → IsIn p (queue_ids (link_in t.life).queue ++ kept_ids t.admitted t.waiting)
+placed_or_kept_in : (t : TurnState) (p : ℕ) → IsPlacedOrKept t p → IsIn p (queue_ids (link_in t.life).queue ++ kept_ids t.admitted t.waiting)
 placed_or_kept_in t p (inl i) = in_left p (queue_ids (link_in t.life).queue) (kept_ids t.admitted t.waiting) (in_queue p (link_in t.life).queue i)
 placed_or_kept_in t p (inr k) = in_right p (queue_ids (link_in t.life).queue) (kept_ids t.admitted t.waiting) (kept_in t.requests t.waiting t.admitted p k)
 
 -- and has not started
-pub there_untried : (b : Book) (t : Inner) (p : ℕ) → Tied b t → is_open_at t.requests p ≡ true → IsPlacedOrKept t p → (b.story (name_at t.requests p)).tries ≡ []
+pub there_untried : (b : Book) (t : TurnState) (p : ℕ) → Tied b t → is_open_at t.requests p ≡ true → IsPlacedOrKept t p → (b.story (name_at t.requests p)).tries ≡ []
 there_untried b t p h o at =
     let g = get_some t.requests p (open_within t.requests p o) in
     let named = name_of_some t.requests p g.0 g.1 in
     ap (λ x. (b.story x).tries) named ∙ h.tries.untried p g.0 g.1 (later_unstarted b t p h (placed_or_kept_in t p at)) (sym (ap (λ x. (b.story x).link) named) ∙ open_on b t p h o)
 
 -- who is in the row stands before all others
-row_before : (b : Book) (t : Inner) (p q : ℕ) → Tied b t → has_ended t.life ≡ false → p < length t.requests → IsIn p (wanted (link_in t.life).row) → IsIn q (queue_ids (link_in t.life).queue ++ kept_ids t.admitted t.waiting) → p < q
+row_before : (b : Book) (t : TurnState) (p q : ℕ) → Tied b t → has_ended t.life ≡ false → p < length t.requests → IsIn p (wanted (link_in t.life).row) → IsIn q (queue_ids (link_in t.life).queue ++ kept_ids t.admitted t.waiting) → p < q
 row_before b t p q h up within i j =
     rising_apart 0 (requests_in (row_ids (link_in t.life).row)) (queue_ids (link_in t.life).queue ++ kept_ids t.admitted t.waiting) (length t.requests) p q (row_in_line b t h up)
     (request_in p (row_ids (link_in t.life).row) (request_not b t p h within) (wanted_in p (link_in t.life).row i)) j
 
 -- an open one without a message is there
-untried_there : (b : Book) (t : Inner) (p : ℕ) → Tied b t → t.pending ≡ [] → has_ended t.life ≡ false → is_open_at t.requests p ≡ true → (b.story (name_at t.requests p)).tries ≡ [] → IsPlacedOrKept t p
+untried_there : (b : Book) (t : TurnState) (p : ℕ) → Tied b t → t.pending ≡ [] → has_ended t.life ≡ false → is_open_at t.requests p ≡ true → (b.story (name_at t.requests p)).tries ≡ [] → IsPlacedOrKept t p
 untried_there b t p h none up o untried =
     let within = open_within t.requests p o in
     let s = b.story (name_at t.requests p) in
@@ -197,7 +197,7 @@ untried_there b t p h none up o untried =
     ]
 
 -- who waits for a place, while the link is up or its connect isn't answered, is among those
-pub admitted_there : (b : Book) (t : Inner) (p : ℕ) → Tied b t → t.pending ≡ [] → is_admitted_at t.requests p ≡ true → IsIn p (waiting_ids t.admitted)
+pub admitted_there : (b : Book) (t : TurnState) (p : ℕ) → Tied b t → t.pending ≡ [] → is_admitted_at t.requests p ≡ true → IsIn p (waiting_ids t.admitted)
 admitted_there b t p h none a =
     let unplaced = admitted_unplaced t.requests p a in
     elim (located b t p h none (admitted_open t.requests p a).0) [
@@ -212,7 +212,7 @@ admitted_there b t p h none a =
     ]
 
 -- who has its place, from the first of the queue on, is in the queue
-pub placed_there : (b : Book) (t : Inner) (p : ℕ) → Tied b t → t.pending ≡ [] → has_ended t.life ≡ false → is_open_at t.requests p ≡ true → is_placed_at t.requests p ≡ true → is_from (first_in (link_in t.life).queue) p ≡ true → IsIn p (awaited_ids (link_in t.life).queue)
+pub placed_there : (b : Book) (t : TurnState) (p : ℕ) → Tied b t → t.pending ≡ [] → has_ended t.life ≡ false → is_open_at t.requests p ≡ true → is_placed_at t.requests p ≡ true → is_from (first_in (link_in t.life).queue) p ≡ true → IsIn p (awaited_ids (link_in t.life).queue)
 placed_there b t p h none up o placed from =
     let first = first_from (link_in t.life).queue p from in
     elim (located b t p h none o) [
@@ -229,11 +229,11 @@ placed_there b t p h none up o placed from =
 -- which wait is true
 --
 -- on a link that takes requests
-pub quiet_running : (t : Inner) (link : LinkState) → IsQuiet t → t.life ≡ Ready link → is_outstanding t.again ≡ false → IsRunning t
+pub quiet_running : (t : TurnState) (link : LinkState) → IsQuiet t → t.life ≡ Ready link → is_outstanding t.again ≡ false → IsRunning t
 quiet_running t link q e served = running_of t link q.settled e served (q.fit link e) (subst (λ (x : LinkState). HasSeats t.moved (in_front t.renewal) x t.size) (ap link_in e) q.seats)
 
 -- a message of the queue waits for room
-pub room_holds : (b : Book) (t : Inner) (p : ℕ) (link : LinkState) → Tied b t → IsQuiet t → t.life ≡ Ready link → is_outstanding t.again ≡ false → IsIn p (queue_ids (link_in t.life).queue) → WaitHolds b (name_at t.requests p) wait.Room
+pub room_holds : (b : Book) (t : TurnState) (p : ℕ) (link : LinkState) → Tied b t → IsQuiet t → t.life ≡ Ready link → is_outstanding t.again ≡ false → IsIn p (queue_ids (link_in t.life).queue) → WaitHolds b (name_at t.requests p) wait.Room
 room_holds b t p link h q e served i =
     let held : holds_back (link_in t.life) ≡ true = ap (λ (x : Life). holds_back (link_in x)) e ∙ elim (q.held link e) as (λ _. holds_back link ≡ true) [
       | inl none ↦ absurd (subst (λ qs. IsIn p (queue_ids qs)) none (subst (λ (x : Life). IsIn p (queue_ids (link_in x).queue)) e i))
@@ -242,7 +242,7 @@ room_holds b t p link h q e served i =
     queue_step b t p h (quiet_running t link q e served) i ∙ ap starts_or_waits held
 
 -- who waits for a place waits for it
-pub place_holds : (b : Book) (t : Inner) (p : ℕ) (link : LinkState) → Tied b t → IsQuiet t → t.life ≡ Ready link → is_outstanding t.again ≡ false → is_admitted_at t.requests p ≡ true → IsIn p (waiting_ids t.admitted) → WaitHolds b (name_at t.requests p) wait.Place
+pub place_holds : (b : Book) (t : TurnState) (p : ℕ) (link : LinkState) → Tied b t → IsQuiet t → t.life ≡ Ready link → is_outstanding t.again ≡ false → is_admitted_at t.requests p ≡ true → IsIn p (waiting_ids t.admitted) → WaitHolds b (name_at t.requests p) wait.Place
 place_holds b t p link h q e served a i =
     let filled : is_full_beside (link_in t.life) (in_front t.renewal) ≡ true = ap (λ (x : Life). is_full_beside (link_in x) (in_front t.renewal)) e ∙ elim (q.full link e) as (λ _. is_full_beside link (in_front t.renewal) ≡ true) [
       | inl none ↦ absurd (subst (λ qs. IsIn p (waiting_ids qs)) none i)
@@ -251,7 +251,7 @@ place_holds b t p link h q e served a i =
     full_step b t p h (quiet_running t link q e served) filled a i
 
 -- who waits for a permit waits for it
-pub permit_holds : (b : Book) (t : Inner) (p : ℕ) (link : LinkState) → Tied b t → IsQuiet t → t.life ≡ Ready link → is_outstanding t.again ≡ false → is_waiting_at t.requests p ≡ true → IsIn p (waiting_ids t.waiting) → WaitHolds b (name_at t.requests p) wait.Permit
+pub permit_holds : (b : Book) (t : TurnState) (p : ℕ) (link : LinkState) → Tied b t → IsQuiet t → t.life ≡ Ready link → is_outstanding t.again ≡ false → is_waiting_at t.requests p ≡ true → IsIn p (waiting_ids t.waiting) → WaitHolds b (name_at t.requests p) wait.Permit
 permit_holds b t p link h q e served w i =
     let stuck = elim (q.waiting link e served) as (λ _. has_no_permit t.limit t.free ≡ true) [
       | inl none ↦ absurd (subst (λ qs. IsIn p (waiting_ids qs)) none i)
@@ -260,7 +260,7 @@ permit_holds b t p link h q e served w i =
     permit_step b t p h (quiet_running t link q e served) w (λ shows. q.begun shows (answered_serves t.life t.again (ap is_ready e) served) p) (λ j. subst (IsIn p) q.alone j) stuck
 
 -- who is in the queue, or has no place, waits as was shown, where this was shown
-pub waiting_is : (b : Book) (t : Inner) (p : ℕ) → Tied b t → IsQuiet t → is_open_at t.requests p ≡ true → IsPlacedOrKept t p → (IsIn p t.moved → ⊥) → (is_waiting_at t.requests p ≡ true → IsIn p t.fresh → ⊥) → IsWaiting b (name_at t.requests p)
+pub waiting_is : (b : Book) (t : TurnState) (p : ℕ) → Tied b t → IsQuiet t → is_open_at t.requests p ≡ true → IsPlacedOrKept t p → (IsIn p t.moved → ⊥) → (is_waiting_at t.requests p ≡ true → IsIn p t.fresh → ⊥) → IsWaiting b (name_at t.requests p)
 waiting_is b t p h q o at unmoved old = by_life t.life refl
   where
     n : ℕ
@@ -323,7 +323,7 @@ waiting_is b t p h q o at unmoved old = by_life t.life refl
 -- a wait may be shown
 --
 -- one that is true and was not shown, where none before it is still to be shown
-pub wait_may : (b : Book) (t : Inner) (p : ℕ) (kind : WaitKind) → Tied b t → IsQuiet t → has_ended t.life ≡ false → IsWritten b → is_open_at t.requests p ≡ true → IsPlacedOrKept t p → shown_wait b.story t.requests p ≢ Some kind → WaitHolds b (name_at t.requests p) kind
+pub wait_may : (b : Book) (t : TurnState) (p : ℕ) (kind : WaitKind) → Tied b t → IsQuiet t → has_ended t.life ≡ false → IsWritten b → is_open_at t.requests p ≡ true → IsPlacedOrKept t p → shown_wait b.story t.requests p ≢ Some kind → WaitHolds b (name_at t.requests p) kind
     → ((m : ℕ) → m < p → IsIn m t.moved → ⊥) → ((m : ℕ) → m < p → is_waiting_at t.requests m ≡ true → IsIn m t.fresh → ⊥) → MayWait b (name_at t.requests p) kind
 wait_may b t p kind h q up written o at new holds unmoved old =
     let n = name_at t.requests p in
@@ -345,21 +345,21 @@ wait_may b t p kind h q up written o at new holds unmoved old =
 -- what is shown then
 --
 -- one of those that were moved waits for a place, or for room
-pub record WaitsSo (t : Inner) (p : ℕ) (kind : WaitKind) : Type 0 where
+pub record WaitsSo (t : TurnState) (p : ℕ) (kind : WaitKind) : Type 0 where
   pub place : is_admitted_at t.requests p ≡ true → kind ≡ wait.Place
   pub room : IsIn p (awaited_ids (link_in t.life).queue) → kind ≡ wait.Room
   pub moved : is_waiting_at t.requests p ≡ true → ⊥
 
 -- the names of two requests that differ
-names_differ : (b : Book) (t : Inner) (p q : ℕ) → Tied b t → p < length t.requests → q < length t.requests → p ≢ q → name_at t.requests p ≢ name_at t.requests q
+names_differ : (b : Book) (t : TurnState) (p q : ℕ) → Tied b t → p < length t.requests → q < length t.requests → p ≢ q → name_at t.requests p ≢ name_at t.requests q
 names_differ b t p q h l m other same = other (same_name t.table t.requests p q h.names l m same)
 
 -- what was shown of a request, once a wait of p is
-shown_then : (b : Book) (t : Inner) (p q : ℕ) (kind : WaitKind) → Tied b t → p < length t.requests → q < length t.requests → p ≢ q → shown_wait (waits_at (name_at t.requests p) kind b.story) t.requests q ≡ shown_wait b.story t.requests q
+shown_then : (b : Book) (t : TurnState) (p q : ℕ) (kind : WaitKind) → Tied b t → p < length t.requests → q < length t.requests → p ≢ q → shown_wait (waits_at (name_at t.requests p) kind b.story) t.requests q ≡ shown_wait b.story t.requests q
 shown_then b t p q kind h l m other = shown_other b.story t.requests p q kind (names_differ b t p q h l m other)
 
 -- who waits for the connection, or for a permit, is among those
-pub waiting_there : (b : Book) (t : Inner) (p : ℕ) → Tied b t → t.pending ≡ [] → is_waiting_at t.requests p ≡ true → IsIn p (waiting_ids t.waiting)
+pub waiting_there : (b : Book) (t : TurnState) (p : ℕ) → Tied b t → t.pending ≡ [] → is_waiting_at t.requests p ≡ true → IsIn p (waiting_ids t.waiting)
 waiting_there b t p h none w =
     let apart = waiting_apart t.requests p w in
     elim (located b t p h none (waiting_open t.requests p w)) [
@@ -374,7 +374,7 @@ waiting_there b t p h none w =
     ]
 
 -- who waits for the connection, or for a permit, stands behind who has a place or waits for one
-pub behind_places : (b : Book) (t : Inner) (p m : ℕ) → Tied b t → t.pending ≡ [] → has_ended t.life ≡ false → IsIn p (queue_ids (link_in t.life).queue ++ waiting_ids t.admitted) → is_waiting_at t.requests m ≡ true → m < p → ⊥
+pub behind_places : (b : Book) (t : TurnState) (p m : ℕ) → Tied b t → t.pending ≡ [] → has_ended t.life ≡ false → IsIn p (queue_ids (link_in t.life).queue ++ waiting_ids t.admitted) → is_waiting_at t.requests m ≡ true → m < p → ⊥
 behind_places b t p m h none up i w less =
     let queue = queue_ids (link_in t.life).queue in
     let admitted = waiting_ids t.admitted in
@@ -400,7 +400,7 @@ rest_rises : (p : ℕ) (ps : List ℕ) (hi : ℕ) → Rising 0 (p ∷ ps) hi →
 rest_rises p ps hi r = rising_from (suc p) 0 ps hi (omega arith) r.1
 
 -- the waits, with that of the first of those that were moved
-pub moved_waits : (b : Book) (t : Inner) (p : ℕ) (kind : WaitKind) (ps : List ℕ) → Tied b t → t.moved ≡ p ∷ ps → p < length t.requests → WaitsSo t p kind → TiedWaits (waits_at (name_at t.requests p) kind b.story) t.requests t.again t.life t.fresh ps
+pub moved_waits : (b : Book) (t : TurnState) (p : ℕ) (kind : WaitKind) (ps : List ℕ) → Tied b t → t.moved ≡ p ∷ ps → p < length t.requests → WaitsSo t p kind → TiedWaits (waits_at (name_at t.requests p) kind b.story) t.requests t.again t.life t.fresh ps
 moved_waits b t p kind ps h is l so =
     let requests = t.requests in
     let after = waits_at (name_at requests p) kind b.story in
@@ -451,7 +451,7 @@ moved_waits b t p kind ps h is l so =
     }
 
 -- one of those that were moved waits no more
-pub passed_waits : (b : Book) (t : Inner) (p : ℕ) (ps : List ℕ) → Tied b t → t.moved ≡ p ∷ ps → is_admitted_at t.requests p ≡ false → (IsIn p (awaited_ids (link_in t.life).queue) → ⊥) → TiedWaits b.story t.requests t.again t.life t.fresh ps
+pub passed_waits : (b : Book) (t : TurnState) (p : ℕ) (ps : List ℕ) → Tied b t → t.moved ≡ p ∷ ps → is_admitted_at t.requests p ≡ false → (IsIn p (awaited_ids (link_in t.life).queue) → ⊥) → TiedWaits b.story t.requests t.again t.life t.fresh ps
 passed_waits b t p ps h is gone none =
     let line = subst (λ ns. Rising 0 ns (length t.requests)) is h.waits.rising in
     let back : (q : ℕ) → IsIn q ps → IsIn q t.moved = λ q i. subst (IsIn q) (sym is) (inr i) in
@@ -486,7 +486,7 @@ passed_waits b t p ps h is gone none =
     }
 
 -- until the link takes requests nobody waits for a place
-pub down_admits : (b : Book) (t : Inner) (p : ℕ) → Tied b t → IsQuiet t → serves t.life t.again ≡ false → is_admitted_at t.requests p ≡ false
+pub down_admits : (b : Book) (t : TurnState) (p : ℕ) → Tied b t → IsQuiet t → serves t.life t.again ≡ false → is_admitted_at t.requests p ≡ false
 down_admits b t p h q down = by_test (is_admitted_at t.requests p) _
     (λ a. absurd (subst (λ ws. IsIn p (waiting_ids ws)) (q.none down) (admitted_there b t p h q.settled a)))
     (λ f. f)
@@ -494,7 +494,7 @@ down_admits b t p h q down = by_test (is_admitted_at t.requests p) _
 -- the waits of those that came in this turn, or whose connect was answered in it
 --
 -- one of them waits for the next attempt, for the connect, for credentials, for the setup, for what is subscribed again, or for a permit
-pub record IsEarly (t : Inner) (kind : WaitKind) : Type 0 where
+pub record IsEarly (t : TurnState) (kind : WaitKind) : Type 0 where
   pub either : (kind ≡ wait.Backoff) ⊎ ((kind ≡ wait.Connect) ⊎ ((kind ≡ wait.Creds) ⊎ ((kind ≡ wait.Setup) ⊎ ((kind ≡ wait.Resubscribe) ⊎ (kind ≡ wait.Permit)))))
   pub backoff : t.life ≡ Resting → kind ≡ wait.Backoff
   pub connect : t.life ≡ Dialing → kind ≡ wait.Connect
@@ -504,7 +504,7 @@ pub record IsEarly (t : Inner) (kind : WaitKind) : Type 0 where
   pub permit : (link : LinkState) → t.life ≡ Ready link → is_outstanding t.again ≡ false → kind ≡ wait.Permit
 
 -- with that of the first of them
-pub fresh_waits : (b : Book) (t : Inner) (p : ℕ) (kind : WaitKind) (ps : List ℕ) → Tied b t → t.fresh ≡ p ∷ ps → is_waiting_at t.requests p ≡ true → IsEarly t kind → TiedWaits (waits_at (name_at t.requests p) kind b.story) t.requests t.again t.life ps t.moved
+pub fresh_waits : (b : Book) (t : TurnState) (p : ℕ) (kind : WaitKind) (ps : List ℕ) → Tied b t → t.fresh ≡ p ∷ ps → is_waiting_at t.requests p ≡ true → IsEarly t kind → TiedWaits (waits_at (name_at t.requests p) kind b.story) t.requests t.again t.life ps t.moved
 fresh_waits b t p kind ps h is w so =
     let requests = t.requests in
     let after = waits_at (name_at requests p) kind b.story in
@@ -565,7 +565,7 @@ fresh_waits b t p kind ps h is w so =
     }
 
 -- one of them waits no more
-pub stale_waits : (b : Book) (t : Inner) (p : ℕ) (ps : List ℕ) → Tied b t → t.fresh ≡ p ∷ ps → is_waiting_at t.requests p ≡ false → TiedWaits b.story t.requests t.again t.life ps t.moved
+pub stale_waits : (b : Book) (t : TurnState) (p : ℕ) (ps : List ℕ) → Tied b t → t.fresh ≡ p ∷ ps → is_waiting_at t.requests p ≡ false → TiedWaits b.story t.requests t.again t.life ps t.moved
 stale_waits b t p ps h is gone =
     let line = subst (λ ns. Rising 0 ns (length t.requests)) is h.waits.newer in
     let back : (q : ℕ) → IsIn q ps → IsIn q t.fresh = λ q i. subst (IsIn q) (sym is) (inr i) in

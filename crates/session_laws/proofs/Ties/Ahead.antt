@@ -32,7 +32,7 @@ use Rattle.conn_laws.proofs.Links.SetUp.{not_set_up, lacking_unset}
 use Rattle.conn_laws.proofs.Ties.States.{IsFit}
 use Rattle.conn_laws.proofs.Links.Server.{AreSought, HasSaid, TiedRenewal}
 use Rattle.conn_laws.proofs.Ties.Tied.{TiedLife, link_in, owner_of, queue_ids, shown_wait, waiting_ids}
-use Rattle.session_laws.proofs.Ties.Tied.{Inner, Tied, TiedNumbers}
+use Rattle.session_laws.proofs.Ties.Tied.{TurnState, Tied, TiedNumbers}
 use Rattle.conn_laws.proofs.Internal.Repeats.{served_is}
 use Rattle.conn_laws.proofs.Ties.Ahead.{HasSeats, admitted_open, dialing_dials, holding_next, line_least, line_most, line_next, names_from, names_in, names_length, names_of, names_rising, not_room, placed_open, queue_alive, queue_awaited, ready_alive, ready_is, ready_link, ready_repeated, ready_set, ready_up, rounded_next, timed_next, up_dials}
 use Rattle.conn_laws.proofs.Internal.Renewals.{due_in_line}
@@ -48,7 +48,7 @@ rising_before lo (x ∷ xs) ys hi n h i = (h.0, rising_before (suc x) xs ys hi n
 --
 -- a session whose messages may start: nothing is to be answered, and its link takes requests, with the queue and the boundary of its
 -- connection; and who took a place in this turn, and is in the queue still, found one
-pub record IsRunning (t : Inner) : Type 0 where
+pub record IsRunning (t : TurnState) : Type 0 where
   pub settled : t.pending ≡ []
   pub up : is_ready t.life ≡ true
   pub served : is_outstanding t.again ≡ false
@@ -56,7 +56,7 @@ pub record IsRunning (t : Inner) : Type 0 where
   pub seats : HasSeats t.moved (in_front t.renewal) (link_in t.life) t.size
 
 -- so it is where its link is fit
-pub running_of : (t : Inner) (link : LinkState) → t.pending ≡ [] → t.life ≡ Ready link → is_outstanding t.again ≡ false → IsFit t.size t.bound link → HasSeats t.moved (in_front t.renewal) link t.size → IsRunning t
+pub running_of : (t : TurnState) (link : LinkState) → t.pending ≡ [] → t.life ≡ Ready link → is_outstanding t.again ≡ false → IsFit t.size t.bound link → HasSeats t.moved (in_front t.renewal) link t.size → IsRunning t
 running_of t link none life served fit seats = record {
   settled = none;
   up = ap is_ready life;
@@ -84,7 +84,7 @@ unready_step b n up unwell =
     left_if (dials l) (waits wait.Connect) (if l.up then other else step_down l.asked) (up_dials l up) ∙ taken_if l.up other (step_down l.asked) up ∙ left_if (is_set_up l) step (waits (unready_wait l)) unwell
 
 -- the book has a link held back where the link is, by what it is tied by
-pub held_by : (b : Book) (t : Inner) (name : ℕ → Owner) (link : LinkState) → TiedNumbers b t → link.boundary ≡ t.bound → TiedLink name (b.link t.link) link → is_held_back b (b.link t.link) ≡ holds_back link
+pub held_by : (b : Book) (t : TurnState) (name : ℕ → Owner) (link : LinkState) → TiedNumbers b t → link.boundary ≡ t.bound → TiedLink name (b.link t.link) link → is_held_back b (b.link t.link) ≡ holds_back link
 held_by b t name link h same tied =
     let l = b.link t.link in
     let bytes = unwritten_is name l link tied in
@@ -93,11 +93,11 @@ held_by b t name link h same tied =
     ∙ (λ i. nat_lt 0 (length link.outbox.unwritten) && nat_le (sym same i) (length link.outbox.unwritten))
 
 -- so the ledger says too whether it takes requests
-pub takes_requests : (b : Book) (t : Inner) → is_ready t.life ≡ true → Tied b t → is_served (b.link t.link) ≡ not (is_outstanding t.again)
+pub takes_requests : (b : Book) (t : TurnState) → is_ready t.life ≡ true → Tied b t → is_served (b.link t.link) ≡ not (is_outstanding t.again)
 takes_requests b t up h = let l = b.link t.link in served_is l b.tracked t.renewal.within t.again (ready_repeated l b.tracked t.renewal.within t.again t.life up h.repeat)
 
 -- it is held back in the book where it is
-pub held_is : (b : Book) (t : Inner) → Tied b t → IsRunning t → is_held_back b (b.link t.link) ≡ holds_back (link_in t.life)
+pub held_is : (b : Book) (t : TurnState) → Tied b t → IsRunning t → is_held_back b (b.link t.link) ≡ holds_back (link_in t.life)
 held_is b t h r = held_by b t (owner_of t.requests) (link_in t.life) h.numbers r.fit.bound_is (ready_link (b.link t.link) t.requests t.life r.up (h.link (ready_alive t.life r.up)))
 
 -- the step of one whose round has begun, on the link of a session, where permits are counted so, and the link is held back or not
@@ -110,7 +110,7 @@ abbrev pub step_on : Book → ℕ → Story → ℕ → Option ℕ → Bool → 
 step_on b n s link limit held = step_open (is_told s) held (step_rounding (has_generations b) s.rounded (step_begun b n s link limit held))
 
 -- the next step of a request
-pub request_step : (b : Book) (t : Inner) (p : ℕ) → Tied b t → IsRunning t → (b.story (name_at t.requests p)).link ≡ t.link
+pub request_step : (b : Book) (t : TurnState) (p : ℕ) → Tied b t → IsRunning t → (b.story (name_at t.requests p)).link ≡ t.link
     → (let n = name_at t.requests p in next_step b n ≡ step_on b n (b.story n) t.link t.limit (holds_back (link_in t.life)))
 request_step b t p h r on =
     let n = name_at t.requests p in
@@ -121,7 +121,7 @@ request_step b t p h r on =
     ∙ (λ i. step_on b n s (on i) (h.numbers.settings.limit_is i) (held i))
 
 -- an open one is told nothing, and goes on
-begun_step : (b : Book) (t : Inner) (p : ℕ) → Tied b t → IsRunning t → (b.story (name_at t.requests p)).link ≡ t.link → is_told (b.story (name_at t.requests p)) ≡ false → (has_generations b ≡ true → (b.story (name_at t.requests p)).rounded ≡ true)
+begun_step : (b : Book) (t : TurnState) (p : ℕ) → Tied b t → IsRunning t → (b.story (name_at t.requests p)).link ≡ t.link → is_told (b.story (name_at t.requests p)) ≡ false → (has_generations b ≡ true → (b.story (name_at t.requests p)).rounded ≡ true)
     → (let n = name_at t.requests p in next_step b n ≡ step_begun b n (b.story n) t.link t.limit (holds_back (link_in t.life)))
 begun_step b t p h r on untold begun =
     let n = name_at t.requests p in
@@ -131,7 +131,7 @@ begun_step b t p h r on untold begun =
     request_step b t p h r on ∙ ap (λ x. step_open x held (step_rounding (has_generations b) s.rounded next)) untold ∙ rounded_next (has_generations b) s.rounded next begun
 
 -- so who was let in comes to its place
-pub let_in_step : (b : Book) (t : Inner) (p : ℕ) → Tied b t → IsRunning t → (b.story (name_at t.requests p)).link ≡ t.link → is_told (b.story (name_at t.requests p)) ≡ false → (has_generations b ≡ true → (b.story (name_at t.requests p)).rounded ≡ true) → is_let_in t.limit (b.story (name_at t.requests p)) ≡ true
+pub let_in_step : (b : Book) (t : TurnState) (p : ℕ) → Tied b t → IsRunning t → (b.story (name_at t.requests p)).link ≡ t.link → is_told (b.story (name_at t.requests p)) ≡ false → (has_generations b ≡ true → (b.story (name_at t.requests p)).rounded ≡ true) → is_let_in t.limit (b.story (name_at t.requests p)) ≡ true
     → (let n = name_at t.requests p in next_step b n ≡ step_placed (is_outside b n) (is_awaited (b.story n)) (holds_back (link_in t.life)))
 let_in_step b t p h r on untold begun is =
     let n = name_at t.requests p in
@@ -147,11 +147,11 @@ let_in_step b t p h r on untold begun is =
     ∙ timed_next s.timeout s.clock seat (both_right has asked is)
 
 -- of a session
-pub due_in : (b : Book) (t : Inner) (link : LinkState) → Tied b t → t.life ≡ Ready link → renewals_in_line (b.link t.link) ≡ in_front t.renewal
+pub due_in : (b : Book) (t : TurnState) (link : LinkState) → Tied b t → t.life ≡ Ready link → renewals_in_line (b.link t.link) ≡ in_front t.renewal
 due_in b t link h e = due_in_line (b.link t.link) t.renewal (subst (TiedLife (b.link t.link) b.created) e h.life).1 (subst (TiedRenewal (b.link t.link) t.renewal) e h.renewal)
 
 -- whether it stands outside, by the line before it
-outside_is : (b : Book) (t : Inner) (p : ℕ) → Tied b t → IsRunning t → (b.story (name_at t.requests p)).link ≡ t.link
+outside_is : (b : Book) (t : TurnState) (p : ℕ) → Tied b t → IsRunning t → (b.story (name_at t.requests p)).link ≡ t.link
     → is_outside b (name_at t.requests p) ≡ (not (has_place (b.story (name_at t.requests p))) && nat_le t.size (in_front t.renewal + line_before t.limit b.story t.link (name_at t.requests p)))
 outside_is b t p h r on =
     let n = name_at t.requests p in
@@ -165,13 +165,13 @@ placed_inside b n e =
     ap (λ x. not x && more) e
 
 -- and so does who finds fewer before it than the queue holds
-fewer_inside : (b : Book) (t : Inner) (p : ℕ) → Tied b t → IsRunning t → (b.story (name_at t.requests p)).link ≡ t.link → in_front t.renewal + line_before t.limit b.story t.link (name_at t.requests p) < t.size → is_outside b (name_at t.requests p) ≡ false
+fewer_inside : (b : Book) (t : TurnState) (p : ℕ) → Tied b t → IsRunning t → (b.story (name_at t.requests p)).link ≡ t.link → in_front t.renewal + line_before t.limit b.story t.link (name_at t.requests p) < t.size → is_outside b (name_at t.requests p) ≡ false
 fewer_inside b t p h r on few =
     let n = name_at t.requests p in
     outside_is b t p h r on ∙ ap (λ x. not (has_place (b.story n)) && x) (not_le_test t.size (in_front t.renewal + line_before t.limit b.story t.link n) few) ∙ and-false (not (has_place (b.story n)))
 
 -- who has none is outside where there are as many
-many_outside : (b : Book) (t : Inner) (p : ℕ) → Tied b t → IsRunning t → (b.story (name_at t.requests p)).link ≡ t.link → has_place (b.story (name_at t.requests p)) ≡ false → t.size ≤ in_front t.renewal + line_before t.limit b.story t.link (name_at t.requests p)
+many_outside : (b : Book) (t : TurnState) (p : ℕ) → Tied b t → IsRunning t → (b.story (name_at t.requests p)).link ≡ t.link → has_place (b.story (name_at t.requests p)) ≡ false → t.size ≤ in_front t.renewal + line_before t.limit b.story t.link (name_at t.requests p)
     → is_outside b (name_at t.requests p) ≡ true
 many_outside b t p h r on none many =
     let n = name_at t.requests p in
@@ -179,33 +179,33 @@ many_outside b t p h r on none many =
     outside_is b t p h r on ∙ (λ i. not (none i) && test i)
 
 -- who stands in line for the link is still to start
-line_later : (b : Book) (t : Inner) (m : ℕ) → Tied b t → IsRunning t → is_in_line t.limit t.link (b.story m) ≡ true → IsLater t m
+line_later : (b : Book) (t : TurnState) (m : ℕ) → Tied b t → IsRunning t → is_in_line t.limit t.link (b.story m) ≡ true → IsLater t m
 line_later b t m h r e =
     let s = b.story m in
     let may = is_told s || is_let_in t.limit s in
     later_of b t m h r.settled (ready_alive t.life r.up) (eq_from s.link t.link (both_left (s.link == t.link) (is_unstarted s && may) e)) (both_left (is_unstarted s) may (both_right (s.link == t.link) (is_unstarted s && may) e))
 
 -- and the other way round, where it was told, or let in
-later_line : (b : Book) (t : Inner) (p : ℕ) → (b.story (name_at t.requests p)).link ≡ t.link → is_unstarted (b.story (name_at t.requests p)) ≡ true → (is_told (b.story (name_at t.requests p)) || is_let_in t.limit (b.story (name_at t.requests p))) ≡ true
+later_line : (b : Book) (t : TurnState) (p : ℕ) → (b.story (name_at t.requests p)).link ≡ t.link → is_unstarted (b.story (name_at t.requests p)) ≡ true → (is_told (b.story (name_at t.requests p)) || is_let_in t.limit (b.story (name_at t.requests p))) ≡ true
     → is_in_line t.limit t.link (b.story (name_at t.requests p)) ≡ true
 later_line b t p on e may =
     λ i. (eq_test (b.story (name_at t.requests p)).link t.link on i) && (e i && may i)
 
 -- who is in the queue is a request
-pub queue_within : (b : Book) (t : Inner) (p : ℕ) → Tied b t → IsIn p (queue_ids (link_in t.life).queue) → p < length t.requests
+pub queue_within : (b : Book) (t : TurnState) (p : ℕ) → Tied b t → IsIn p (queue_ids (link_in t.life).queue) → p < length t.requests
 queue_within b t p h i =
     let later = queue_ids (link_in t.life).queue ++ kept_ids t.admitted t.waiting in
     (rising_in 0 later (length t.requests) p (rising_right 0 (requests_in t.started) later (length t.requests) h.lines.line) (in_left p (queue_ids (link_in t.life).queue) (kept_ids t.admitted t.waiting) i)).1
 
 -- without a message
-pub later_untried : (b : Book) (t : Inner) (p : ℕ) → Tied b t → p < length t.requests → (b.story (name_at t.requests p)).link ≡ t.link → IsIn p (queue_ids (link_in t.life).queue ++ kept_ids t.admitted t.waiting) → (b.story (name_at t.requests p)).tries ≡ []
+pub later_untried : (b : Book) (t : TurnState) (p : ℕ) → Tied b t → p < length t.requests → (b.story (name_at t.requests p)).link ≡ t.link → IsIn p (queue_ids (link_in t.life).queue ++ kept_ids t.admitted t.waiting) → (b.story (name_at t.requests p)).tries ≡ []
 later_untried b t p h within on i =
     let g = get_some t.requests p within in
     let named = name_of_some t.requests p g.0 g.1 in
     ap (λ n. (b.story n).tries) named ∙ h.tries.untried p g.0 g.1 (later_unstarted b t p h i) (sym (ap (λ n. (b.story n).link) named) ∙ on)
 
 -- and still to start
-pub queue_unstarted : (b : Book) (t : Inner) (p : ℕ) → Tied b t → IsIn p (queue_ids (link_in t.life).queue) → is_unstarted (b.story (name_at t.requests p)) ≡ true
+pub queue_unstarted : (b : Book) (t : TurnState) (p : ℕ) → Tied b t → IsIn p (queue_ids (link_in t.life).queue) → is_unstarted (b.story (name_at t.requests p)) ≡ true
 queue_unstarted b t p h i =
     let s = b.story (name_at t.requests p) in
     let within = queue_within b t p h i in
@@ -216,13 +216,13 @@ queue_unstarted b t p h i =
     ]
 
 -- and so is one that waits and is open
-pub kept_unstarted : (b : Book) (t : Inner) (p : ℕ) → Tied b t → is_open_at t.requests p ≡ true → IsIn p (kept_ids t.admitted t.waiting) → is_unstarted (b.story (name_at t.requests p)) ≡ true
+pub kept_unstarted : (b : Book) (t : TurnState) (p : ℕ) → Tied b t → is_open_at t.requests p ≡ true → IsIn p (kept_ids t.admitted t.waiting) → is_unstarted (b.story (name_at t.requests p)) ≡ true
 kept_unstarted b t p h o i =
     let within = open_within t.requests p o in
     open_unstarted (b.story (name_at t.requests p)) (later_untried b t p h within (open_on b t p h o) (in_right p (queue_ids (link_in t.life).queue) (kept_ids t.admitted t.waiting) i)) ((request_story b t p h within).open_is ∙ o)
 
 -- who is in the queue was told, or let in
-queue_may : (b : Book) (t : Inner) (p : ℕ) → Tied b t → IsIn p (queue_ids (link_in t.life).queue) → (is_told (b.story (name_at t.requests p)) || is_let_in t.limit (b.story (name_at t.requests p))) ≡ true
+queue_may : (b : Book) (t : TurnState) (p : ℕ) → Tied b t → IsIn p (queue_ids (link_in t.life).queue) → (is_told (b.story (name_at t.requests p)) || is_let_in t.limit (b.story (name_at t.requests p))) ≡ true
 queue_may b t p h i =
     let s = b.story (name_at t.requests p) in
     elim (queue_alive b.story t.requests (link_in t.life).queue p h.lines.queued i) [
@@ -231,11 +231,11 @@ queue_may b t p h i =
     ]
 
 -- an open request was told nothing
-pub open_told : (b : Book) (t : Inner) (p : ℕ) → Tied b t → is_open_at t.requests p ≡ true → is_told (b.story (name_at t.requests p)) ≡ false
+pub open_told : (b : Book) (t : TurnState) (p : ℕ) → Tied b t → is_open_at t.requests p ≡ true → is_told (b.story (name_at t.requests p)) ≡ false
 open_told b t p h o = open_untold (b.story (name_at t.requests p)) ((request_story b t p h (open_within t.requests p o)).open_is ∙ o)
 
 -- who took its place in this turn, and is in the queue, stands within its size
-queue_within_size : (b : Book) (t : Inner) (p : ℕ) → Tied b t → IsRunning t → IsIn p (queue_ids (link_in t.life).queue) → IsIn p t.moved → is_outside b (name_at t.requests p) ≡ false
+queue_within_size : (b : Book) (t : TurnState) (p : ℕ) → Tied b t → IsRunning t → IsIn p (queue_ids (link_in t.life).queue) → IsIn p t.moved → is_outside b (name_at t.requests p) ≡ false
 queue_within_size b t p h r i moved =
     let n = name_at t.requests p in
     let queue = (link_in t.life).queue in
@@ -256,7 +256,7 @@ queue_within_size b t p h r i moved =
     fewer_inside b t p h r (queue_on b t p h i) (omega arith)
 
 -- who stands in the queue has its place
-queue_inside : (b : Book) (t : Inner) (p : ℕ) → Tied b t → IsRunning t → IsIn p (queue_ids (link_in t.life).queue) → is_outside b (name_at t.requests p) ≡ false
+queue_inside : (b : Book) (t : TurnState) (p : ℕ) → Tied b t → IsRunning t → IsIn p (queue_ids (link_in t.life).queue) → is_outside b (name_at t.requests p) ≡ false
 queue_inside b t p h r i =
     let n = name_at t.requests p in
     let s = b.story n in
@@ -269,7 +269,7 @@ queue_inside b t p h r i =
     ]
 
 -- a message of the queue starts next, or waits while its link is held back
-pub queue_step : (b : Book) (t : Inner) (p : ℕ) → Tied b t → IsRunning t → IsIn p (queue_ids (link_in t.life).queue) → next_step b (name_at t.requests p) ≡ starts_or_waits (holds_back (link_in t.life))
+pub queue_step : (b : Book) (t : TurnState) (p : ℕ) → Tied b t → IsRunning t → IsIn p (queue_ids (link_in t.life).queue) → next_step b (name_at t.requests p) ≡ starts_or_waits (holds_back (link_in t.life))
 queue_step b t p h r i =
     let n = name_at t.requests p in
     let s = b.story n in
@@ -281,7 +281,7 @@ queue_step b t p h r i =
     ]
 
 -- who waits while the queue holds its size stands outside
-kept_outside : (b : Book) (t : Inner) (p : ℕ) → Tied b t → IsRunning t → is_full_beside (link_in t.life) (in_front t.renewal) ≡ true → shown_wait b.story t.requests p ≢ Some wait.Room → is_open_at t.requests p ≡ true → IsIn p (kept_ids t.admitted t.waiting) → is_outside b (name_at t.requests p) ≡ true
+kept_outside : (b : Book) (t : TurnState) (p : ℕ) → Tied b t → IsRunning t → is_full_beside (link_in t.life) (in_front t.renewal) ≡ true → shown_wait b.story t.requests p ≢ Some wait.Room → is_open_at t.requests p ≡ true → IsIn p (kept_ids t.admitted t.waiting) → is_outside b (name_at t.requests p) ≡ true
 kept_outside b t p h r full shown o i =
     let n = name_at t.requests p in
     let queue = (link_in t.life).queue in
@@ -302,7 +302,7 @@ kept_outside b t p h r full shown o i =
     many_outside b t p h r (open_on b t p h o) none (omega arith)
 
 -- so it waits for a place, where it was let in
-pub full_step : (b : Book) (t : Inner) (p : ℕ) → Tied b t → IsRunning t → is_full_beside (link_in t.life) (in_front t.renewal) ≡ true → is_admitted_at t.requests p ≡ true → IsIn p (waiting_ids t.admitted) → next_step b (name_at t.requests p) ≡ waits wait.Place
+pub full_step : (b : Book) (t : TurnState) (p : ℕ) → Tied b t → IsRunning t → is_full_beside (link_in t.life) (in_front t.renewal) ≡ true → is_admitted_at t.requests p ≡ true → IsIn p (waiting_ids t.admitted) → next_step b (name_at t.requests p) ≡ waits wait.Place
 full_step b t p h r full a i =
     let s = b.story (name_at t.requests p) in
     let o = (admitted_open t.requests p a).0 in
@@ -310,7 +310,7 @@ full_step b t p h r full a i =
     ∙ (λ k. step_placed (kept_outside b t p h r full (h.waits.seatless p a) o (in_left p (waiting_ids t.admitted) (waiting_ids t.waiting) i) k) (is_awaited s) (holds_back (link_in t.life)))
 
 -- the first of those that wait has its place next, while the queue has room
-first_inside : (b : Book) (t : Inner) (p : ℕ) (rest : List ℕ) → Tied b t → IsRunning t → is_full_beside (link_in t.life) (in_front t.renewal) ≡ false → is_open_at t.requests p ≡ true → kept_ids t.admitted t.waiting ≡ p ∷ rest → is_outside b (name_at t.requests p) ≡ false
+first_inside : (b : Book) (t : TurnState) (p : ℕ) (rest : List ℕ) → Tied b t → IsRunning t → is_full_beside (link_in t.life) (in_front t.renewal) ≡ false → is_open_at t.requests p ≡ true → kept_ids t.admitted t.waiting ≡ p ∷ rest → is_outside b (name_at t.requests p) ≡ false
 first_inside b t p rest h r room o first =
     let n = name_at t.requests p in
     let queue = (link_in t.life).queue in
@@ -333,24 +333,24 @@ first_inside b t p rest h r room o first =
     fewer_inside b t p h r (open_on b t p h o) (omega arith)
 
 -- so it is told there where nobody awaits its reply, and it was let in
-pub first_step : (b : Book) (t : Inner) (p : ℕ) (rest : List ℕ) → Tied b t → IsRunning t → is_full_beside (link_in t.life) (in_front t.renewal) ≡ false → is_open_at t.requests p ≡ true → kept_ids t.admitted t.waiting ≡ p ∷ rest → is_let_in t.limit (b.story (name_at t.requests p)) ≡ true
+pub first_step : (b : Book) (t : TurnState) (p : ℕ) (rest : List ℕ) → Tied b t → IsRunning t → is_full_beside (link_in t.life) (in_front t.renewal) ≡ false → is_open_at t.requests p ≡ true → kept_ids t.admitted t.waiting ≡ p ∷ rest → is_let_in t.limit (b.story (name_at t.requests p)) ≡ true
     → is_unbegun_at t.requests p ≡ false → is_awaited (b.story (name_at t.requests p)) ≡ false → next_step b (name_at t.requests p) ≡ tells
 first_step b t p rest h r room o first is begun unawaited =
     let_in_step b t p h r (open_on b t p h o) (open_told b t p h o) (has_begun b t p h o (λ shows. begun)) is
     ∙ (λ k. step_placed (first_inside b t p rest h r room o first k) (unawaited k) (holds_back (link_in t.life)))
 
 -- where rounds are shown its round has begun
-abbrev pub HasBegun : Inner → ℕ → Type 0
+abbrev pub HasBegun : TurnState → ℕ → Type 0
 HasBegun t p = t.rounds ≡ true → is_unbegun_at t.requests p ≡ false
 
 -- the step of one that holds no permits
 --
 -- as many are free by the book
-free_is : (b : Book) (t : Inner) (k : ℕ) → Tied b t → t.limit ≡ Some k → free_permits b t.link k ≡ t.free
+free_is : (b : Book) (t : TurnState) (k : ℕ) → Tied b t → t.limit ≡ Some k → free_permits b t.link k ≡ t.free
 free_is b t k h e = let sum = h.permits.counted k e in omega arith
 
 -- where permits are counted, it takes some, or waits for one
-early_step : (b : Book) (t : Inner) (p k : ℕ) → Tied b t → IsRunning t → is_waiting_at t.requests p ≡ true → HasBegun t p → (IsIn p t.letting → ⊥) → t.limit ≡ Some k
+early_step : (b : Book) (t : TurnState) (p k : ℕ) → Tied b t → IsRunning t → is_waiting_at t.requests p ≡ true → HasBegun t p → (IsIn p t.being_admitted → ⊥) → t.limit ≡ Some k
     → next_step b (name_at t.requests p) ≡ step_taking t.free (permits_for (shape (b.story (name_at t.requests p))) k)
 early_step b t p k h r w begun out e =
     let n = name_at t.requests p in
@@ -366,7 +366,7 @@ early_step b t p k h r w begun out e =
     ∙ ap (λ f. step_taking f (permits_for (shape s) k)) (free_is b t k h e)
 
 -- it waits for one where none is free
-pub permit_step : (b : Book) (t : Inner) (p : ℕ) → Tied b t → IsRunning t → is_waiting_at t.requests p ≡ true → HasBegun t p → (IsIn p t.letting → ⊥) → has_no_permit t.limit t.free ≡ true → next_step b (name_at t.requests p) ≡ waits wait.Permit
+pub permit_step : (b : Book) (t : TurnState) (p : ℕ) → Tied b t → IsRunning t → is_waiting_at t.requests p ≡ true → HasBegun t p → (IsIn p t.being_admitted → ⊥) → has_no_permit t.limit t.free ≡ true → next_step b (name_at t.requests p) ≡ waits wait.Permit
 permit_step b t p h r w begun out none = by_limit t.limit refl none
   where
     by_limit : (x : Option ℕ) → t.limit ≡ x → has_no_permit x t.free ≡ true → next_step b (name_at t.requests p) ≡ waits wait.Permit
@@ -374,7 +374,7 @@ permit_step b t p h r w begun out none = by_limit t.limit refl none
     by_limit (Some k) e n = early_step b t p k h r w begun out e ∙ ap (λ f. step_taking f (permits_for (shape (b.story (name_at t.requests p))) k)) (eq_from t.free 0 n)
 
 -- and takes some where some are
-pub take_step : (b : Book) (t : Inner) (p k : ℕ) → Tied b t → IsRunning t → is_waiting_at t.requests p ≡ true → HasBegun t p → (IsIn p t.letting → ⊥) → t.limit ≡ Some k → t.free ≢ 0
+pub take_step : (b : Book) (t : TurnState) (p k : ℕ) → Tied b t → IsRunning t → is_waiting_at t.requests p ≡ true → HasBegun t p → (IsIn p t.being_admitted → ⊥) → t.limit ≡ Some k → t.free ≢ 0
     → next_step b (name_at t.requests p) ≡ takes (min t.free (permits_for (shape (b.story (name_at t.requests p))) k))
 take_step b t p k h r w begun out e some = early_step b t p k h r w begun out e ∙ taking_is t.free (permits_for (shape (b.story (name_at t.requests p))) k) some
   where
@@ -383,7 +383,7 @@ take_step b t p k h r w begun out e some = early_step b t p k h r w begun out e 
     taking_is (suc free) most some = refl
 
 -- one that holds its permits, if they are counted, asks for its timer
-pub ask_step : (b : Book) (t : Inner) (p ms : ℕ) → Tied b t → IsRunning t → is_open_at t.requests p ≡ true → HasBegun t p → (is_none t.limit || nat_lt 0 (b.story (name_at t.requests p)).permits) ≡ true → (b.story (name_at t.requests p)).timeout ≡ Some ms
+pub ask_step : (b : Book) (t : TurnState) (p ms : ℕ) → Tied b t → IsRunning t → is_open_at t.requests p ≡ true → HasBegun t p → (is_none t.limit || nat_lt 0 (b.story (name_at t.requests p)).permits) ≡ true → (b.story (name_at t.requests p)).timeout ≡ Some ms
     → (b.story (name_at t.requests p)).clock ≡ None → next_step b (name_at t.requests p) ≡ asks ms
 ask_step b t p ms h r o begun has time none =
     let n = name_at t.requests p in
@@ -396,7 +396,7 @@ ask_step b t p ms h r o begun has time none =
     ∙ (λ i. step_timed (time i) (none i) seat)
 
 -- the round of one that waits without it begins, where rounds are shown
-pub round_step : (b : Book) (t : Inner) (p : ℕ) → Tied b t → IsRunning t → t.rounds ≡ true → is_unbegun_at t.requests p ≡ true → next_step b (name_at t.requests p) ≡ rounds
+pub round_step : (b : Book) (t : TurnState) (p : ℕ) → Tied b t → IsRunning t → t.rounds ≡ true → is_unbegun_at t.requests p ≡ true → next_step b (name_at t.requests p) ≡ rounds
 round_step b t p h r shows u =
     let n = name_at t.requests p in
     let s = b.story n in
@@ -406,7 +406,7 @@ round_step b t p h r shows u =
     ∙ (λ i. step_open (open_told b t p h o i) held (step_rounding ((h.rounds.rounds_is ∙ shows) i) (h.rounds.unbegun p u i) (step_begun b n s t.link t.limit held)))
 
 -- the step of one on a link that is set up, while what is subscribed again there isn't answered: it waits for that
-pub repeat_step : (b : Book) (t : Inner) (p : ℕ) (link : LinkState) → Tied b t → t.life ≡ Ready link → is_outstanding t.again ≡ true → (b.story (name_at t.requests p)).link ≡ t.link → next_step b (name_at t.requests p) ≡ waits wait.Resubscribe
+pub repeat_step : (b : Book) (t : TurnState) (p : ℕ) (link : LinkState) → Tied b t → t.life ≡ Ready link → is_outstanding t.again ≡ true → (b.story (name_at t.requests p)).link ≡ t.link → next_step b (name_at t.requests p) ≡ waits wait.Resubscribe
 repeat_step b t p link h ready goes on =
     let n = name_at t.requests p in
     let s = b.story n in
@@ -417,13 +417,13 @@ repeat_step b t p link h ready goes on =
 -- the step of a submission while the connect isn't answered
 --
 -- it waits for the connect
-pub dialing_step : (b : Book) (t : Inner) (p : ℕ) → Tied b t → t.life ≡ Dialing → (b.story (name_at t.requests p)).link ≡ t.link → next_step b (name_at t.requests p) ≡ waits wait.Connect
+pub dialing_step : (b : Book) (t : TurnState) (p : ℕ) → Tied b t → t.life ≡ Dialing → (b.story (name_at t.requests p)).link ≡ t.link → next_step b (name_at t.requests p) ≡ waits wait.Connect
 dialing_step b t p h dialing on =
     let s = b.story (name_at t.requests p) in
     taken_if (dials (b.link s.link)) (waits wait.Connect) _ (ap (λ l. dials (b.link l)) on ∙ dialing_dials (b.link t.link) b.created t.life dialing h.life)
 
 -- without a link it waits for one
-pub resting_step : (b : Book) (t : Inner) (p : ℕ) → Tied b t → t.life ≡ Resting → (b.story (name_at t.requests p)).link ≡ t.link → next_step b (name_at t.requests p) ≡ waits wait.Backoff
+pub resting_step : (b : Book) (t : TurnState) (p : ℕ) → Tied b t → t.life ≡ Resting → (b.story (name_at t.requests p)).link ≡ t.link → next_step b (name_at t.requests p) ≡ waits wait.Backoff
 resting_step b t p h rests on =
     let l = b.link (b.story (name_at t.requests p)).link in
     let life = subst (λ m. TiedLife (b.link m) b.created Resting) (sym on) (subst (TiedLife (b.link t.link) b.created) rests h.life) in
@@ -432,7 +432,7 @@ resting_step b t p h rests on =
     ∙ ap step_down life.0
 
 -- and the setup, while the link isn't set up
-pub setup_step : (b : Book) (t : Inner) (p : ℕ) (link : LinkState) (greeting : Greeting) → Tied b t → t.life ≡ SettingUp link greeting → (b.story (name_at t.requests p)).link ≡ t.link → next_step b (name_at t.requests p) ≡ waits wait.Setup
+pub setup_step : (b : Book) (t : TurnState) (p : ℕ) (link : LinkState) (greeting : Greeting) → Tied b t → t.life ≡ SettingUp link greeting → (b.story (name_at t.requests p)).link ≡ t.link → next_step b (name_at t.requests p) ≡ waits wait.Setup
 setup_step b t p link greeting h setting on =
     let l = b.link t.link in
     let life = subst (TiedLife l b.created) setting h.life in
@@ -442,7 +442,7 @@ setup_step b t p link greeting h setting on =
     ∙ ap (λ (kind : WaitKind). waits kind) (ap (λ m. unready_wait (b.link m)) on ∙ left_if (lacks_credentials l) wait.Creds wait.Setup has)
 
 -- and credentials, while they are to come
-pub creds_step : (b : Book) (t : Inner) (p : ℕ) (link : LinkState) → Tied b t → t.life ≡ Wanting link → (b.story (name_at t.requests p)).link ≡ t.link → next_step b (name_at t.requests p) ≡ waits wait.Creds
+pub creds_step : (b : Book) (t : TurnState) (p : ℕ) (link : LinkState) → Tied b t → t.life ≡ Wanting link → (b.story (name_at t.requests p)).link ≡ t.link → next_step b (name_at t.requests p) ≡ waits wait.Creds
 creds_step b t p link h wanting on =
     let l = b.link t.link in
     let life = subst (TiedLife l b.created) wanting h.life in

@@ -6,7 +6,7 @@ use Rattle.mux_conn.specs.declared.act.LinkAct.{LinkAct}
 use Rattle.single_session.specs.Turn.{shown, shown_each, source_of, sources_of, timer_of, timers_of}
 use Rattle.legal_trace.specs.Book.{Book, blank_book, book, entered, entered_each}
 use Rattle.legal_trace.specs.Legal.{MayStand, AllStand}
-use Rattle.session_laws.proofs.Ties.Tied.{Inner, Tied, Sound}
+use Rattle.session_laws.proofs.Ties.Tied.{TurnState, Tied, Sound}
 
 -- actions, and then others
 pub entered_each-append : (b : Book) (xs ys : List Action) → entered_each b (xs ++ ys) ≡ entered_each (entered_each b xs) ys
@@ -43,7 +43,7 @@ unfolding book
 all_stand_behind xs ys h = stand_behind blank_book xs ys h
 
 -- one more action that may stand, with what ties the session to its book
-pub sound_more : (t : List Action) (a : Action) (p : Inner) → AllStand blank_book t → MayStand (book t) a → Tied (entered (book t) a) p → Sound (t ++ a ∷ []) p
+pub sound_more : (t : List Action) (a : Action) (p : TurnState) → AllStand blank_book t → MayStand (book t) a → Tied (entered (book t) a) p → Sound (t ++ a ∷ []) p
 sound_more t a p h may tied = record {
   stands = all_stand-append t (a ∷ []) h (may, tt);
   tied = subst (λ (b : Book). Tied b p) (sym (book_more t a)) tied;

@@ -13,10 +13,10 @@ use Rattle.session_laws.proofs.Ties.Owes.{request_story}
 use Rattle.conn_laws.proofs.Internal.Repeats.{TiedRepeat, serves}
 use Rattle.conn_laws.proofs.Links.Server.{TiedCreds, TiedSetup, hearing_at, TiedRenewal}
 use Rattle.conn_laws.proofs.Ties.Tied.{AreAside, AreLate, AreQueued, IsAside, IsRequest, TiedCreation, TiedLife, TiedLines, TiedNames, TiedPermits, TiedNotices, TiedRounds, TiedStory, TiedTries, TiedWaits, carried, has_ended, link_in, whole_link, is_reading, AreUses, AreEarly}
-use Rattle.session_laws.proofs.Ties.Tied.{Inner, StaysCalm, Tied, TiedCourse, TiedNumbers}
+use Rattle.session_laws.proofs.Ties.Tied.{TurnState, StaysCalm, Tied, TiedCourse, TiedNumbers}
 
 -- a session and the ledger of its link, which is that of the book
-pub record TiedBy (b : Book) (t : Inner) (l : Ledger) : Type 0 where
+pub record TiedBy (b : Book) (t : TurnState) (l : Ledger) : Type 0 where
   pub numbers : TiedNumbers b t
   pub others : AreAside t.link t.links b.link t.hears t.renewal.within b.created
   pub notices : TiedNotices (hearing_in b.config) t.hears (hearing_at t.life t.hears l.hearing) l.notices l.told l.end l.parted l.strange (is_reading l) t.untold t.parting
@@ -36,13 +36,13 @@ pub record TiedBy (b : Book) (t : Inner) (l : Ledger) : Type 0 where
   pub lines : TiedLines b.story t.requests (link_in t.life) t.waiting t.admitted t.pending t.started
   pub told : has_ended t.life ≡ false → AreQueued b.story t.requests t.link (link_in t.life)
   pub waits : TiedWaits b.story t.requests t.again t.life t.fresh t.moved
-  pub permits : TiedPermits b.story b.submissions t.requests t.link t.limit t.free t.letting
+  pub permits : TiedPermits b.story b.submissions t.requests t.link t.limit t.free t.being_admitted
   pub rounds : TiedRounds (has_generations b) b.story t.requests (serves t.life t.again) t.fresh t.rounds
   pub early : AreEarly t.requests t.again t.life
   pub late : AreLate b.story t.requests t.pending
 
 -- so the session is tied to the book
-pub tied_by : (b : Book) (t : Inner) (l : Ledger) → b.link t.link ≡ l → TiedBy b t l → Tied b t
+pub tied_by : (b : Book) (t : TurnState) (l : Ledger) → b.link t.link ≡ l → TiedBy b t l → Tied b t
 tied_by b t l e h = record {
   numbers = h.numbers;
   others = h.others;
@@ -70,7 +70,7 @@ tied_by b t l e h = record {
 }
 
 -- the numbers say nothing of since when places are had, and new credentials are due
-pub replaced_numbers : (b : Book) (t : Inner) (placed : ℕ → Option ℕ) (since : ℕ → ℕ) → TiedNumbers b t → TiedNumbers (record b { placed = placed; since = since }) t
+pub replaced_numbers : (b : Book) (t : TurnState) (placed : ℕ → Option ℕ) (since : ℕ → ℕ) → TiedNumbers b t → TiedNumbers (record b { placed = placed; since = since }) t
 replaced_numbers b t placed since h = record {
   turns = h.turns;
   links = h.links;
@@ -96,7 +96,7 @@ replaced_numbers b t placed since h = record {
 }
 
 -- nor does any tie
-pub replaced : (b : Book) (t : Inner) (placed : ℕ → Option ℕ) (since : ℕ → ℕ) → Tied b t → Tied (record b { placed = placed; since = since }) t
+pub replaced : (b : Book) (t : TurnState) (placed : ℕ → Option ℕ) (since : ℕ → ℕ) → Tied b t → Tied (record b { placed = placed; since = since }) t
 replaced b t placed since h = record {
   numbers = replaced_numbers b t placed since h.numbers;
   others = h.others;
@@ -133,7 +133,7 @@ others_kept {links = links} {created = created} {heard = heard} {within = within
     if_false (λ (ls : List Line). IsAside links m (noted_each (b.link m) ls) heard within created) (n == m) (line ∷ []) [] (ne_test n m (λ e. other (sym e))) (h m other)
 
 -- one request's story changes
-pub one_changed : (b : Book) (t : Inner) (p : ℕ) (g : Story → Story) → Tied b t → p < length t.requests
+pub one_changed : (b : Book) (t : TurnState) (p : ℕ) (g : Story → Story) → Tied b t → p < length t.requests
     → (let m = name_at t.requests p in IsRequest (b.story m) t.requests t.link p → IsRequest (g (b.story m)) t.requests t.link p)
     → (n : ℕ) → TiedStory (if_own (name_at t.requests p == n) (g (b.story n)) (b.story n)) t.requests t.link (slice_get t.table n)
 one_changed b t p g h l f n =

@@ -11,18 +11,18 @@ use Rattle.conn_laws.proofs.Ties.Numbers.{IsIn, in_either, requests_in, request_
 use Rattle.conn_laws.proofs.Ties.Owes.{lives, row_link, wanted_entry}
 use Rattle.session_laws.proofs.Ties.Owes.{open_request, stands_started}
 use Rattle.conn_laws.proofs.Ties.Tied.{IsKept, link_in, owner_of, queue_ids, has_ended}
-use Rattle.session_laws.proofs.Ties.Tied.{Inner, Tied}
+use Rattle.session_laws.proofs.Ties.Tied.{TurnState, Tied}
 use Rattle.conn_laws.proofs.Ties.Moves.{unstarted_alive, unstarted_tries}
 
 -- a submission that is still to start is in the queue, or waits
-pub record IsLater (t : Inner) (n : ℕ) : Type 0 where
+pub record IsLater (t : TurnState) (n : ℕ) : Type 0 where
   pub p : ℕ
   pub within : p < length t.requests
   pub name : name_at t.requests p ≡ n
   pub later : IsIn p (queue_ids (link_in t.life).queue) ⊎ IsKept t.requests t.waiting t.admitted p
 
 -- what is in the row has started
-row_started : (b : Book) (t : Inner) (p : ℕ) → Tied b t → has_ended t.life ≡ false → p < length t.requests → IsIn p (row_ids (link_in t.life).row) → (b.story (name_at t.requests p)).tries ≢ []
+row_started : (b : Book) (t : TurnState) (p : ℕ) → Tied b t → has_ended t.life ≡ false → p < length t.requests → IsIn p (row_ids (link_in t.life).row) → (b.story (name_at t.requests p)).tries ≢ []
 row_started b t p h n within i e =
     let l = b.link t.link in
     let alive = lives l b.created t.life h.life n in
@@ -35,7 +35,7 @@ row_started b t p h n within i e =
     some_tries e = cc
 
 -- where nothing is to be answered, an open submission without a message is in the queue or waits
-open_later : (b : Book) (t : Inner) (n : ℕ) → Tied b t → t.pending ≡ [] → has_ended t.life ≡ false → (b.story n).tries ≡ [] → is_open (b.story n) ≡ true → IsLater t n
+open_later : (b : Book) (t : TurnState) (n : ℕ) → Tied b t → t.pending ≡ [] → has_ended t.life ≡ false → (b.story n).tries ≡ [] → is_open (b.story n) ≡ true → IsLater t n
 open_later b t n h none up unstarted o =
     let r = open_request b t n h o in
     let within = open_within t.requests r.number r.open_at in
@@ -55,7 +55,7 @@ open_later b t n h none up unstarted o =
     }
 
 -- one that is still to start on the connection's link, where this has not ended
-pub later_of : (b : Book) (t : Inner) (n : ℕ) → Tied b t → t.pending ≡ [] → has_ended t.life ≡ false → (b.story n).link ≡ t.link → is_unstarted (b.story n) ≡ true → IsLater t n
+pub later_of : (b : Book) (t : TurnState) (n : ℕ) → Tied b t → t.pending ≡ [] → has_ended t.life ≡ false → (b.story n).link ≡ t.link → is_unstarted (b.story n) ≡ true → IsLater t n
 later_of b t n h none up on e =
     let untried = unstarted_tries (b.story n) e in
     elim (unstarted_alive (b.story n) e) [

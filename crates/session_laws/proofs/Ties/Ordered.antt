@@ -33,7 +33,7 @@ use Rattle.conn_laws.proofs.Ties.Numbers.{IsIn, Rising, requests_in, rising_in, 
 use Rattle.conn_laws.proofs.Ties.Places.{place_of_taken, taken_still}
 use Rattle.session_laws.proofs.Ties.Places.{places_stay, untaken}
 use Rattle.conn_laws.proofs.Ties.Tied.{IsKept, has_ended, link_in, queue_ids}
-use Rattle.session_laws.proofs.Ties.Tied.{Inner, Tied}
+use Rattle.session_laws.proofs.Ties.Tied.{TurnState, Tied}
 use Rattle.conn_laws.proofs.Ties.Ordered.{behind_queue, early_unroomed, last_in_queue, none_up_to, number_in, queue_up_to}
 
 -- of the requests of a session that are to start on its link, those up to this one took their places before new credentials of the link
@@ -58,7 +58,7 @@ pub record StaysOrdered (b : Book) (l : ℕ) (table : List (Option Pending)) (r 
 -- places that were taken
 --
 -- who is in the queue has its place, where none was moved
-pub queue_placed : (b : Book) (t : Inner) (p : ℕ) → Tied b t → t.moved ≡ [] → IsIn p (queue_ids (link_in t.life).queue) → has_place (b.story (name_at t.requests p)) ≡ true
+pub queue_placed : (b : Book) (t : TurnState) (p : ℕ) → Tied b t → t.moved ≡ [] → IsIn p (queue_ids (link_in t.life).queue) → has_place (b.story (name_at t.requests p)) ≡ true
 queue_placed b t p h none i =
     let s : Story = b.story (name_at t.requests p) in
     elim (queue_awaited b.story t.requests (link_in t.life).queue p h.lines.queued i) [
@@ -70,7 +70,7 @@ queue_placed b t p h none i =
     ]
 
 -- and who waits so, or for a place, has none
-pub kept_unplaced : (b : Book) (t : Inner) (p : ℕ) → Tied b t → IsKept t.requests t.waiting t.admitted p → has_place (b.story (name_at t.requests p)) ≡ false
+pub kept_unplaced : (b : Book) (t : TurnState) (p : ℕ) → Tied b t → IsKept t.requests t.waiting t.admitted p → has_place (b.story (name_at t.requests p)) ≡ false
 kept_unplaced b t p h (inl a) =
     let s : Story = b.story (name_at t.requests p) in
     λ i. not_room s.waiting (h.waits.seatless p a.0) i || open_told b t p h (admitted_open t.requests p a.0).0 i
@@ -79,18 +79,18 @@ kept_unplaced b t p h (inr w) =
     λ i. early_unroomed s.waiting (h.waits.early p w.0) i || open_told b t p h (waiting_open t.requests p w.0) i
 
 -- who is to start on the link of a session that has not ended is a request, in the queue, or one that waits
-pub start_later : (b : Book) (t : Inner) (n : ℕ) → Tied b t → t.pending ≡ [] → has_ended t.life ≡ false → is_to_start t.link (b.story n) ≡ true → IsLater t n
+pub start_later : (b : Book) (t : TurnState) (n : ℕ) → Tied b t → t.pending ≡ [] → has_ended t.life ≡ false → is_to_start t.link (b.story n) ≡ true → IsLater t n
 start_later b t n h none up to = later_of b t n h none up
     (eq_from (b.story n).link t.link (both_left ((b.story n).link == t.link) (is_unstarted (b.story n)) to)) (both_right ((b.story n).link == t.link) (is_unstarted (b.story n)) to)
 
 -- the last of a queue
 --
 -- the line of a session, from the queue on
-pub queue_line : (b : Book) (t : Inner) → Tied b t → Rising 0 (queue_ids (link_in t.life).queue ++ kept_ids t.admitted t.waiting) (length t.requests)
+pub queue_line : (b : Book) (t : TurnState) → Tied b t → Rising 0 (queue_ids (link_in t.life).queue ++ kept_ids t.admitted t.waiting) (length t.requests)
 queue_line b t h = rising_right 0 (requests_in t.started) (queue_ids (link_in t.life).queue ++ kept_ids t.admitted t.waiting) (length t.requests) h.lines.line
 
 -- the number of a request is that of its submission
-pub number_of : (b : Book) (t : Inner) (n k : ℕ) → Tied b t → (x : IsLater t n) → slice_get t.table n ≡ Some (Some (record { number = k })) → x.p ≡ k
+pub number_of : (b : Book) (t : TurnState) (n k : ℕ) → Tied b t → (x : IsLater t n) → slice_get t.table n ≡ Some (Some (record { number = k })) → x.p ≡ k
 number_of b t n k h x e =
     let own : slice_get t.table n ≡ Some (Some (record { number = x.p })) = subst (λ m. slice_get t.table m ≡ Some (Some (record { number = x.p }))) x.name (name_placed t.table t.requests x.p h.names x.within) in
     same_number x.p k (sym own ∙ e)
@@ -101,7 +101,7 @@ number_of b t n k h x e =
 -- they are asked for
 --
 -- all that are in the queue then are ahead of them, where they took their places before
-pub asked_ordered : (b : Book) (t : Inner) (link : LinkState) → Tied b t → Knows b → t.pending ≡ [] → t.moved ≡ [] → t.life ≡ Ready link
+pub asked_ordered : (b : Book) (t : TurnState) (link : LinkState) → Tied b t → Knows b → t.pending ≡ [] → t.moved ≡ [] → t.life ≡ Ready link
     → ((n j : ℕ) → is_to_start t.link (b.story n) ≡ true → b.placed n ≡ Some j → j < b.since t.link) → AreOrdered b t.link t.table (last_in link.queue)
 asked_ordered b t link h k settled none life before = record {
   known = λ p e.
@@ -165,7 +165,7 @@ ordered_on b front l table last all k begun asked counted same h = record {
 }
 
 -- nobody is ahead of them, where the first of the queue isn't
-pub none_ahead : (b : Book) (t : Inner) (link : LinkState) (last : Option ℕ) → Tied b t → Knows b → t.pending ≡ [] → t.life ≡ Ready link → AreOrdered b t.link t.table last → is_first_up_to last link.queue ≡ false → any_below (is_ahead b t.link) b.submissions ≡ false
+pub none_ahead : (b : Book) (t : TurnState) (link : LinkState) (last : Option ℕ) → Tied b t → Knows b → t.pending ≡ [] → t.life ≡ Ready link → AreOrdered b t.link t.table last → is_first_up_to last link.queue ≡ false → any_below (is_ahead b t.link) b.submissions ≡ false
 none_ahead b t link last h k settled life ordered none = by_test (any_below (is_ahead b t.link) b.submissions) (any_below (is_ahead b t.link) b.submissions ≡ false)
     (λ some.
     let x = any_from (is_ahead b t.link) b.submissions some in

@@ -5,7 +5,7 @@ use Rattle.single_session.specs.declared.core_state.Core.{Core}
 use Rattle.single_session.specs.Turn.{Turning, numbered, shown_each}
 use Rattle.legal_trace.specs.Book.{blank_book, book}
 use Rattle.legal_trace.specs.Legal.{AllStand, IsShown, NoneEnds, IsSettled}
-use Rattle.session_laws.proofs.Ties.Tied.{IsHeeded, IsRetiring, Sound, inner}
+use Rattle.session_laws.proofs.Ties.Tied.{IsHeeded, AfterFailedAttempt, Sound, inner}
 use Rattle.session_laws.proofs.Internal.Informed.{IsInformed}
 use Rattle.conn_laws.proofs.Ties.States.{IsFitIn, IsStill, IsStopped}
 
@@ -43,7 +43,7 @@ pub record HasApplied (before : List Action) (t : Turning) (started : List ℕ) 
 -- or the opening of its link has failed in it, and another attempt follows
 pub record HasRetired (before : List Action) (t : Turning) : Type 0 where
   pub stands : AllStand blank_book (trace_with before t)
-  pub retiring : IsRetiring (book (trace_with before t)) (inner (numbered t).core [])
+  pub retiring : AfterFailedAttempt (book (trace_with before t)) (inner (numbered t).core [])
   pub shown : IsShown (book (trace_with before t))
   pub began : t.core.turns ≢ 0
   pub fit : IsFitIn t.core.single.connection

@@ -47,7 +47,7 @@ use Rattle.conn_laws.proofs.Ties.Tied.{AreAside, AreEarly, AreLate, AreQueued, A
 -- those that wait for the connection, those that wait for a place, those that came in this turn and those that were moved in it,
 -- whose waits aren't shown yet; whether rounds are shown; the one that is being let in; the requests that are settled and not answered yet; and the numbers
 -- of the messages that started behind the setups, in order: a request's, or the driver's own
-pub record Inner : Type 0 where
+pub record TurnState : Type 0 where
   pub manager : Option Generations
   pub turns : ℕ
   pub links : ℕ
@@ -79,7 +79,7 @@ pub record Inner : Type 0 where
   pub fresh : List ℕ
   pub moved : List ℕ
   pub rounds : Bool
-  pub letting : List ℕ
+  pub being_admitted : List ℕ
   pub pending : List ℕ
   pub started : List ℕ
 
@@ -145,7 +145,7 @@ IsHeeded rest failed life (Some g) = HasHeeded rest failed life g
 -- before it, for a submission, or for the wait behind a failed attempt, and one was asked for each bounded connect; where it waits for
 -- its first submission it was created; what doesn't come back opens its link once; what is told to its server is to be answered within the
 -- configured time; and no more numbers were given to submissions than there are
-pub record TiedNumbers (b : Book) (t : Inner) : Type 0 where
+pub record TiedNumbers (b : Book) (t : TurnState) : Type 0 where
   pub turns : b.turns ≡ t.turns
   pub links : b.links ≡ t.links
   pub submissions : b.submissions ≡ length t.table
@@ -185,19 +185,19 @@ HasCourse is_last end links link shut manager last opened info address (Ready st
 HasCourse is_last end links link shut manager last opened info address (Ended e) = (links ≡ link + 1) × (is_begun manager ≡ true) × IsOver end shut opened
 
 -- of a session, by whether the ledger of its link says that no other attempt follows, and by its end
-abbrev pub TiedCourse : Bool → Option End → Inner → Type 0
+abbrev pub TiedCourse : Bool → Option End → TurnState → Type 0
 TiedCourse is_last end t = HasCourse is_last end t.links t.link t.shut t.manager t.last t.opened t.info t.address t.life
 
 -- none of these errors is a cause for the next generation, where the opening of a link has not failed
-abbrev pub AreCalm : List RedisError → Type 0
-AreCalm errors = list_any (is_cause None) errors ≡ false
+abbrev pub NoReconnectCause : List RedisError → Type 0
+NoReconnectCause errors = list_any (is_cause None) errors ≡ false
 
 -- so it is of all with which submissions were answered in the turn that runs, until the link ends or everything is shut down
 abbrev pub StaysCalm : List RedisError → Bool → Life → Type 0
-StaysCalm errors shut life = has_ended life ≡ false → shut ≡ false → AreCalm errors
+StaysCalm errors shut life = has_ended life ≡ false → shut ≡ false → NoReconnectCause errors
 
 -- the session is tied to the book
-pub record Tied (b : Book) (t : Inner) : Type 0 where
+pub record Tied (b : Book) (t : TurnState) : Type 0 where
   pub numbers : TiedNumbers b t
   pub others : AreAside t.link t.links b.link t.hears t.renewal.within b.created
   pub notices : TiedNotices (hearing_in b.config) t.hears (hearing_at t.life t.hears (b.link t.link).hearing) (b.link t.link).notices (b.link t.link).told (b.link t.link).end (b.link t.link).parted (b.link t.link).strange (is_reading (b.link t.link)) t.untold t.parting
@@ -217,7 +217,7 @@ pub record Tied (b : Book) (t : Inner) : Type 0 where
   pub lines : TiedLines b.story t.requests (link_in t.life) t.waiting t.admitted t.pending t.started
   pub told : has_ended t.life ≡ false → AreQueued b.story t.requests t.link (link_in t.life)
   pub waits : TiedWaits b.story t.requests t.again t.life t.fresh t.moved
-  pub permits : TiedPermits b.story b.submissions t.requests t.link t.limit t.free t.letting
+  pub permits : TiedPermits b.story b.submissions t.requests t.link t.limit t.free t.being_admitted
   pub rounds : TiedRounds (has_generations b) b.story t.requests (serves t.life t.again) t.fresh t.rounds
   pub early : AreEarly t.requests t.again t.life
   pub late : AreLate b.story t.requests t.pending
@@ -226,7 +226,7 @@ pub record Tied (b : Book) (t : Inner) : Type 0 where
 -- (`Resting`), and the ledger of its link says that it ended as an attempt; the next one isn't asked for. Nothing was ever told there but
 -- what is said before requests, nothing of it is still to be told, and all that are open wait, and are to show that anew. This is no `Tied`
 -- session: it is one again with the timer of the wait, with which they go to the next link
-pub record IsRetiring (b : Book) (t : Inner) : Type 0 where
+pub record AfterFailedAttempt (b : Book) (t : TurnState) : Type 0 where
   pub numbers : TiedNumbers b t
   pub rests : t.life ≡ Resting
   pub comes : is_some t.manager ≡ true
@@ -238,7 +238,7 @@ pub record IsRetiring (b : Book) (t : Inner) : Type 0 where
   pub others : AreAside t.link t.links b.link t.hears t.renewal.within b.created
   pub own : IsAside t.links t.link (b.link t.link) t.hears t.renewal.within b.created
   pub heard_is : hearing_in b.config ≡ t.hears
-  pub calm : AreCalm b.errors
+  pub calm : NoReconnectCause b.errors
   pub creation : TiedCreation b.created t.told
   pub uses : AreUses t.sources t.link (b.link t.link).creds.asked (b.link t.link).creds.renews
   pub renewal : NoneRenewed blank_ledger t.renewal
@@ -253,23 +253,23 @@ pub record IsRetiring (b : Book) (t : Inner) : Type 0 where
   pub started : t.started ≡ []
   pub fresh : t.fresh ≡ waiting_ids t.waiting
   pub free : t.free ≡ unwrap_or t.limit 0
-  pub letting : t.letting ≡ []
+  pub being_admitted : t.being_admitted ≡ []
   pub rounds_is : has_generations b ≡ t.rounds
   pub waiting : (p : ℕ) → is_open_at t.requests p ≡ true → is_unbegun_at t.requests p ≡ true
   pub holds : (p : ℕ) → is_open_at t.requests p ≡ true → (permits_at t.requests p ≡ 0) × ((b.story (name_at t.requests p)).clock ≡ None)
   pub late : AreLate b.story t.requests []
 
 -- all that came is told, and so is the end of the link
-abbrev pub IsToldIn : Inner → Type 0
+abbrev pub IsToldIn : TurnState → Type 0
 IsToldIn t = (t.untold ≡ []) × (t.parting ≡ false)
 
 -- each action of the trace stands where it may, and the session is tied to its book
-pub record Sound (trace : List Action) (t : Inner) : Type 0 where
+pub record Sound (trace : List Action) (t : TurnState) : Type 0 where
   pub stands : AllStand blank_book trace
   pub tied : Tied (book trace) t
 
 -- the session between turns
-abbrev pub inner : Core → List ℕ → Inner
+abbrev pub inner : Core → List ℕ → TurnState
 inner c started = record {
   manager = c.manager;
   turns = c.turns;
@@ -302,15 +302,15 @@ inner c started = record {
   fresh = c.single.connection.fresh;
   moved = c.single.connection.moved;
   rounds = c.single.connection.rounds;
-  letting = [];
+  being_admitted = [];
   pending = [];
   started = started;
 }
 
 -- the numbers, where only links, stories, what is subscribed, errors, since when places are had and new credentials are due, and the connection change
-pub numbers_kept : (b : Book) (link : ℕ → Ledger) (story : ℕ → Story) (tracked : List Call) (errors : List RedisError) (placed : ℕ → Option ℕ) (since : ℕ → ℕ) (t : Inner) (life : Life) (free : ℕ) (requests : List Request) (waiting admitted : List Waiting) (fresh moved letting pending started : List ℕ) → TiedNumbers b t
-    → TiedNumbers (record b { link = link; story = story; tracked = tracked; errors = errors; placed = placed; since = since }) (record t { life = life; free = free; requests = requests; waiting = waiting; admitted = admitted; fresh = fresh; moved = moved; letting = letting; pending = pending; started = started })
-numbers_kept b link story tracked errors placed since t life free requests waiting admitted fresh moved letting pending started h = record {
+pub numbers_kept : (b : Book) (link : ℕ → Ledger) (story : ℕ → Story) (tracked : List Call) (errors : List RedisError) (placed : ℕ → Option ℕ) (since : ℕ → ℕ) (t : TurnState) (life : Life) (free : ℕ) (requests : List Request) (waiting admitted : List Waiting) (fresh moved being_admitted pending started : List ℕ) → TiedNumbers b t
+    → TiedNumbers (record b { link = link; story = story; tracked = tracked; errors = errors; placed = placed; since = since }) (record t { life = life; free = free; requests = requests; waiting = waiting; admitted = admitted; fresh = fresh; moved = moved; being_admitted = being_admitted; pending = pending; started = started })
+numbers_kept b link story tracked errors placed since t life free requests waiting admitted fresh moved being_admitted pending started h = record {
   turns = h.turns;
   links = h.links;
   timers = h.timers;
@@ -337,12 +337,12 @@ numbers_kept b link story tracked errors placed since t life free requests waiti
 -- requests move between those that wait for the connection, those that wait for a place, those whose wait isn't shown yet,
 -- and those that are to be answered: the session stays tied where its lines and its waits are, and who is late is to be
 -- answered
-pub relined : (b : Book) (t : Inner) (waiting admitted : List Waiting) (fresh moved pending : List ℕ) → Tied b t
+pub relined : (b : Book) (t : TurnState) (waiting admitted : List Waiting) (fresh moved pending : List ℕ) → Tied b t
     → TiedLines b.story t.requests (link_in t.life) waiting admitted pending t.started → TiedWaits b.story t.requests t.again t.life fresh moved
     → TiedRounds (has_generations b) b.story t.requests (serves t.life t.again) fresh t.rounds → AreLate b.story t.requests pending
     → Tied b (record t { waiting = waiting; admitted = admitted; fresh = fresh; moved = moved; pending = pending })
 relined b t waiting admitted fresh moved pending h lines waits rounds late = record {
-  numbers = numbers_kept b b.link b.story b.tracked b.errors b.placed b.since t t.life t.free t.requests waiting admitted fresh moved t.letting pending t.started h.numbers;
+  numbers = numbers_kept b b.link b.story b.tracked b.errors b.placed b.since t t.life t.free t.requests waiting admitted fresh moved t.being_admitted pending t.started h.numbers;
   others = h.others;
   notices = h.notices;
   life = h.life;

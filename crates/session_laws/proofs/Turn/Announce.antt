@@ -33,7 +33,7 @@ use Rattle.mux_conn.specs.Connection.{is_resting, is_outstanding}
 use Rattle.session_laws.proofs.Managers.Comes.{course_later}
 use Rattle.conn_laws.proofs.Links.Server.{TiedCreds, TiedSetup, TiedRenewal, hearing_at, on_link}
 use Rattle.conn_laws.proofs.Ties.Tied.{TiedCreation, AreUses, link_in, carried, whole_link, AreAside, TiedLife, TiedLines, AreQueued, TiedWaits, has_ended, TiedNotices, is_reading, IsUse, TiedRounds, AreEarly}
-use Rattle.session_laws.proofs.Ties.Tied.{AreAimed, IsAim, Inner, inner, Tied, Sound, HasCourse}
+use Rattle.session_laws.proofs.Ties.Tied.{AreAimed, IsAim, TurnState, inner, Tied, Sound, HasCourse}
 use Rattle.conn_laws.proofs.Internal.Repeats.{TiedRepeat, serves}
 use Rattle.session_laws.proofs.Ties.States.{Between}
 use Rattle.session_laws.proofs.Ties.Entered.{book_more, sound_more}
@@ -432,7 +432,7 @@ heard_tied b c started word created halted told opened kind info life fresh pend
 -- the trace begins
 --
 -- the turn stands, and the session is tied to its book
-pub announced_sound : (before : List Action) (c : Core) (started : List ℕ) (word : ℕ) (kind : EventKind) (t : Inner) → Between before c started → is_bad c kind ≡ false → Tied (entered (book before) (turn_of c word kind)) t → Sound (before ++ turn_of c word kind ∷ []) t
+pub announced_sound : (before : List Action) (c : Core) (started : List ℕ) (word : ℕ) (kind : EventKind) (t : TurnState) → Between before c started → is_bad c kind ≡ false → Tied (entered (book before) (turn_of c word kind)) t → Sound (before ++ turn_of c word kind ∷ []) t
 announced_sound before c started word kind t h good tied = sound_more before (turn_of c word kind) t h.sound.stands (may_turn before c started word kind h good) tied
 
 -- no act is shown yet

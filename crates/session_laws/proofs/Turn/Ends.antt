@@ -28,7 +28,7 @@ use Rattle.session_laws.proofs.Ties.Entered.{all_stand_behind, book-append, show
 use Rattle.session_laws.proofs.Ties.Ordered.{AreOrdered, IsOrdered, ordered_on, since_same}
 use Rattle.session_laws.proofs.Ties.Places.{known, since_begun}
 use Rattle.conn_laws.proofs.Ties.Tied.{link_in}
-use Rattle.session_laws.proofs.Ties.Tied.{Inner}
+use Rattle.session_laws.proofs.Ties.Tied.{TurnState}
 use Rattle.conn_laws.proofs.Turn.Adds.{Adds, passed_adds}
 
 -- acts that are shown behind others show actions behind theirs
@@ -57,7 +57,7 @@ ends_ordered front f w started rest x h all turns ready kept up pending unlost =
     let same : x.renewal ≡ (said w).conn.renewal = kept ∙ passed_kept w in
     let last : book (trace_of_acts front f (passed w).acts ++ rest) ≡ entered_each b (more ++ rest) = ap book whole ∙ book-append first (more ++ rest) in
     let stands : AllStand b (more ++ rest) = all_stand_behind first (more ++ rest) (subst (AllStand blank_book) whole all) in
-    let t : Inner = seen f (said w).acts (said w).conn [] told.started in
+    let t : TurnState = seen f (said w).acts (said w).conn [] told.started in
     let counts : b.submissions ≡ length f.table = told.holds.tied.numbers.submissions in
     let turned : (entered_each b (more ++ rest)).turns ≡ b.turns = sym (ap (λ (y : Book). y.turns) last) ∙ turns ∙ sym told.holds.tied.numbers.turns in
     let was = told.ordered (ap is_ready told.life) (ap (λ (r : Renewal). r.pending) (sym same) ∙ pending) (ap (λ (r : Renewal). r.lost) (sym same) ∙ unlost) in

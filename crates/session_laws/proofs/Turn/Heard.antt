@@ -22,7 +22,7 @@ use Rattle.conn_laws.proofs.Links.Said.{setup_on, setup_unheard, BringsNothing, 
 use Rattle.session_laws.proofs.Links.Said.{is_tame}
 use Rattle.conn_laws.proofs.Links.Server.{TiedCreds, TiedSetup, TiedRenewal}
 use Rattle.conn_laws.proofs.Ties.Tied.{link_in, carried, whole_link, TiedLife, TiedLines, AreQueued, TiedWaits, has_ended, TiedRounds, AreEarly}
-use Rattle.session_laws.proofs.Ties.Tied.{Inner, inner, Tied, HasCourse}
+use Rattle.session_laws.proofs.Ties.Tied.{TurnState, inner, Tied, HasCourse}
 use Rattle.session_laws.proofs.Managers.Comes.{course_alike}
 use Rattle.conn_laws.proofs.Ties.States.{IsFitIn, IsStopped}
 use Rattle.session_laws.proofs.Ties.States.{IsHushed, Between, HasApplied}
@@ -46,7 +46,7 @@ abbrev pub lives_as : Core → Life → MultiplexedConnection
 lives_as c life = record c.single.connection { life = life }
 
 -- no link must end where the connection's need not
-pub none_ends : (b : Book) (t : Inner) → Tied b t → ending (b.link t.link) ≡ None → NoneEnds b
+pub none_ends : (b : Book) (t : TurnState) → Tied b t → ending (b.link t.link) ≡ None → NoneEnds b
 none_ends b t h e m = by_test (m == t.link) _
     (λ same. subst (λ n. ending (b.link n) ≡ None) (sym (eq_from m t.link same)) e)
     (λ other. aside_ends (b.link m) (h.others m (ne_from m t.link other)))
@@ -107,11 +107,11 @@ heard_begins before c started word kind n life pending h good k is g =
     record { holds = s.holds; ledger = s.ledger; stories = s.stories }
 
 -- where everything is shut down, no link goes on, and without one nobody waits
-abbrev pub StaysHushed : Core → EventKind → Life → Type 0
-StaysHushed c kind life = (c.shut || is_shutdown kind) ≡ true → IsStopped life c.single.connection.waiting
+abbrev pub ClosedAfterShutdown : Core → EventKind → Life → Type 0
+ClosedAfterShutdown c kind life = (c.shut || is_shutdown kind) ≡ true → IsStopped life c.single.connection.waiting
 
 -- it was so, and the event doesn't shut it down
-pub hushed_still : (c : Core) (kind : EventKind) → is_shutdown kind ≡ false → IsHushed c → StaysHushed c kind c.single.connection.life
+pub hushed_still : (c : Core) (kind : EventKind) → is_shutdown kind ≡ false → IsHushed c → ClosedAfterShutdown c kind c.single.connection.life
 hushed_still c kind awake h over = h (or_true c.shut (is_shutdown kind) awake over)
   where
     or_true : (x y : Bool) → y ≡ false → (x || y) ≡ true → x ≡ true
@@ -138,11 +138,11 @@ shut_down timers sources l event.DropStream n is other = refl
 shut_down timers sources l event.Shutdown n is other = absurd (other (sym is))
 
 -- so it is in a turn of other news
-pub hushed_news : (c : Core) (kind : EventKind) (n : News) → news_of c.timers c.sources c.single.link kind ≡ n → n ≢ shut → IsHushed c → StaysHushed c kind c.single.connection.life
+pub hushed_news : (c : Core) (kind : EventKind) (n : News) → news_of c.timers c.sources c.single.link kind ≡ n → n ≢ shut → IsHushed c → ClosedAfterShutdown c kind c.single.connection.life
 hushed_news c kind n is other h = hushed_still c kind (shut_down c.timers c.sources c.single.link kind n is other) h
 
 -- a link that has ended is over
-pub hushed_over : (c : Core) (kind : EventKind) (life : Life) → has_ended life ≡ true → StaysHushed c kind life
+pub hushed_over : (c : Core) (kind : EventKind) (life : Life) → has_ended life ≡ true → ClosedAfterShutdown c kind life
 hushed_over c kind Resting ended over = cc
 hushed_over c kind Dialing ended over = cc
 hushed_over c kind (Wanting link) ended over = cc
@@ -151,7 +151,7 @@ hushed_over c kind (Ready link) ended over = cc
 hushed_over c kind (Ended e) ended over = tt
 
 -- a link that goes on was not shut down, so it may go on otherwise
-pub hushed_there : (c : Core) (kind : EventKind) (n : News) (life : Life) → news_of c.timers c.sources c.single.link kind ≡ n → n ≢ shut → is_resting c.single.connection.life ≡ false → has_ended c.single.connection.life ≡ false → IsHushed c → StaysHushed c kind life
+pub hushed_there : (c : Core) (kind : EventKind) (n : News) (life : Life) → news_of c.timers c.sources c.single.link kind ≡ n → n ≢ shut → is_resting c.single.connection.life ≡ false → has_ended c.single.connection.life ≡ false → IsHushed c → ClosedAfterShutdown c kind life
 hushed_there c kind n life is other there alive h over = absurd (not_stopped c.single.connection.life c.single.connection.waiting there alive (hushed_news c kind n is other h over))
 
 -- nor is it
@@ -160,7 +160,7 @@ going_awake c kind n is other there alive h = by_test (c.shut || is_shutdown kin
 
 -- where the link need not end then, and no act follows, the event has had its effect
 pub fresh_applied : (before : List Action) (c : Core) (started : List ℕ) (word : ℕ) (kind : EventKind) (n : News) (info : RedisConnectionInfo) (life : Life) (fresh : List ℕ) → Between before c started → is_bad c kind ≡ false → IsNewsKind c.timers kind
-    → news_of c.timers c.sources c.single.link kind ≡ n → ComesTo (book before) c (heard_by (book before) c n) (book before).created c.single.connection.opened info life fresh [] [] started → ending (heard_by (book before) c n) ≡ None → IsFitIn (comes_as c info life fresh) → StaysHushed c kind life
+    → news_of c.timers c.sources c.single.link kind ≡ n → ComesTo (book before) c (heard_by (book before) c n) (book before).created c.single.connection.opened info life fresh [] [] started → ending (heard_by (book before) c n) ≡ None → IsFitIn (comes_as c info life fresh) → ClosedAfterShutdown c kind life
     → HasApplied (before ++ turn_of c word kind ∷ []) (with_work (record { core = turned c kind; acts = [] }) (record { conn = comes_as c info life fresh; acts = [] })) started
 fresh_applied before c started word kind n info life fresh h good k is g no_end fit hushed =
     let s = fresh_begins before c started word kind n info life fresh [] h good k is g in
@@ -175,7 +175,7 @@ fresh_applied before c started word kind n info life fresh h good k is g no_end 
 
 -- where the same waits are to be shown
 pub quiet_applied : (before : List Action) (c : Core) (started : List ℕ) (word : ℕ) (kind : EventKind) (n : News) (life : Life) → Between before c started → is_bad c kind ≡ false → IsNewsKind c.timers kind → news_of c.timers c.sources c.single.link kind ≡ n
-    → Leads (book before) c n life [] started → ending (heard_by (book before) c n) ≡ None → IsFitIn (lives_as c life) → StaysHushed c kind life
+    → Leads (book before) c n life [] started → ending (heard_by (book before) c n) ≡ None → IsFitIn (lives_as c life) → ClosedAfterShutdown c kind life
     → HasApplied (before ++ turn_of c word kind ∷ []) (with_work (record { core = turned c kind; acts = [] }) (record { conn = lives_as c life; acts = [] })) started
 quiet_applied before c started word kind n life h good k is g no_end fit hushed =
     let s = heard_begins before c started word kind n life [] h good k is g in

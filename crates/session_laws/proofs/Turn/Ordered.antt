@@ -53,7 +53,7 @@ use Rattle.conn_laws.proofs.Ties.Seats.{AllKeep, KeepsSeats, LeavesSeats, repeat
 use Rattle.session_laws.proofs.Ties.Seats.{effect_keeps}
 use Rattle.session_laws.proofs.Ties.States.{Between}
 use Rattle.conn_laws.proofs.Ties.Tied.{TiedLife, has_ended, link_in, queue_ids}
-use Rattle.session_laws.proofs.Ties.Tied.{Inner, Tied, inner}
+use Rattle.session_laws.proofs.Ties.Tied.{TurnState, Tied, inner}
 use Rattle.session_laws.proofs.Ties.Credentials.{effect_holds, repeated_holds}
 use Rattle.session_laws.proofs.Turn.Announce.{turn_of}
 use Rattle.conn_laws.proofs.Turn.Ordered.{Grows, asked, entry_stays, entry_was, refused, same}
@@ -273,7 +273,7 @@ module _ (before : List Action) (c : Core) (started : List ℕ) (e : Event) (h :
       let l : ℕ = f.single.link in
       let unasked : conn.renewal.pending ≡ false = sym seats.pending ∙ pending in
       let undue : IsDue (b.link l) → ⊥ = λ is. not_both conn.renewal.pending unasked (h.still.renewed x up (sym (due_before x up) ∙ subst (λ m. IsDue (b.link m)) link_is is)).0 in
-      let t : Inner = seen f v.acts v.conn [] now in
+      let t : TurnState = seen f v.acts v.conn [] now in
       let there : Tied d t = subst (λ (y : Book). Tied y t) last_book holds.tied in
       let all : AllStand b (a ∷ shown) = stands holds.stands in
       let is_now : IsDue (d.link l) = due_is (d.link l) v.conn.renewal (subst (TiedLife (d.link l) d.created) ready there.life).1 (subst (TiedRenewal (d.link l) v.conn.renewal) ready there.renewal) ∙ due in
