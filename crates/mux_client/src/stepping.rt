@@ -38,17 +38,17 @@ impl MultiplexedConnection {
         ensures failed { (e : ConnectionError) → self.old.core.failure ≡ Some e → IsErrOf result e }
         ensures kept { OnErr result (self.new.outcomes ≡ self.old.outcomes) }
     {
-        match self.step_apart(alloc, event, out) {
+        match self.step_holding_answers(alloc, event, out) {
             Ok(answers) => {
-                self.keep(answers);
+                self.deliver_answers(answers);
                 Ok(())
             }
             Err(error) => Err(error),
         }
     }
 
-    /// The same, but nobody has the outcomes of the turn before they are handed to `keep`.
-    pub fn step_apart(
+    /// The same, but nobody has the outcomes of the turn before they are handed to `deliver_answers`.
+    pub fn step_holding_answers(
         &mut self,
         alloc: Global,
         event: LinkEvent<'_>,
@@ -82,7 +82,7 @@ impl MultiplexedConnection {
     }
 
     /// The outcomes of a turn are kept. Takes no memory.
-    pub fn keep(&mut self, answers: Seq<Answer>)
+    pub fn deliver_answers(&mut self, answers: Seq<Answer>)
         ensures { self.new ≡ with_answers self.old answers }
     {
         keep_each(answers, &mut self.outcomes);
@@ -149,7 +149,7 @@ impl MultiplexedConnection {
         ensures kept { OnErr result (self.new.outcomes ≡ self.old.outcomes) }
     {
         let answers = self.show_apart(alloc, acts, out)?;
-        self.keep(answers);
+        self.deliver_answers(answers);
         Ok(())
     }
 

@@ -170,13 +170,13 @@ impl PubSub {
             ) }
     {
         let mut acts = Vec::new(alloc);
-        let answers = match self.sink.step_apart(alloc, event, &mut acts) {
+        let answers = match self.sink.step_holding_answers(alloc, event, &mut acts) {
             Ok(answers) => answers,
             Err(error) => return Err(error),
         };
         match sort_messages(acts, &mut self.stream, out) {
             Ok(()) => {
-                self.sink.keep(answers);
+                self.sink.deliver_answers(answers);
                 Ok(())
             }
             Err(_) => {

@@ -185,8 +185,8 @@ impl PubSubSink {
         self.connection.step(alloc, event, out)
     }
 
-    /// The same, but nobody has the outcomes of the turn before they are handed to `keep`.
-    pub(crate) fn step_apart(
+    /// The same, but nobody has the outcomes of the turn before they are handed to `deliver_answers`.
+    pub(crate) fn step_holding_answers(
         &mut self,
         alloc: Global,
         event: LinkEvent<'_>,
@@ -210,14 +210,14 @@ impl PubSubSink {
             → IsErrOf result e }
         ensures kept { self.new.connection.outcomes ≡ self.old.connection.outcomes }
     {
-        self.connection.step_apart(alloc, event, out)
+        self.connection.step_holding_answers(alloc, event, out)
     }
 
     /// The outcomes of a turn are kept. Takes no memory.
-    pub(crate) fn keep(&mut self, answers: Seq<Answer>)
+    pub(crate) fn deliver_answers(&mut self, answers: Seq<Answer>)
         ensures { self.new.connection ≡ with_answers self.old.connection answers }
     {
-        self.connection.keep(answers);
+        self.connection.deliver_answers(answers);
     }
 
     /// Memory was refused: the link fails from now on. Its outcomes stay.

@@ -30,6 +30,10 @@ Homes = List (mathlib.Core.Option.Option (Option Home))
 pub later_same : (now : Now) → Later now now
 later_same now = record { log = prefix_all now.log; config = (refl, refl, refl); mark = λ _. refl; made = omega arith; dial = omega arith }
 
+-- a seat that isn't idle has one caller
+pub single_if : (v : View) (x : Stage) → (2 ≤ length v.number → v.stage ≡ Idle) → draws v.stage ≡ 1 → 2 ≤ length v.number → x ≡ Idle
+single_if v x single busy many = absurd (let e : draws v.stage ≡ 0 = ap draws (single many) in omega arith)
+
 -- a step of one seat: each part of the rule, as far as it changes
 pub moves_to : (s : St) (r : Ruled s) (id : ℕ) (v w : View) → get_elem? s.views id ≡ some v → (ticket' : ℕ) (now' : Now) (words' : List ℕ) (homes' : Homes)
     → Delta r.ticket r.now ticket' now' v w → words' ≡ words_of ticket' now' → MaySpend now'.config now'.word now'.log now'.mark
@@ -117,7 +121,7 @@ module _ (s : St) (r : Ruled s) where
       (k, ap (has r.now.serving) is ∙ has_t r.now.serving ∙ ap (same r.now.serving) k.0 ∙ same_self r.now.serving)
 
 -- draw ticket
-pub draws_next : (slots id : ℕ) (me : Sat) (st : At) → me.0.stage ≡ Idle → 1 ≤ length me.0.number → Allows Ruled slots id me 0 (λ n. (n + 1) % 2 ^ 64) (drew st me)
+pub draws_next : (slots id : ℕ) (me : Sat) (st : At) → me.0.stage ≡ Idle → length me.0.number ≡ 1 → Allows Ruled slots id me 0 (λ n. (n + 1) % 2 ^ 64) (drew st me)
 draws_next slots id me st idle caller s r deep at fits =
     let v = me.0 in
     let t = r.ticket in
@@ -141,7 +145,7 @@ draws_next slots id me st idle caller s r deep at fits =
           (ap (λ ws. set ws 0 ((slice_index ws 0 + 1) % 2 ^ 64)) r.words ∙ ap (λ (x : ℕ). x ∷ r.now.serving % 2 ^ 64 ∷ r.now.dial ∷ []) (omega arith))
           r.spent
           (λ a. subst (IsPlaced r.now s.homes) (let b = ap out idle in omega arith) r.place)
-          (record { seen = mine.seen; turn = tt; mine = mine.mine; config = mine.config; failure = mine.failure; made = mine.made; dial = mine.dial; caller = caller; single = mine.single; ended = mine.ended; nothing = mine.nothing; fronts = mine.fronts })
+          (record { seen = mine.seen; turn = tt; mine = mine.mine; config = mine.config; failure = mine.failure; made = mine.made; dial = mine.dial; caller = omega arith; single = λ many. absurd (omega (arith, many, caller)); ended = mine.ended; nothing = mine.nothing; fronts = mine.fronts })
           (later_same r.now)
           (λ j u _ e. (r.each j u e).turn),
       (t, ap (λ ws. slice_index ws 0) r.words, refl),
@@ -201,7 +205,7 @@ looks slots id me st t is s r deep at fits = dite (ℕ_discrete (slice_index s.w
                 made = omega arith;
                 dial = mine.dial;
                 caller = subst (λ x. draws x ≤ length v.number) is mine.caller;
-                single = mine.single;
+                single = single_if v (Served (ticket_of v.stage)) mine.single (ap draws is);
                 ended = mine.ended;
                 nothing = mine.nothing;
                 fronts = mine.fronts;
@@ -258,7 +262,7 @@ takes_out slots id me st t is s r deep at fits =
           (ap (λ ws. set ws 0 (slice_index ws 0)) r.words)
           r.spent
           (λ a. inr (ap (λ l. set l 0 none) homes_are, (let b : out v.stage ≡ 0 = ap out is in let z = home.5 in omega arith)))
-          (record { seen = mine.seen; turn = (is_t ∙ k.0, k.1, k.2, k.3, k.4); mine = mine.mine; config = mine.config; failure = mine.failure; made = mine.made; dial = mine.dial; caller = subst (λ x. draws x ≤ length v.number) is mine.caller; single = mine.single; ended = mine.ended; nothing = mine.nothing; fronts = mine.fronts })
+          (record { seen = mine.seen; turn = (is_t ∙ k.0, k.1, k.2, k.3, k.4); mine = mine.mine; config = mine.config; failure = mine.failure; made = mine.made; dial = mine.dial; caller = subst (λ x. draws x ≤ length v.number) is mine.caller; single = single_if v w.stage mine.single (ap draws is); ended = mine.ended; nothing = mine.nothing; fronts = mine.fronts })
           (later_same r.now)
           (λ j u _ e. (r.each j u e).turn),
       (refl, subst (λ (x : Config × ℕ × List Event × Failure). MaySpend x.0 x.1 x.2 x.3) (λ i. (sym c.0 i, sym c.1 i, sym k.1 i, sym k.2 i)) r.spent, (let a = k.3 in let b = r.counted.few in let d = c.2 in omega arith)),
@@ -291,7 +295,7 @@ raises slots id me st t is s r deep at fits =
           (ap (λ ws. set ws 1 ((slice_index ws 1 + 1) % 2 ^ 64)) r.words ∙ ap (λ (x : ℕ). r.ticket % 2 ^ 64 ∷ x ∷ r.now.dial ∷ []) (omega arith))
           r.spent
           (λ a. subst (IsPlaced now' s.homes) (let b : out v.stage ≡ 0 = ap out is in omega arith) r.place)
-          (record { seen = mine.seen; turn = tt; mine = mine.mine; config = mine.config; failure = mine.failure; made = mine.made; dial = mine.dial; caller = zero-le; single = mine.single; ended = ended_later r.now now' (later_as now') v.ended mine.ended; nothing = mine.nothing; fronts = mine.fronts })
+          (record { seen = mine.seen; turn = tt; mine = mine.mine; config = mine.config; failure = mine.failure; made = mine.made; dial = mine.dial; caller = zero-le; single = λ _. refl; ended = ended_later r.now now' (later_as now') v.ended mine.ended; nothing = mine.nothing; fronts = mine.fronts })
           (later_as now')
           (alone s r id v at all.1 now'),
       refl,
@@ -447,7 +451,7 @@ gives_by slots id me st t h x is knows has_t draws_one out_one more_most ticket_
             made = omega arith;
             dial = (r.each id v at).dial;
             caller = caller_one;
-            single = (r.each id v at).single;
+            single = single_if v (Served (ticket_of v.stage)) (r.each id v at).single (ap draws is ∙ draws_one);
             ended = ended_later r.now n later v.ended (r.each id v at).ended;
             nothing = λ e. absurd (omega arith);
             fronts = fronts_later r.now n later v.fronts (r.each id v at).fronts;

@@ -18,7 +18,7 @@ use Rattle.session_callers.specs.declared.board.Stage.TheVariants.{Idle, Waiting
 use Rattle.session_callers.specs.Rule.{total, same, below, between, times, has, draws, out, more, numbered, callers, owns, claimed, makes, Now, InTurn, Each, FitsEnded, Fits, IsPlaced, Ruled, ticket_of, newcomer, nobody, longer, as_ended, joined, left_of, right_of, history, submissions_in}
 use Rattle.session_callers.proofs.Totals.{each_append, total_set, total_gap, total_last, total_append, prefix_length, ascends_up, below_up}
 use Rattle.session_callers.proofs.Counts.{each_set}
-use Rattle.session_callers.proofs.Moves.{away, served_one}
+use Rattle.session_callers.proofs.Moves.{away, served_one, single_if}
 
 more_out : (x : Stage) → more x ≤ out x
 more_out Idle = omega arith
@@ -72,10 +72,10 @@ splits id v t is room s r at =
       place = subst (IsPlaced r.now s.homes) (let a = sum (λ (v : View). out v.stage) in omega arith) r.place;
       each = λ j u e. ⊎_elim
           (λ was. each_set (Fits r.now) s.views id w
-          (record { seen = mine.seen; turn = (is_t ∙ k.0, k.1, k.2, k.3, k.4); mine = mine.mine; config = mine.config; failure = mine.failure; made = mine.made; dial = mine.dial; caller = subst (λ x. draws x ≤ length v.number) is mine.caller; single = mine.single; ended = mine.ended; nothing = mine.nothing; fronts = mine.fronts })
+          (record { seen = mine.seen; turn = (is_t ∙ k.0, k.1, k.2, k.3, k.4); mine = mine.mine; config = mine.config; failure = mine.failure; made = mine.made; dial = mine.dial; caller = subst (λ x. draws x ≤ length v.number) is mine.caller; single = single_if v w.stage mine.single one_draw; ended = mine.ended; nothing = mine.nothing; fronts = mine.fronts })
           (λ j u _ e. r.each j u e) j u was)
           (λ (same : x ≡ u). subst (Fits r.now) same
-          (record { seen = mine.seen; turn = tt; mine = zero-le; config = λ _. mine.config one_caller; failure = λ n. absurd (n refl); made = zero-le; dial = mine.dial; caller = zero-le; single = omega arith; ended = tt; nothing = λ e. absurd (omega arith); fronts = tt }))
+          (record { seen = mine.seen; turn = tt; mine = zero-le; config = λ _. mine.config one_caller; failure = λ n. absurd (n refl); made = zero-le; dial = mine.dial; caller = zero-le; single = λ _. refl; ended = tt; nothing = λ e. absurd (omega arith); fronts = tt }))
           (at_snoc (set s.views id w) x u j e);
     }
 
@@ -136,7 +136,7 @@ joins id v other w k v_idle w_idle caller one s r at apart there =
       spent = r.spent;
       place = subst (IsPlaced r.now s.homes) (let a = sum (λ (v : View). out v.stage) in let b : out w.stage ≡ 0 = ap out w_idle in omega arith) r.place;
       each = each_set (Fits r.now) (set s.views id x) other nobody
-          (record { seen = (r.now.log, refl); turn = tt; mine = zero-le; config = λ one. absurd (omega arith); failure = λ n. absurd (n refl); made = zero-le; dial = zero-le; caller = zero-le; single = zero-le; ended = tt; nothing = λ _. (refl, refl, refl); fronts = tt })
+          (record { seen = (r.now.log, refl); turn = tt; mine = zero-le; config = λ one. absurd (omega arith); failure = λ n. absurd (n refl); made = zero-le; dial = zero-le; caller = zero-le; single = λ _. refl; ended = tt; nothing = λ _. (refl, refl, refl); fronts = tt })
           (λ j u _ e. each_set (Fits r.now) s.views id x
           (record {
             seen = longer_prefix v.seen w.seen r.now.log mine.seen theirs.seen;
@@ -162,33 +162,3 @@ no_submissions = refl
 
 pub not_spent : Sound ≡ Spent → ⊥
 not_spent e = cc
-
--- the rule at the start
-pub starts : (config : Config) (word most : ℕ) (h : Home) → 1 ≤ most → most < 2 ^ 32 → h.session ≡ history config word [] Sound → h.made ≡ 1 → h.submissions ≡ 0 → Ruled (opening (0 ∷ 0 ∷ 0 ∷ []) (Some h ∷ []) (newcomer config word most 0 [] 0))
-starts config word most h any limit empty made none_yet = record {
-  ticket = 0;
-  now = now;
-  words = refl;
-  counted = record {
-    drawn = refl;
-    tickets = λ n. omega arith;
-    callers = refl;
-    numbers = λ n. omega arith;
-    few = omega (arith, any);
-    limit = limit;
-    makers = λ m from to. absurd (omega arith);
-    positions = λ p. omega arith;
-    claims = λ g. omega arith;
-    no_claim = refl;
-  };
-  spent = λ m. absurd (not_spent m);
-  place = inl (h, refl, empty, made, none_yet ∙ sym no_submissions, refl);
-  each = each_one;
-}
-  where
-    now : Now
-    now = record { serving = 0; config = config; word = word; most = most; log = []; mark = Sound; made = 1; dial = 0 }
-
-    each_one : (j : ℕ) (v : View) → get_elem? (newcomer config word most 0 [] 0 ∷ []) j ≡ some v → Fits now v
-    each_one zero v e = subst (Fits now) (some-injective _ _ e) (record { seen = ([], refl); turn = tt; mine = omega arith; config = λ _. (refl, refl, refl); failure = λ n. absurd (n refl); made = zero-le; dial = zero-le; caller = zero-le; single = omega arith; ended = tt; nothing = λ e. absurd (omega arith); fronts = tt })
-    each_one (suc j) v e = absurd (some-ne-none v (sym e))

@@ -1,10 +1,10 @@
 -- What the calls say of a seat.
-use Rattle.std.specs.Prelude.{◌≡◌, ℕ, ◌+◌, ◌-◌, ◌^◌, ◌<◌, ◌≤◌, List, [], ◌∷◌, ◌++◌, Option, Some, length, false}
+use Rattle.std.specs.Prelude.{◌≡◌, ℕ, zero, suc, ◌+◌, ◌-◌, ◌^◌, ◌<◌, ◌≤◌, List, [], ◌∷◌, ◌++◌, Option, Some, length, false}
 use Rattle.driver_model.specs.declared.config.Config.{Config}
 use Rattle.driver_model.specs.declared.event.Event.{Event}
 use Rattle.driver_model.specs.declared.event.EventKind.TheVariants.{Submit}
 use Rattle.driver_model.specs.declared.event.Submission.{Submission}
-use Rattle.session_callers.specs.Rule.{newcomer, MaySpend, Each, total, times, owns, claimed, callers, history, submissions_in}
+use Rattle.session_callers.specs.Rule.{founder, newcomer, MaySpend, Each, total, times, owns, claimed, callers, history, submissions_in}
 use Rattle.session_callers.specs.declared.board.Ended.{Ended}
 use mathlib.Core.List.{IsPrefix}
 use Rattle.atomic_table.specs.Seated.{TableId}
@@ -39,6 +39,11 @@ IsIdle s = (s.me.0.stage ≡ Idle) × (s.me.1 ≡ []) × (length s.me.0.number �
 pub record Known : Type 0 where
   pub table : TableId
   pub view : View
+
+-- so many callers of a table from this number on, which were made with its session, with so many in all
+abbrev pub founders_at : TableId → Config → ℕ → ℕ → ℕ → ℕ → List Known
+founders_at z config word made number zero = []
+founders_at z config word made number (suc count) = record { table = z; view = founder config word made made number } ∷ founders_at z config word made (suc number) count
 
 -- what is left of all callers is seen as: the table that was theirs, and the greatest number of its dial that was claimed
 pub record Kept : Type 0 where

@@ -1,6 +1,6 @@
 -- The rule of the table, and what each step tells.
 -- Tickets are counted without end here, and the words have them modulo 2 ^ 64.
-use Rattle.std.specs.Prelude.{◌≡◌, ◌≢◌, ◌⊎◌, ℕ, suc, ◌+◌, ◌-◌, ◌%◌, ◌^◌, ◌<◌, ◌≤◌, ◌==◌, List, [], ◌∷◌, ◌++◌, length, true, false, Option, Some, if◌then◌else◌, max}
+use Rattle.std.specs.Prelude.{◌≡◌, ◌≢◌, ◌⊎◌, ℕ, zero, suc, ◌+◌, ◌-◌, ◌%◌, ◌^◌, ◌<◌, ◌≤◌, ◌==◌, List, [], ◌∷◌, ◌++◌, length, true, false, Option, Some, if◌then◌else◌, max}
 use Rattle.driver_model.specs.declared.config.Config.{Config}
 use Rattle.driver_model.specs.declared.kind.SessionKind.TheVariants as kind
 use Rattle.driver_model.specs.Config.{config_of}
@@ -137,7 +137,7 @@ pub record Fits (now : Now) (v : View) : Type 0 where
   pub made : v.made ≤ now.made
   pub dial : v.dial ≤ now.dial
   pub caller : draws v.stage ≤ length v.number
-  pub single : length v.number ≤ 1
+  pub single : 2 ≤ length v.number → v.stage ≡ Idle
   pub ended : Each (FitsEnded now) v.ended
   pub nothing : length v.number ≡ 0 → (v.mine ≡ []) × (v.ended ≡ []) × (v.claims ≡ [])
   pub fronts : Each (λ (xs : List Event). IsPrefix xs now.log) v.fronts
@@ -214,6 +214,35 @@ pub record Ruled (s : State (Option Home) View) : Type 0 where
 -- a caller that has seen as much, of a table that has no more than `most`
 abbrev pub newcomer : Config → ℕ → ℕ → ℕ → List Event → ℕ → View
 newcomer config word most number seen dial = record { stage = Idle; drawn = 0; number = number ∷ []; made = 0; most = most; config = config; word = word; seen = seen; failure = Sound; mine = []; dial = dial; claims = []; ended = []; fronts = [] }
+
+-- so many numbers from this one on
+abbrev pub numbers_from : ℕ → ℕ → List ℕ
+numbers_from n zero = []
+numbers_from n (suc count) = n ∷ numbers_from (suc n) count
+
+-- a caller that was made with its session, with so many in all
+abbrev pub founder : Config → ℕ → ℕ → ℕ → ℕ → View
+founder config word most made number = record (newcomer config word most number [] 0) { made = made }
+
+-- the seat of so many of them, from this number on
+abbrev pub founders : Config → ℕ → ℕ → ℕ → ℕ → ℕ → View
+founders config word most made number count = record (founder config word most made number) { number = numbers_from number count }
+
+abbrev pub first_of : List ℕ → List ℕ
+first_of [] = []
+first_of (n ∷ ns) = n ∷ []
+
+abbrev pub behind_first : List ℕ → List ℕ
+behind_first [] = []
+behind_first (n ∷ ns) = ns
+
+-- a seat of several callers, which have seen as much, without its first
+abbrev pub rest_of : View → View
+rest_of v = record v { number = behind_first v.number }
+
+-- and that first one
+abbrev pub one_of : View → View
+one_of v = record (newcomer v.config v.word v.most 0 v.seen v.dial) { number = first_of v.number; made = v.made }
 
 abbrev pub no_config : Config
 no_config = config_of kind.Single []

@@ -20,6 +20,8 @@ pub struct Origin {
     pub word: u64,
     /// How many callers may be made.
     pub most: u64,
+    /// How many are made with it, whose numbers one seat has at first.
+    pub made: u64,
 }
 
 /// Where a caller is in a call. No value of it is made, so a ticket is any number.
@@ -48,7 +50,8 @@ pub struct View {
     pub stage: Stage,
     /// How many tickets it has drawn.
     pub drawn: u64,
-    /// Its caller's number, or nothing where it was joined into another.
+    /// Its caller's number, or nothing where it was joined into another. A seat of callers that were made with their session,
+    /// and have no seat of their own yet, has the number of each.
     pub number: LinkedList<u64>,
     /// The number of callers that it last saw beside the session.
     pub made: u64,
@@ -74,12 +77,11 @@ pub struct View {
 pub struct Turns;
 
 impl TableRule<Option<Home>, View, Origin> for Turns {
-    ghost use Rattle.session_callers.specs.Rule.{Ruled, newcomer};
-    ghost use Rattle.std.specs.Prelude.{[]};
+    ghost use Rattle.session_callers.specs.Rule.{Ruled, founders};
 
     ghost holds = { λ _. Ruled };
 
-    ghost first = { λ origin. newcomer origin.config origin.word origin.most 0 [] 0 };
+    ghost first = { λ origin. founders origin.config origin.word origin.most origin.made 0 origin.made };
 }
 
 pub type Board = Shared<Option<Home>, View, Origin, Turns>;

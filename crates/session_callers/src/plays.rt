@@ -60,6 +60,16 @@ impl Split<View> for Made {
     ghost right = { right_of };
 }
 
+pub struct Dealt;
+
+impl Split<View> for Dealt {
+    ghost use Rattle.session_callers.specs.Rule.{one_of, rest_of};
+
+    ghost left = { rest_of };
+
+    ghost right = { one_of };
+}
+
 pub struct Ends;
 
 impl Join<View> for Ends {

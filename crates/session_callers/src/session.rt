@@ -4,17 +4,17 @@ ghost use Rattle.driver_model.specs.Config.{first_fault};
 ghost use Rattle.single_session.specs.Replay.{opening_actions};
 ghost use Rattle.single_session.specs.Replay.{IsSound};
 ghost use Rattle.shared_session.specs.declared.session.Failure.TheVariants.{Sound};
-ghost use Rattle.session_callers.specs.Rule.{history, newcomer};
-ghost use Rattle.session_callers.specs.Calls.{Turned, Added, Refused, RefusedInTurn, submission_event, joined_by, with_claim};
+ghost use Rattle.session_callers.specs.Rule.{Each, history, founder, founders};
+ghost use Rattle.session_callers.specs.Calls.{IsAt, founders_at, Turned, Added, Refused, RefusedInTurn, submission_event, joined_by, with_claim};
 ghost use Rattle.session_callers.specs.Claims.{IsDialOf, MatchClaim};
 ghost use Rattle.session_callers.specs.Sends.{outcome_seen};
 
-use crate::board::{Home, Origin, Turns, View};
+use crate::board::{Board, Home, Origin, Place, Turns, View};
 use crate::caller::Caller;
 use crate::dial::{Claim, Dial};
 use crate::homes::{outcome_in, step_home};
 use crate::pending::PendingSend;
-use crate::steps::{dial, split};
+use crate::steps::{deal, dial, split};
 use crate::turn::{begin, end, end_made};
 use atomic_table::Table;
 use driver_model::{Action, Config, Event, EventKind, Outcome, Submission};
@@ -38,55 +38,45 @@ pub struct SharedSession {
     pub ghost sized: { (table.shared.table_id.words ≡ 3) × (table.shared.table_id.slots ≡ 1) },
 }
 
-/// A session in its table, and its first caller.
+/// A session in its table, and the seat of all callers that are made with it.
 fn seated(
     alloc: Global,
     origin: &Origin,
     session: Session,
-) -> Result<(SharedSession, Caller), AllocError>
+) -> Result<(SharedSession, Place), AllocError>
     requires empty { session ≡ history origin.now.config origin.now.word [] Sound }
-    requires few { (1 ≤ origin.now.most) × (origin.now.most < 2 ^ 32) }
+    requires few { (1 ≤ origin.now.made) × (origin.now.made ≤ origin.now.most) × (origin.now.most < 2 ^ 32) }
     ensures { IfOk result (λ made.
-        (made.1.table ≡ made.0.table.shared.table_id)
-        × (made.1.view ≡ newcomer origin.now.config origin.now.word origin.now.most 0 [] 0)
+        (made.1.table_id ≡ made.0.table.shared.table_id)
+        × (made.1.me ≡ (founders origin.now.config origin.now.word origin.now.most origin.now.made 0 origin.now.made, []))
         ) }
 {
     let home = Home {
         session,
-        made: 1,
+        made: origin.made,
         submissions: 0,
     };
     let mut slots = Vec::new(alloc);
     slots.push(Some(home))?;
     match Table::new(alloc, &[0, 0, 0], slots, origin) {
-        Ok((table, seat)) => Ok((
-            SharedSession { table },
-            Caller {
-                seat,
-                front: 0,
-                generation: 0,
-                number: 0,
-                made: 0,
-                most: origin.most,
-            },
-        )),
+        Ok((table, seat)) => Ok((SharedSession { table }, seat)),
         Err(_) => Err(AllocError),
     }
 }
 
-/// A session that is made from this, and has made its opening, whose actions `out` gains, and its first caller. After an error
-/// `out` is as it was.
+/// A session that is made from this, and has made its opening, whose actions `out` gains, and the seat of its callers. After an
+/// error `out` is as it was.
 fn opened(
     alloc: Global,
     origin: &Origin,
     config: Config,
     out: &mut Vec<Action>,
-) -> Result<(SharedSession, Caller), MakeError>
+) -> Result<(SharedSession, Place), MakeError>
     requires config { config ≡ origin.now.config }
-    requires few { (1 ≤ origin.now.most) × (origin.now.most < 2 ^ 32) }
-    ensures caller { IfOk result (λ made.
-        (made.1.table ≡ made.0.table.shared.table_id)
-        × (made.1.view ≡ newcomer origin.now.config origin.now.word origin.now.most 0 [] 0)
+    requires few { (1 ≤ origin.now.made) × (origin.now.made ≤ origin.now.most) × (origin.now.most < 2 ^ 32) }
+    ensures seat { IfOk result (λ made.
+        (made.1.table_id ≡ made.0.table.shared.table_id)
+        × (made.1.me ≡ (founders origin.now.config origin.now.word origin.now.most origin.now.made 0 origin.now.made, []))
         ) }
     ensures actions { OnOk result (
         out.new.items ≡ out.old.items ++ opening_actions origin.now.config origin.now.word
@@ -110,18 +100,20 @@ fn opened(
     }
 }
 
-/// A session that has made its opening, whose actions `out` gains, and its first caller, of so many at most.
+/// A session that has made its opening, whose actions `out` gains, and the seat of the callers that are made with it, of so many
+/// at most.
 fn limited(
     alloc: Global,
     config: Config,
     word: u64,
     most: u64,
+    made: u64,
     out: &mut Vec<Action>,
-) -> Result<(SharedSession, Caller), MakeError>
-    requires few { (1 ≤ most) × (most < 2 ^ 32) }
-    ensures caller { IfOk result (λ made.
-        (made.1.table ≡ made.0.table.shared.table_id)
-        × (made.1.view ≡ newcomer config word most 0 [] 0)
+) -> Result<(SharedSession, Place), MakeError>
+    requires few { (1 ≤ made) × (made ≤ most) × (most < 2 ^ 32) }
+    ensures seat { IfOk result (λ made_with.
+        (made_with.1.table_id ≡ made_with.0.table.shared.table_id)
+        × (made_with.1.me ≡ (founders config word most made 0 made, []))
         ) }
     ensures actions { OnOk result (
         out.new.items ≡ out.old.items ++ opening_actions config word
@@ -142,10 +134,51 @@ fn limited(
         config: copy,
         word,
         most,
+        made,
     };
-    let made = opened(alloc, &origin, config, out);
+    let opened = opened(alloc, &origin, config, out);
     drop(origin);
-    made
+    opened
+}
+
+/// The caller of a seat that has this number alone, and was made with its session.
+fn caller_of(seat: Place, number: u64, made: u64, most: u64) -> Caller
+    requires one { seat.me ≡ (founder seat.me.0.config seat.me.0.word most made number, []) }
+    requires few { (number < most) × (made ≤ most) }
+    ensures table { result.table ≡ seat.table_id }
+    ensures view { result.view ≡ seat.me.0 }
+{
+    Caller {
+        seat,
+        front: 0,
+        generation: 0,
+        number,
+        made,
+        most,
+    }
+}
+
+/// The callers of a seat that has the numbers of all: as many as may be, in the order of their numbers.
+fn dealt(alloc: Global, board: &Board, seat: Place, made: u64) -> Result<Vec<Caller>, AllocError>
+    requires at { IsAt board.now.table_id seat }
+    requires some { 1 ≤ made }
+    requires all { seat.me ≡ (founders seat.me.0.config seat.me.0.word made made 0 made, []) }
+    ensures { IfOk result (λ callers.
+        callers.items ≡ founders_at seat.table_id seat.me.0.config seat.me.0.word made 0 made
+        ) }
+{
+    let mut seat = seat;
+    let mut callers = Vec::new(alloc);
+    let mut number = 0;
+    let mut left = made;
+    'deals: while left > 1 {
+        let one = deal(board, &mut seat);
+        callers.push(caller_of(one, number, made, made))?;
+        number += 1;
+        left -= 1;
+    }
+    callers.push(caller_of(seat, number, made, made))?;
+    Ok(callers)
 }
 
 impl SharedSession {
@@ -160,7 +193,7 @@ impl SharedSession {
     ) -> Result<(SharedSession, Caller), MakeError>
         ensures caller { IfOk result (λ made.
             (made.1.table ≡ made.0.table.shared.table_id)
-            × (made.1.view ≡ newcomer config word 4_294_967_295 0 [] 0)
+            × (made.1.view ≡ founder config word 4_294_967_295 1 0)
             ) }
         ensures actions { OnOk result (
             out.new.items ≡ out.old.items ++ opening_actions config word
@@ -170,20 +203,27 @@ impl SharedSession {
             → first_fault config ≡ Some name }
         ensures err { OnErr result (out.new.items ≡ out.old.items) }
     {
-        limited(alloc, config, word, 0xffff_ffff, out)
+        match limited(alloc, config, word, 0xffff_ffff, 1, out) {
+            Ok((shared, seat)) => Ok((shared, caller_of(seat, 0, 1, 0xffff_ffff))),
+            Err(error) => Err(error),
+        }
     }
 
-    /// The same, where no more callers than `most` can be made, and one at least.
-    pub fn with_limit(
+    /// The same with so many callers, one at least, in the order of their numbers. No more can be made, so that
+    /// all of them can always close it.
+    pub fn with_callers(
         alloc: Global,
         config: Config,
         word: u64,
-        most: u32,
+        count: u32,
         out: &mut Vec<Action>,
-    ) -> Result<(SharedSession, Caller), MakeError>
-        ensures caller { IfOk result (λ made.
-            (made.1.table ≡ made.0.table.shared.table_id)
-            × (made.1.view ≡ newcomer config word (max most 1) 0 [] 0)
+    ) -> Result<(SharedSession, Vec<Caller>), MakeError>
+        ensures callers { IfOk result (λ made.
+            made.1.items
+            ≡ founders_at made.0.table.shared.table_id config word (max count 1) 0 (max count 1)
+            ) }
+        ensures of { IfOk result (λ made.
+            Each (λ caller. caller.table ≡ made.0.table.shared.table_id) made.1.items
             ) }
         ensures actions { OnOk result (
             out.new.items ≡ out.old.items ++ opening_actions config word
@@ -193,8 +233,20 @@ impl SharedSession {
             → first_fault config ≡ Some name }
         ensures err { OnErr result (out.new.items ≡ out.old.items) }
     {
-        let callers = most.max(1);
-        limited(alloc, config, word, callers as u64, out)
+        let before = out.len();
+        let made = count.max(1) as u64;
+        let (shared, seat) = match limited(alloc, config, word, made, made, out) {
+            Ok(made) => made,
+            Err(error) => return Err(error),
+        };
+        match dealt(alloc, &shared.table.shared, seat, made) {
+            Ok(callers) => Ok((shared, callers)),
+            Err(_) => {
+                drop(shared);
+                out.truncate(before);
+                Err(MakeError::NoMemory)
+            }
+        }
     }
 
     /// One turn of the caller, in which the session takes the event, and how many submissions stood before it.

@@ -4,12 +4,12 @@ ghost use mathlib.Core.List.{IsPrefix};
 ghost use mathlib.Core.Option.{none};
 ghost use Rattle.atomic_table.specs.Table.{step};
 ghost use Rattle.session_callers.specs.declared.board.Stage.TheVariants.{Idle, Waiting, Served, Holding, Split};
-ghost use Rattle.session_callers.specs.Rule.{history, submissions_in, MayGive, MaySpend, dialled, ticket_of, waiting, served, given, joined, left_of, right_of};
+ghost use Rattle.session_callers.specs.Rule.{history, submissions_in, MayGive, MaySpend, dialled, ticket_of, waiting, served, given, joined, left_of, right_of, rest_of, one_of};
 ghost use Rattle.session_callers.specs.Calls.{IsAt, IsSame};
 
 use crate::board::{Board, Home, Place};
 use crate::caller::Caller;
-use crate::plays::{Dialled, Draw, Ends, Give, Look, Made, Raise, Take};
+use crate::plays::{Dealt, Dialled, Draw, Ends, Give, Look, Made, Raise, Take};
 use std::sync::Wait;
 use std::thread;
 
@@ -115,6 +115,19 @@ pub fn split(board: &Board, seat: &mut Place) -> Place
         × (result.me ≡ (right_of seat.old.me.0, [])) }
 {
     board.split_seat::<Made>(seat)
+}
+
+// A seat for the first of several callers that were made with their session.
+pub fn deal(board: &Board, seat: &mut Place) -> Place
+    requires at { IsAt board.now.table_id seat.old }
+    requires idle { seat.old.me.0.stage ≡ Idle }
+    requires several { 2 ≤ length seat.old.me.0.number }
+    ensures same { IsSame seat.old seat.new }
+    ensures left { seat.new.me ≡ (rest_of seat.old.me.0, seat.old.me.1) }
+    ensures right { (result.table_id ≡ seat.old.table_id)
+        × (result.me ≡ (one_of seat.old.me.0, [])) }
+{
+    board.split_seat::<Dealt>(seat)
 }
 
 // Reads the dial, and claims the next number where it is g.
