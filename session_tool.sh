@@ -10,10 +10,9 @@ name=session_tool
 folder=$top/crates/$name
 out=$folder/out
 program=$out/$name
-# What a build from nothing leaves on the disk, in megabytes.
+# What a build from nothing writes under the folder for temporary files, in megabytes.
 disk=9000
-# How many functions are proved side by side. More of them end sooner, and take more of processor time in all.
-jobs=$(($(nproc) < 2 ? 1 : 2))
+scratch=${TMPDIR:-/tmp}
 
 say() {
   echo "session_tool.sh: $*" >&2
@@ -63,37 +62,48 @@ is_old() {
 look_first() {
   local free
   command -v rt >/dev/null || stop "rt, the command of the Rattle kit, is not on the path"
-  free=$(df -Pm "$top" | awk 'NR == 2 { print $4 }')
-  [ "$free" -ge "$disk" ] || [ -d "$out" ] || stop "a build takes ${disk} MB of disk, and $free are free"
+  free=$(df -Pm "$scratch" | awk 'NR == 2 { print $4 }')
+  [ "$free" -ge "$disk" ] || stop "a build takes ${disk} MB of disk at $scratch, and $free are free"
 }
 
-# Proves one crate and builds it. What one process takes of memory grows with the sources that it reads at once, so the crates
-# below are always built already.
-build_one() {
-  local crate=$1
-  if [ "$crate" = "$name" ]; then
-    (cd "$folder" && rt run --jobs "$jobs" -- --version)
-  else
-    (cd "$top/crates/$crate" && rt lib --jobs "$jobs")
-  fi
-}
-
-# Proves what the program stands on, the lowest crate first and two functions side by side, and then builds it.
-build() {
-  local log=$out/build.log crate number=0
-  mkdir -p "$out"
-  say "proving ${#crates[@]} crates; what is proved already takes seconds"
+# A repository of the program and the crates below it alone. The gate of such a repository proves these crates and no others.
+copy_of_crates() {
+  local copy=$1 crate
+  mkdir "$copy/.git" "$copy/crates"
+  cp "$top/HANDLES" "$copy"
+  printf '%s\n' "$lines" >"$copy/crates.txt"
   for crate in "${crates[@]}"; do
-    if ! build_one "$crate" </dev/null >"$log" 2>&1; then
-      cat "$log" >&2
-      stop "the program was not built, since $crate is not proved: $log"
-    fi
-    number=$((number + 1))
-    say "$number of ${#crates[@]} proved: $crate ($SECONDS s)"
+    (cd "$top/crates" && tar -c --exclude="$crate/out" --exclude="$crate/must-fail" "$crate") | tar -x -C "$copy/crates"
   done
-  [ -x "$program" ] || stop "the program was not built"
+}
+
+# Tells of each crate that the gate has proved how many of them stand.
+count_proved() {
+  local line number=0
+  while IFS= read -r line; do
+    if [[ $line =~ ^rt:\ ([a-z_]+)\ (proved|is\ kept) ]]; then
+      number=$((number + 1))
+      say "$number of ${#crates[@]} proved: ${BASH_REMATCH[1]} ($SECONDS s)"
+    fi
+  done
+}
+
+# Proves the crates and builds the program, as many crates side by side as processors and memory allow. The gate keeps what it
+# has proved, so that a build that was interrupted goes on where it was.
+build() {
+  local log=$out/build.log copy
+  mkdir -p "$out"
+  copy=$(mktemp -d "$scratch/session_tool.XXXXXX")
+  trap 'rm -rf "$copy"' EXIT
+  copy_of_crates "$copy"
+  say "proving ${#crates[@]} crates; what is proved already takes seconds"
+  if ! (cd "$copy" && rt ci) </dev/null 2>&1 | tee "$log" | count_proved; then
+    cat "$log" >&2
+    stop "the program was not built, since a crate is not proved: $log"
+  fi
+  cp "$copy/crates/$name/out/$name" "$program.new"
+  mv "$program.new" "$program"
   printf '%s\n' "$lines" >"$out/$name.crates"
-  touch "$program"
   say "proved and built in $SECONDS s"
 }
 
