@@ -251,16 +251,24 @@ fn a_missing_caller_hands_all_back(rt: HostRuntime) -> Result<(), AllocError> {
     Ok(())
 }
 
-/// A session that may have two callers, and the first of them.
-fn start_of_two(alloc: Global) -> Result<(SharedSession, Caller), AllocError>
-    ensures { IfOk result (λ made. made.1.table ≡ made.0.table.shared.table_id) }
+/// A session that is made with two callers, and these.
+fn made_with_two(alloc: Global) -> Result<(SharedSession, Caller, Caller), AllocError>
+    ensures first { IfOk result (λ made. made.1.table ≡ made.0.table.shared.table_id) }
+    ensures second { IfOk result (λ made. made.2.table ≡ made.0.table.shared.table_id) }
 {
     let config = single(alloc, b"redis://h", ConnectionWords::new())?;
     let mut out = Vec::new(alloc);
-    match SharedSession::with_limit(alloc, config, 0, 2, &mut out) {
-        Ok(made) => Ok(made),
-        Err(_) => Err(AllocError),
-    }
+    let (shared, mut callers) = match SharedSession::with_callers(alloc, config, 0, 2, &mut out) {
+        Ok(made) => made,
+        Err(_) => return Err(AllocError),
+    };
+    let Some(b) = callers.pop() else {
+        return Err(AllocError);
+    };
+    let Some(a) = callers.pop() else {
+        return Err(AllocError);
+    };
+    Ok((shared, a, b))
 }
 
 /// Whether nobody can join any more.
@@ -279,10 +287,7 @@ fn is_full<R: Wait>(rt: &R, shared: &SharedSession, caller: &mut Caller) -> bool
 
 #[test]
 fn no_more_callers_join_than_may_be(rt: HostRuntime) -> Result<(), AllocError> {
-    let (shared, mut a) = start_of_two(rt.alloc())?;
-    let Ok(b) = shared.join(&rt, &mut a) else {
-        return Err(AllocError);
-    };
+    let (shared, mut a, b) = made_with_two(rt.alloc())?;
     let is_refused = is_full(&rt, &shared, &mut a);
     let count = closed(rt.alloc(), shared, a, b)?;
     assert!(rt; is_refused && count == Some(0));

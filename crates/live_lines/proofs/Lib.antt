@@ -5,6 +5,7 @@ mod Dealt
 mod Does
 mod Flown
 mod Long
+mod Made
 mod Orders
 mod Planned
 mod RunningOut

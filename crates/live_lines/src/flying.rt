@@ -1,14 +1,14 @@
-ghost use Rattle.std.specs.Prelude.{◌≡◌, ℕ, ◌≤◌, ◌++◌, List, [], false, length, max, Option, None};
+ghost use Rattle.std.specs.Prelude.{◌≡◌, ℕ, ◌≤◌, ◌++◌, List, [], false, length, Option, None};
 ghost use Rattle.std.specs.Prelude.{IfOk, IfErr, IsErrOf};
 ghost use Rattle.caller_threads.specs.Submits.{IsAllowed, Line};
 ghost use Rattle.driver_model.specs.Config.{kind_of, wants_credentials};
 ghost use Rattle.driver_model.specs.declared.event.Event.{Event};
 ghost use Rattle.redis_error.specs.declared.config_name.ConfigName.{ConfigName};
-ghost use Rattle.session_callers.specs.Closes.{AreEnough, IsUndialled};
+ghost use Rattle.session_callers.specs.Closes.{AreEnough};
 ghost use Rattle.session_callers.specs.Rule.{Each};
 ghost use Rattle.live_run.specs.Claims.{HasClaimed};
 ghost use Rattle.single_session.specs.Replay.{IsSound, trace_of};
-ghost use Rattle.live_lines.specs.Flights.{AreOf, AreSubmitted, AskedWord, HasManyLines, IsBare};
+ghost use Rattle.live_lines.specs.Flights.{AreOf, AreSubmitted, AskedWord, HasManyLines};
 ghost use Rattle.live_lines.specs.Flights.{IsFlight, IsNoFlight};
 ghost use Rattle.live_lines.specs.Flights.{RanOut, StoppedBy};
 ghost use Rattle.live_lines.specs.Plans.{refused_of};
@@ -22,7 +22,7 @@ use outside::World;
 use redis_error::ConfigName;
 use session_callers::{Caller, Keeper, SharedSession};
 use shared_session::{MakeError, Session, StepError};
-use std::alloc::{AllocError, Global};
+use std::alloc::Global;
 use std::sync::Wait;
 use std::thread::Threads;
 
@@ -87,42 +87,6 @@ fn stopped(shared: SharedSession, callers: Vec<Caller>, error: StepError) -> Fli
     }
 }
 
-/// So many callers in all, and one at least: those that join the first, and then the first.
-fn join_all<R: Wait>(
-    rt: &R,
-    alloc: Global,
-    shared: &SharedSession,
-    first: Caller,
-    count: u32,
-) -> Result<Vec<Caller>, AllocError>
-    requires of { first.table ≡ shared.now.table.shared.table_id }
-    requires none { first.view.mine ≡ [] }
-    requires undialled { IsUndialled first }
-    ensures of { IfOk result (λ callers.
-        Each (λ caller. caller.table ≡ shared.now.table.shared.table_id) callers.items
-        ) }
-    ensures bare { IfOk result (λ callers.
-        Each (IsBare first.view.config first.view.word) callers.items
-        ) }
-    ensures most { IfOk result (λ callers.
-        Each (λ caller. caller.view.most ≡ first.view.most) callers.items
-        ) }
-    ensures count { IfOk result (λ callers. length callers.items ≡ max 1 count) }
-{
-    let mut first = first;
-    let mut callers = Vec::new(alloc);
-    let mut left = count;
-    'joins: while left > 1 {
-        match shared.join(rt, &mut first) {
-            Ok(other) => callers.push(other)?,
-            Err(_) => return Err(AllocError),
-        }
-        left -= 1;
-    }
-    callers.push(first)?;
-    Ok(callers)
-}
-
 /// The session of a plan, whose callers submitted these lines, the numbers of the submissions, and what is left of the callers.
 /// `actions` gains all that was asked so far.
 fn submitted<R: Threads + Wait + Sync>(
@@ -149,7 +113,7 @@ fn submitted<R: Threads + Wait + Sync>(
 {
     let Plan { callers, config } = plan;
     let wanted = config.wants_credentials();
-    let (shared, first) = match SharedSession::with_limit(alloc, config, word, callers, actions) {
+    let (shared, made) = match SharedSession::with_callers(alloc, config, word, callers, actions) {
         Ok(made) => made,
         Err(MakeError::Config { name }) => {
             drop(lines);
@@ -162,15 +126,11 @@ fn submitted<R: Threads + Wait + Sync>(
     };
     if wanted {
         drop(shared);
-        drop(first);
+        drop(made);
         drop(lines);
         return Err(FlightError::Config(ConfigName::Creds));
     }
-    let Ok(mut callers) = join_all(rt, alloc, &shared, first, callers) else {
-        drop(shared);
-        drop(lines);
-        return Err(FlightError::NoMemory);
-    };
+    let mut callers = made;
     let mut numbers = Vec::new(alloc);
     let gate = OpenGate;
     match submit_lines(

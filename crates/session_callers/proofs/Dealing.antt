@@ -1,7 +1,6 @@
 -- Callers that are made with their session: one seat has their numbers, and is cut into one for each.
 use Rattle.std.proofs.Common.{◌≡◌, ℕ, zero, suc, ◌+◌, ◌-◌, ◌^◌, ◌<◌, ◌≤◌, List, [], ◌∷◌, ◌++◌, length, set, Some, refl, sym, ap, ◌∙◌, subst, ⊎_elim, inl, arith, zero-le, append_assoc}
 use Rattle.driver_model.specs.declared.config.Config.{Config}
-use Rattle.driver_model.specs.declared.event.Event.{Event}
 use Rattle.shared_session.specs.declared.session.Failure.TheVariants.{Sound}
 use mathlib.Core.Option.{some, some-ne-none, some-injective}
 use lib.ListN.{get_elem?}
@@ -10,9 +9,8 @@ use Rattle.atomic_table.specs.Table.{Splits, opening}
 use Rattle.atomic_table.proofs.Lists.{at_snoc}
 use Rattle.session_callers.specs.declared.board.Home.{Home}
 use Rattle.session_callers.specs.declared.board.View.{View}
-use Rattle.session_callers.specs.declared.board.Ended.{Ended}
 use Rattle.session_callers.specs.declared.board.Stage.TheVariants.{Idle}
-use Rattle.session_callers.specs.Rule.{total, same, below, between, times, has, draws, out, more, numbered, callers, owns, claimed, makes, Now, Sat, InTurn, Each, Fits, IsPlaced, Ruled, history, submissions_in, numbers_from, first_of, behind_first, rest_of, one_of, founder, founders}
+use Rattle.session_callers.specs.Rule.{total, same, below, between, times, has, draws, out, more, numbered, callers, owns, claimed, makes, Now, Sat, InTurn, Each, Fits, IsPlaced, Ruled, history, numbers_from, first_of, behind_first, rest_of, one_of, founder, founders}
 use Rattle.session_callers.specs.Calls.{Known, founders_at}
 use Rattle.session_callers.proofs.Totals.{total_set, total_last, below_up}
 use Rattle.session_callers.proofs.Counts.{each_set}

@@ -1,21 +1,19 @@
--- Splitting and joining seats keeps the rule, and so does the start.
-use Rattle.std.proofs.Common.{◌≡◌, ℕ, zero, suc, ◌+◌, ◌-◌, ◌^◌, ◌<◌, ◌≤◌, List, [], ◌∷◌, ◌++◌, length, set, Some, refl, sym, ap, ◌∙◌, subst, ⊎_elim, inl, arith, zero-le, length-append, Bool, true, false}
+-- Splitting and joining seats keeps the rule.
+use Rattle.std.proofs.Common.{◌≡◌, ℕ, suc, ◌+◌, ◌-◌, ◌≤◌, List, [], ◌∷◌, ◌++◌, length, set, refl, sym, ap, ◌∙◌, subst, ⊎_elim, arith, zero-le, length-append, Bool, true, false}
 use Rattle.std.specs.Prelude.{if◌then◌else◌, ◌==◌}
-use Rattle.driver_model.specs.declared.config.Config.{Config}
 use Rattle.driver_model.specs.declared.event.Event.{Event}
 use Rattle.shared_session.specs.declared.session.Failure.TheVariants.{Sound, Spent}
-use mathlib.Core.Option.{some, some-ne-none, some-injective}
+use mathlib.Core.Option.{some}
 use mathlib.Core.List.{IsPrefix}
 use lib.ListN.{get_elem?}
 use Rattle.std.proofs.lemmas.Bool.Decides.{nat_tests}
-use Rattle.atomic_table.specs.Table.{Splits, Joins, opening}
+use Rattle.atomic_table.specs.Table.{Splits, Joins}
 use Rattle.atomic_table.proofs.Lists.{at_snoc, set_else}
-use Rattle.session_callers.specs.declared.board.Home.{Home}
 use Rattle.session_callers.specs.declared.board.View.{View}
 use Rattle.session_callers.specs.declared.board.Ended.{Ended}
 use Rattle.session_callers.specs.declared.board.Stage.{Stage}
 use Rattle.session_callers.specs.declared.board.Stage.TheVariants.{Idle, Waiting, Served, Holding, Split}
-use Rattle.session_callers.specs.Rule.{total, same, below, between, times, has, draws, out, more, numbered, callers, owns, claimed, makes, Now, InTurn, Each, FitsEnded, Fits, IsPlaced, Ruled, ticket_of, newcomer, nobody, longer, as_ended, joined, left_of, right_of, history, submissions_in}
+use Rattle.session_callers.specs.Rule.{total, same, below, between, times, has, draws, out, more, numbered, callers, owns, claimed, makes, InTurn, Each, FitsEnded, Fits, IsPlaced, Ruled, ticket_of, nobody, longer, as_ended, joined, left_of, right_of, submissions_in}
 use Rattle.session_callers.proofs.Totals.{each_append, total_set, total_gap, total_last, total_append, prefix_length, ascends_up, below_up}
 use Rattle.session_callers.proofs.Counts.{each_set}
 use Rattle.session_callers.proofs.Moves.{away, served_one, single_if}

@@ -1,4 +1,4 @@
-use Rattle.std.proofs.Common.{◌≡◌, ℕ, ◌+◌, ◌-◌, ◌≤◌, List, [], ◌∷◌, ◌++◌, length, sym, ap, ◌∙◌, subst, arith}
+use Rattle.std.proofs.Common.{◌≡◌, ◌+◌, ◌-◌, ◌≤◌, List, ◌++◌, length, sym, ap, ◌∙◌, subst, arith}
 use Rattle.session_callers.specs.Calls.{Known, founders_at}
 use Rattle.session_callers.specs.Rule.{Sat, founder, founders, one_of, rest_of}
 use Rattle.session_callers.proofs.Dealing.{as_known, numbers_count, one_is, one_more, rest_is}
