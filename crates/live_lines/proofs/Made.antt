@@ -9,7 +9,7 @@ use Rattle.live_lines.specs.Flights.{IsBare}
 
 module _ (z : TableId) (config : Config) (word made : ℕ) (cs : List Known) (are : cs ≡ founders_at z config word made 0 made) where
   pub made_bare : Each (IsBare config word) cs
-  made_bare = subst (Each (IsBare config word)) (sym are) (each_founder (IsBare config word) z config word made (λ m. (refl, refl, refl, refl, refl)) 0 made)
+  made_bare = subst (Each (IsBare config word)) (sym are) (each_founder (IsBare config word) z config word made (λ m. (refl, refl, refl, (refl, refl))) 0 made)
 
   pub made_most : Each (λ (c : Known). c.view.most ≡ made) cs
   made_most = subst (Each (λ (c : Known). c.view.most ≡ made)) (sym are) (each_founder (λ (c : Known). c.view.most ≡ made) z config word made (λ m. refl) 0 made)
