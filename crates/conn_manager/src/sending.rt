@@ -126,13 +126,10 @@ impl ConnectionManager {
                 Ok(())
             }
             Phase::Lost => self.answer_at_once(alloc, request, RedisError::Closed),
-            Phase::Failed { error } => match error.clone(alloc) {
-                Ok(copy) => self.answer_at_once(alloc, request, copy),
-                Err(error) => {
-                    drop(request);
-                    Err(error.into())
-                }
-            },
+            Phase::Failed { error } => {
+                let copy = error.clone(alloc)?;
+                self.answer_at_once(alloc, request, copy)
+            }
         }
     }
 

@@ -110,27 +110,6 @@ fn told_by_turns<R: Wait>(
     rt: &R,
     alloc: Global,
     shared: &SharedSession,
-    send: &mut PendingSend<'_, R>,
-    server: &mut Caller,
-    solo: &Solo,
-) -> Result<[Option<u8>; 3], AllocError>
-    requires sender { send.old.caller.now.table ≡ send.old.shared.now.table.shared.table_id }
-    requires server { server.old.table ≡ shared.now.table.shared.table_id }
-{
-    let first = told(solo, send)?;
-    if !is_served(rt, alloc, shared, server)? {
-        return Err(AllocError);
-    }
-    let second = told(solo, send)?;
-    let third = told(solo, send)?;
-    Ok([first, second, third])
-}
-
-/// The same, of a send that begins here.
-fn told_of_send<R: Wait>(
-    rt: &R,
-    alloc: Global,
-    shared: &SharedSession,
     sender: &mut Caller,
     server: &mut Caller,
     solo: &Solo,
@@ -142,20 +121,22 @@ fn told_of_send<R: Wait>(
     let mut out = Vec::new(alloc);
     let sent = shared.send_as(rt, alloc, sender, what, 0, &mut out);
     drop(out);
-    match sent {
-        Ok(mut send) => {
-            let told = told_by_turns(rt, alloc, shared, &mut send, server, solo);
-            drop(send);
-            told
-        }
-        Err(_) => Err(AllocError),
+    let Ok(mut send) = sent else {
+        return Err(AllocError);
+    };
+    let first = told(solo, &mut send)?;
+    if !is_served(rt, alloc, shared, server)? {
+        return Err(AllocError);
     }
+    let second = told(solo, &mut send)?;
+    let third = told(solo, &mut send)?;
+    Ok([first, second, third])
 }
 
 /// What three polls of a send tell to its own caller, of which one comes before the reply.
 fn polls<R: Wait>(rt: &R, alloc: Global, solo: &Solo) -> Result<[Option<u8>; 3], AllocError> {
     let (shared, mut a, mut b) = connected(rt, alloc)?;
-    let polls = told_of_send(rt, alloc, &shared, &mut a, &mut b, solo);
+    let polls = told_by_turns(rt, alloc, &shared, &mut a, &mut b, solo);
     drop(a);
     drop(b);
     drop(shared);

@@ -145,21 +145,19 @@ impl Player {
     }
 }
 
-/// Adds a player whose caller joins.
-fn add_sender<R: Wait>(
+/// A player with a caller that joins.
+fn sender<R: Wait>(
     rt: &R,
     shared: &SharedSession,
     caller: &mut Caller,
     key: &'static str,
-    players: &mut Vec<Player>,
-) -> Result<(), AllocError>
-    requires table { caller.old.table ≡ shared.now.table.shared.table_id }
-    requires players { All (λ player. player.caller.table ≡ shared.now.table.shared.table_id) players.old.items }
+) -> Result<Player, AllocError>
+    requires { caller.old.table ≡ shared.now.table.shared.table_id }
     ensures table { caller.new.table ≡ caller.old.table }
-    ensures players { All (λ player. player.caller.table ≡ shared.now.table.shared.table_id) players.new.items }
+    ensures player { IfOk result (λ player. player.caller.table ≡ caller.old.table) }
 {
     match shared.join(rt, caller) {
-        Ok(caller) => players.push(Player {
+        Ok(caller) => Ok(Player {
             caller,
             part: Part::Sends(key),
             told: 0,
@@ -168,60 +166,7 @@ fn add_sender<R: Wait>(
     }
 }
 
-/// Connects a session, and adds two players that send.
-fn add_senders<R: Wait>(
-    rt: &R,
-    alloc: Global,
-    shared: &SharedSession,
-    caller: &mut Caller,
-    players: &mut Vec<Player>,
-) -> Result<(), AllocError>
-    requires table { caller.old.table ≡ shared.now.table.shared.table_id }
-    requires players { All (λ player. player.caller.table ≡ shared.now.table.shared.table_id) players.old.items }
-    ensures table { caller.new.table ≡ caller.old.table }
-    ensures players { All (λ player. player.caller.table ≡ shared.now.table.shared.table_id) players.new.items }
-{
-    takes(rt, alloc, shared, caller, Told::Connected(0))?;
-    add_sender(rt, shared, caller, "a", players)?;
-    add_sender(rt, shared, caller, "b", players)
-}
-
-/// The players of a session that connects: two send, and the third, with this caller, serves.
-fn players_of<R: Wait>(
-    rt: &R,
-    alloc: Global,
-    shared: &SharedSession,
-    mut caller: Caller,
-) -> Result<Vec<Player>, AllocError>
-    requires { caller.table ≡ shared.now.table.shared.table_id }
-    ensures { IfOk result (λ made.
-        All (λ player. player.caller.table ≡ shared.now.table.shared.table_id) made.items
-        ) }
-{
-    let mut players = Vec::new(alloc);
-    let added = add_senders(rt, alloc, shared, &mut caller, &mut players);
-    let server = Player {
-        caller,
-        part: Part::Serves,
-        told: 0,
-    };
-    let added = match added {
-        Ok(()) => players.push(server),
-        Err(error) => {
-            drop(server);
-            Err(error)
-        }
-    };
-    match added {
-        Ok(()) => Ok(players),
-        Err(error) => {
-            drop(players);
-            Err(error)
-        }
-    }
-}
-
-/// A connected session, and its players.
+/// A connected session's players: two send, and the third serves.
 fn players<R: Wait>(rt: &R, alloc: Global) -> Result<(SharedSession, Vec<Player>), AllocError>
     ensures { IfOk result (λ made.
         All (λ player. player.caller.table ≡ made.0.table.shared.table_id) made.1.items
@@ -230,14 +175,17 @@ fn players<R: Wait>(rt: &R, alloc: Global) -> Result<(SharedSession, Vec<Player>
     let mut out = Vec::new(alloc);
     let started = start(alloc, &mut out);
     drop(out);
-    let (shared, caller) = started?;
-    match players_of(rt, alloc, &shared, caller) {
-        Ok(players) => Ok((shared, players)),
-        Err(error) => {
-            drop(shared);
-            Err(error)
-        }
-    }
+    let (shared, mut caller) = started?;
+    takes(rt, alloc, &shared, &mut caller, Told::Connected(0))?;
+    let mut players = Vec::new(alloc);
+    players.push(sender(rt, &shared, &mut caller, "a")?)?;
+    players.push(sender(rt, &shared, &mut caller, "b")?)?;
+    players.push(Player {
+        caller,
+        part: Part::Serves,
+        told: 0,
+    })?;
+    Ok((shared, players))
 }
 
 /// All play, each on a thread of its own.
