@@ -82,13 +82,13 @@ of_halves earlier later ranges base next front back rows e n p q apart maximal f
   apart = apart;
   maximal = maximal;
   each = λ slot.
-    f slot
-    ∙ ap (λ o. or_else o (row_in earlier slot)) (q.each slot)
-    ∙ ap (or_else (owner_from slot next None back)) (p.each slot)
-    ∙ sym (owner_or slot next back (owner_from slot base None front))
-    ∙ ap (λ k. owner_from slot k (owner_from slot base None front) back) (sym n)
-    ∙ sym (owner_behind slot base front back None)
-    ∙ ap (owner_from slot base None) e;
+      f slot
+      ∙ ap (λ o. or_else o (row_in earlier slot)) (q.each slot)
+      ∙ ap (or_else (owner_from slot next None back)) (p.each slot)
+      ∙ sym (owner_or slot next back (owner_from slot base None front))
+      ∙ ap (λ k. owner_from slot k (owner_from slot base None front) back) (sym n)
+      ∙ sym (owner_behind slot base front back None)
+      ∙ ap (owner_from slot base None) e;
 }
 
 -- with one row more, behind all before

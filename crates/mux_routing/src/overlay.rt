@@ -56,11 +56,7 @@ fn over(later: Stretch, earlier: Stretch) -> Stretch
 }
 
 /// Puts the slots from one to the end of a stretch behind ranges, if a row has them.
-fn push_stretch(
-    ranges: &mut Vec<SlotRange>,
-    start: u16,
-    stretch: Stretch,
-) -> Result<(), AllocError>
+fn push_stretch(ranges: &mut Vec<SlotRange>, start: u16, stretch: Stretch) -> Result<(), AllocError>
     ensures { OnOk result (ranges.new.items ≡ with_stretch ranges.old.items start stretch.end stretch.row) }
 {
     let Some(row) = stretch.row else {

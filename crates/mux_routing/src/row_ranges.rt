@@ -42,11 +42,7 @@ fn ranges_in_turn(
 /// The ranges of rows: of each half, and then the later ones over the earlier ones. With n rows it takes n log n steps, and
 /// n where the rows are in order and apart.
 #[tactic(auto, using(crate::proofs::Owning::front_in_range, crate::proofs::Owning::back_in_range))]
-pub fn ranges_of(
-    alloc: Global,
-    rows: &[SlotRow],
-    base: u32,
-) -> Result<Vec<SlotRange>, AllocError>
+pub fn ranges_of(alloc: Global, rows: &[SlotRow], base: u32) -> Result<Vec<SlotRange>, AllocError>
     requires range { in_range rows.now ≡ true }
     requires numbers { base + length rows.now < 4_294_967_296 }
     ensures { IfOk result (λ ranges. AreOwned ranges.items base rows.now) }
