@@ -10,7 +10,7 @@ use Rattle.slot_hash.specs.declared.address.NodeAddress.{NodeAddress}
 use Rattle.command_table.specs.declared.routing.SlotAddr.{SlotAddr}
 use Rattle.command_table.specs.declared.routing.SlotAddr.TheVariants.{Master, ReplicaOptional, ReplicaRequired}
 use Rattle.mux_routing.specs.declared.rows.SlotRow.{SlotRow}
-use Rattle.mux_routing.specs.Shards.{Shard, address_in, addresses, addresses_from, all_inserted, are_places, fallback_addresses, fallbacks_in, first_numbers, holds, inserted, is_place, last_row, leading_below, leads, node_in, node_places, or_else, place_of, primaries, shard_at, shard_of, shards}
+use Rattle.mux_routing.specs.Shards.{Shard, address_in, addresses, addresses_from, all_inserted, are_places, fallback_addresses, fallbacks_in, first_numbers, holds, inserted, is_place, last_row, leading_below, leads, node_in, node_places, or_else, place_of, primaries, primary_at, shard_at, shard_of, shards}
 use Rattle.mux_routing.proofs.Finding.{AreAt, IsAt, IsPlaced, row_comes, stay_with}
 
 picked : (nodes : List NodeAddress) (p : NodeAddress) (rs : List NodeAddress) (k : ℕ) → IsAt nodes p → AreAt nodes rs → slice_get nodes (unwrap_or (slice_get (map (place_of nodes) rs) k) (place_of nodes p)) ≡ Some (unwrap_or (slice_get rs k) p)
@@ -63,6 +63,12 @@ leads_nowhere slot rows addr pick r e = ap (option_and_then (slice_get (addresse
 
 pub leads_to_address : (slot : ℕ) (rows : List SlotRow) (addr : SlotAddr) (pick : Option (ℕ → ℕ)) (i : ℕ) → Some i ≡ option_map (node_in addr pick) (shard_at slot rows) → slice_get (addresses rows) i ≡ option_map (address_in addr pick) (last_row slot rows)
 leads_to_address slot rows addr pick i e = leads_nowhere slot rows addr pick (Some i) e
+
+pub primary_nowhere : (slot : ℕ) (rows : List SlotRow) (r : Option ℕ) → r ≡ primary_at slot rows → option_and_then (slice_get (addresses rows)) r ≡ option_map (λ (row : SlotRow). row.primary) (last_row slot rows)
+primary_nowhere slot rows r e = leads_nowhere slot rows Master None r e
+
+pub primary_somewhere : (slot : ℕ) (rows : List SlotRow) (i : ℕ) → Some i ≡ primary_at slot rows → slice_get (addresses rows) i ≡ option_map (λ (row : SlotRow). row.primary) (last_row slot rows)
+primary_somewhere slot rows i e = leads_nowhere slot rows Master None (Some i) e
 
 pub leads_to_place : (slot : ℕ) (rows : List SlotRow) (addr : SlotAddr) (pick : Option (ℕ → ℕ)) (shard : Shard) (i : ℕ) → i ≡ node_in addr pick shard → Some shard ≡ shard_at slot rows → is_place rows i ≡ true
 leads_to_place slot rows addr pick shard i e f =

@@ -3,8 +3,9 @@ use Rattle.std.proofs.Common.{◌≡◌, ℕ, suc, ◌+◌, ◌<◌, ◌≤◌, 
 use Rattle.std.proofs.lemmas.Option.{get_or_from_slice_get}
 use Rattle.containers.proofs.Choices.{both_true, lt_from}
 use Rattle.slot_hash.specs.declared.address.NodeAddress.{NodeAddress}
+use Rattle.mux_routing.specs.declared.range_table.SlotRange.{SlotRange}
 use Rattle.mux_routing.specs.declared.rows.SlotRow.{SlotRow}
-use Rattle.mux_routing.specs.Entries.{AreEntries, AreKept, address_at, row_kept, rows_kept}
+use Rattle.mux_routing.specs.Kept.{AreKept, AreRanges, address_at, row_kept, rows_kept}
 use Rattle.mux_routing.specs.Reply.{are_rows, in_range, node_count}
 use Rattle.mux_routing.specs.Shards.{Shard, address_less, addresses, addresses_from, all_inserted, inserted, leading_below, place_of, primaries, shard_of, shards}
 use Rattle.mux_routing.proofs.Finding.{AreAt, IsAt, IsPlaced, row_comes, stay_with}
@@ -65,14 +66,24 @@ few_nodes rows h =
     let few = lt_from (node_count rows) 4_294_967_296 (both_true (in_range rows) (nat_lt (node_count rows) 4_294_967_296) h).1 in
     omega (arith, from_longer [] rows, few)
 
-pub all_kept : (nodes : List NodeAddress) (kept : List Shard) (entries : List (Option ℕ)) (leaders : List ℕ) (rows : List SlotRow) → nodes ≡ addresses rows → kept ≡ map (shard_of nodes) rows → AreEntries entries rows → leaders ≡ leading_below (length nodes) kept → are_rows rows ≡ true → AreKept nodes kept entries leaders (rows_kept nodes kept)
+-- each row has a primary at least
+rows_counted : (rows : List SlotRow) → length rows ≤ node_count rows
+rows_counted [] = omega arith
+rows_counted (r ∷ rs) = omega (arith, rows_counted rs)
+
+pub few_rows : (rows : List SlotRow) → are_rows rows ≡ true → length rows < 4_294_967_296
+few_rows rows h =
+    let few = lt_from (node_count rows) 4_294_967_296 (both_true (in_range rows) (nat_lt (node_count rows) 4_294_967_296) h).1 in
+    omega (arith, rows_counted rows, few)
+
+pub all_kept : (nodes : List NodeAddress) (kept : List Shard) (ranges : List SlotRange) (leaders : List ℕ) (rows : List SlotRow) → nodes ≡ addresses rows → kept ≡ map (shard_of nodes) rows → AreRanges ranges rows → leaders ≡ leading_below (length nodes) kept → are_rows rows ≡ true → AreKept nodes kept ranges leaders (rows_kept nodes kept)
 unfolding primaries
-all_kept nodes kept entries leaders rows e f g h few =
+all_kept nodes kept ranges leaders rows e f g h few =
     let shards_are : kept ≡ shards rows = f ∙ ap (λ ns. map (shard_of ns) rows) e in
-    subst (λ rs. AreKept nodes kept entries leaders rs) (sym (same_rows nodes kept rows e f)) (record {
+    subst (λ rs. AreKept nodes kept ranges leaders rs) (sym (same_rows nodes kept rows e f)) (record {
       nodes_are = e;
       few = subst (λ ns. length ns < 4_294_967_296) (sym e) (few_nodes rows few);
       shards_are = shards_are;
-      entries_are = g;
+      ranges_are = g;
       leaders_are = h ∙ ap (λ ns. leading_below (length ns) kept) e ∙ ap (leading_below (length (addresses rows))) shards_are;
     })

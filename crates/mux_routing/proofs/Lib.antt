@@ -1,4 +1,5 @@
 mod Agreeing
+mod Alone
 mod Answering
 mod Elements
 mod Finding
@@ -6,5 +7,8 @@ mod Keeping
 mod Leading
 mod Members
 mod Ordered
+mod Overlaying
 mod Owning
+mod Pushing
 mod Ranges
+mod Searching

@@ -1,5 +1,6 @@
-pub mod Entries
+pub mod Kept
 pub mod Members
+pub mod Ranges
 pub mod Reply
 pub mod Routes
 pub mod Shards

@@ -75,6 +75,10 @@ last_row slot (r ∷ rs) = or_else (last_row slot rs) (if holds slot r then Some
 unfoldable pub shard_at : ℕ → List SlotRow → Option Shard
 shard_at slot rows = option_map (shard_of (addresses rows)) (last_row slot rows)
 
+-- the primary of a slot, if a row holds it
+abbrev pub primary_at : ℕ → List SlotRow → Option ℕ
+primary_at slot rows = option_map (λ (s : Shard). s.primary) (shard_at slot rows)
+
 -- the replica that is picked; the primary where there is none
 abbrev pub replica_of : {T : Type 0} → T → List T → (ℕ → ℕ) → T
 replica_of primary replicas pick = unwrap_or (slice_get replicas (pick (length replicas))) primary

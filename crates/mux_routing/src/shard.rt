@@ -1,5 +1,5 @@
 ghost use Rattle.std.specs.Prelude.{◌≡◌, ◌==◌, ◌||◌, ◌<◌, ℕ, true, false, length, map, IfOk, option_copied, Some};
-ghost use Rattle.mux_routing.specs.Entries.{mark_at, numbered};
+ghost use Rattle.mux_routing.specs.Kept.{mark_at, numbered};
 ghost use Rattle.mux_routing.specs.Shards.{first_numbers, in_order, leading_below, leads, place_of, shard_of};
 ghost use Rattle.mux_routing.specs.Shards.{node_in, picking, reads_after};
 

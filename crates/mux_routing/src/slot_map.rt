@@ -1,13 +1,16 @@
 use crate::addresses::{addresses, found};
-use crate::entries::{entries_of, entry};
+use crate::range_table::RangeTable;
+use crate::row_ranges::ranges_of;
 use crate::rows::SlotRows;
 use crate::shard::{ShardNodes, first_numbers, leading, node_in, numbered, shards_of};
+use crate::steps::Steps;
 use crate::strategy::ReadRoutingStrategy;
 use command_table::{Route, SlotAddr};
 use containers::Seq;
 use slot_hash::NodeAddress;
 use std::alloc::{AllocError, Global};
-use std::marker::Model;
+use std::marker::{Brand, Model};
+use std::sync::ledger::{Blank, Ledger};
 
 /// The place of a node among the distinct addresses of a map, in the order of these.
 pub type NodeIndex = u32;
@@ -18,36 +21,39 @@ pub struct SlotMap {
     /// The distinct addresses, in order.
     nodes: Vec<NodeAddress>,
     shards: Seq<ShardNodes>,
-    /// For each slot the number of the last row that holds it; nothing where there are no rows.
-    entries: Vec<Option<u32>>,
+    /// The slots that rows hold, by their last rows.
+    ranges: RangeTable,
     primaries: Vec<NodeIndex>,
 }
 
 impl Model for SlotMap {
     ghost use Rattle.std.specs.Prelude.{List};
     ghost use Rattle.mux_routing.specs.declared.rows.SlotRow.{SlotRow};
-    ghost use Rattle.mux_routing.specs.Entries.{AreKept, rows_kept};
+    ghost use Rattle.mux_routing.specs.Kept.{AreKept, rows_kept};
 
     ghost Value = { List SlotRow };
 
     ghost view = { λ m. rows_kept m.nodes.items m.shards };
 
-    ghost invariant = { λ m. AreKept m.nodes.items m.shards m.entries.items m.primaries.items (rows_kept m.nodes.items m.shards) };
+    ghost invariant = { λ m. AreKept m.nodes.items m.shards m.ranges m.primaries.items (rows_kept m.nodes.items m.shards) };
 }
 
 impl SlotMap {
-    ghost use Rattle.std.specs.Prelude.{◌≡◌, ◌<◌, ◌^◌, true, map, slice_get, IsNone};
+    ghost use Rattle.std.specs.Prelude.{◌≡◌, ◌<◌, ◌≤◌, ◌+◌, ◌-◌, ◌*◌, ◌^◌, true, List, length, map, slice_get, IsNone};
     ghost use Rattle.std.specs.List.{Contains};
     ghost use Rattle.mux_routing.specs.Members.{AreLeaders, AreNamed};
-    ghost use Rattle.std.specs.Prelude.{IfOk, IfSome, Some, option_and_then, option_copied};
+    ghost use Rattle.std.specs.Prelude.{IfOk, IfSome, Some, option_and_then, option_copied, option_map};
+    ghost use Rattle.mux_routing.specs.declared.range_table.SlotRange.{SlotRange};
+    ghost use Rattle.mux_routing.specs.declared.rows.SlotRow.{SlotRow};
+    ghost use Rattle.mux_routing.specs.Kept.{AreRanges};
     ghost use Rattle.mux_routing.specs.Reply.{are_rows};
-    ghost use Rattle.mux_routing.specs.Shards.{addresses, in_order, last_row, shard_at};
+    ghost use Rattle.mux_routing.specs.Shards.{addresses, in_order, last_row, primary_at, shard_at};
     ghost use Rattle.mux_routing.specs.Shards.{address_led_to, picking, place_led_to, reads_after};
     ghost use Rattle.mux_routing.specs.Shards.{fallback_addresses, fallbacks_in, node_places, primaries};
     ghost use Rattle.mux_routing.specs.Shards.{are_places, is_place};
 
     /// The map of these rows. With n nodes it takes n log n comparisons of addresses, once; of no rows it takes no memory.
-    #[tactic(auto, using(crate::proofs::Finding::are_in_order, crate::proofs::Keeping::all_kept, crate::proofs::Keeping::same_rows, crate::proofs::Members::are_named))]
+    #[tactic(auto, using(crate::proofs::Finding::are_in_order, crate::proofs::Keeping::all_kept, crate::proofs::Keeping::few_rows, crate::proofs::Keeping::same_rows, crate::proofs::Members::are_named))]
     pub fn from_rows(alloc: Global, rows: &SlotRows) -> Result<SlotMap, AllocError>
         requires { are_rows rows.now ≡ true }
         ensures is { IfOk result (λ m. m ≡ rows.now) }
@@ -56,23 +62,64 @@ impl SlotMap {
     {
         let nodes = addresses(alloc, rows.as_slice())?;
         let shards = shards_of(alloc, nodes.as_slice(), rows.as_slice())?;
-        let entries = entries_of(alloc, rows.as_slice())?;
+        let ranges = RangeTable::new(ranges_of(alloc, rows.as_slice(), 0)?);
         let primaries = leading(alloc, nodes.len(), shards.as_slice())?;
         Ok(SlotMap {
             nodes,
             shards,
-            entries,
+            ranges,
             primaries,
         })
     }
 
-    /// The nodes of a slot, if a row holds it.
-    fn shard(&self, slot: u16) -> Option<&ShardNodes>
-        requires { slot < 2 ^ 14 }
+    /// The ranges of slots, each with the number of the last row that holds them.
+    pub fn ranges(&self) -> &RangeTable
+        ensures { AreRanges result.now self.now }
+    {
+        &self.ranges
+    }
+
+    /// The nodes of a slot, if a row holds it, and the steps that it takes.
+    fn look_up<L: Ledger>(&self, slot: u16, steps: &mut Steps<L>) -> Option<&ShardNodes>
+        ensures shard { option_copied result ≡ shard_at slot self.now }
+        ensures grows { steps.old ≤ steps.new }
+        ensures steps { (ranges : List SlotRange) → AreRanges ranges self.now
+            → 2 ^ (steps.new - steps.old) ≤ 2 * length ranges + 1 }
+    {
+        let number = self.ranges.find(slot, steps);
+        numbered(self.shards.as_slice(), number)
+    }
+
+    /// The primary of a slot: that of the last row that holds it; none where no row does. A look at a range is a step: among n
+    /// ranges it takes k steps with 2^k <= 2 n + 1.
+    pub fn find<L: Ledger>(&self, slot: u16, steps: &mut Steps<L>) -> Option<NodeIndex>
+        ensures index { result ≡ primary_at slot self.now }
+        ensures address { option_and_then (slice_get (addresses self.now)) result
+            ≡ option_map (λ (row : SlotRow). row.primary) (last_row slot self.now) }
+        ensures grows { steps.old ≤ steps.new }
+        ensures steps { (ranges : List SlotRange) → AreRanges ranges self.now
+            → 2 ^ (steps.new - steps.old) ≤ 2 * length ranges + 1 }
+    {
+        let shard = self.look_up(slot, steps)?;
+        Some(shard.primary)
+    }
+
+    /// The same with a count of its own. Its steps are of the ledger that `blank` is to be.
+    fn look_up_alone<L: Ledger>(&self, slot: u16, blank: Blank) -> Option<&ShardNodes>
+        requires name { blank.name ≡ L.name }
+        requires parts { blank.parts ≡ L.parts }
+        requires some { 0 < blank.parts }
         ensures { option_copied result ≡ shard_at slot self.now }
     {
-        let number = entry(self.entries.as_slice(), usize::from(slot));
-        numbered(self.shards.as_slice(), number)
+        let mut steps = Steps::<L>::new(blank);
+        self.look_up(slot, &mut steps)
+    }
+
+    /// The nodes of a slot, if a row holds it.
+    fn shard(&self, slot: u16) -> Option<&ShardNodes>
+        ensures { option_copied result ≡ shard_at slot self.now }
+    {
+        self.look_up_alone::<Brand>(slot, Blank::new(1))
     }
 
     /// The node to which a route leads, if a row holds its slot. Without a read strategy an optional replica is the

@@ -6,6 +6,8 @@ mod commands;
 #[cfg(test)]
 mod part_commands;
 #[cfg(test)]
+mod ranges;
+#[cfg(test)]
 mod replies;
 #[cfg(test)]
 mod routes;

@@ -1,9 +1,11 @@
--- What a map keeps: the addresses, the rows with their nodes by places, for each slot the number of the last row that holds it,
--- and the primaries.
-use Rattle.std.specs.Prelude.{◌≡◌, ◌<◌, ℕ, suc, Bool, false, List, [], ◌∷◌, map, length, Option, Some, None, if◌then◌else◌}
+-- What a map keeps: the addresses, the rows with their nodes by places, the ranges of slots with their last rows, and the
+-- primaries.
+use Rattle.std.specs.Prelude.{◌≡◌, ◌<◌, ℕ, suc, Bool, true, false, List, [], ◌∷◌, map, length, Option, Some, None, if◌then◌else◌}
 use Rattle.std.specs.Prelude.{slice_get, slice_index_or}
 use Rattle.slot_hash.specs.declared.address.NodeAddress.{NodeAddress}
+use Rattle.mux_routing.specs.declared.range_table.SlotRange.{SlotRange}
 use Rattle.mux_routing.specs.declared.rows.SlotRow.{SlotRow}
+use Rattle.mux_routing.specs.Ranges.{are_apart, are_maximal, row_in}
 use Rattle.mux_routing.specs.Shards.{Shard, addresses, holds, primaries, shards}
 
 -- the number of the last row that holds a slot, where these rows are numbered from i on, and before them it was found
@@ -23,19 +25,15 @@ numbered items (Some k) = slice_get items k
 abbrev pub mark_at : List Bool → ℕ → Bool
 mark_at marks i = slice_index_or marks i false
 
--- what the entries say of a slot
-abbrev pub entry_of : List (Option ℕ) → ℕ → Option ℕ
-entry_of entries slot = slice_index_or entries slot None
+-- ranges of the slots that rows hold, each with its last row; the rows are numbered from there on
+pub record AreOwned (ranges : List SlotRange) (base : ℕ) (rows : List SlotRow) : Type 0 where
+  pub apart : are_apart ranges ≡ true
+  pub maximal : are_maximal ranges ≡ true
+  pub each : (slot : ℕ) → row_in ranges slot ≡ owner_from slot base None rows
 
--- how many entries there are: one for each slot, and none where there are no rows
-abbrev pub entry_count : List SlotRow → ℕ
-entry_count [] = 0
-entry_count (r ∷ rs) = 16_384
-
--- an entry for each slot, where there are rows
-pub record AreEntries (entries : List (Option ℕ)) (rows : List SlotRow) : Type 0 where
-  pub count : length entries ≡ entry_count rows
-  pub each : (slot : ℕ) → slot < 16_384 → entry_of entries slot ≡ owner slot rows
+-- the ranges of all rows: in order, apart, as long as they can be, and right for each slot
+abbrev pub AreRanges : List SlotRange → List SlotRow → Type 0
+AreRanges ranges rows = AreOwned ranges 0 rows
 
 -- the address of a place
 abbrev pub address_at : List NodeAddress → ℕ → NodeAddress
@@ -49,9 +47,9 @@ abbrev pub rows_kept : List NodeAddress → List Shard → List SlotRow
 rows_kept nodes kept = map (row_kept nodes) kept
 
 -- all that a map keeps of these rows
-pub record AreKept (nodes : List NodeAddress) (kept : List Shard) (entries : List (Option ℕ)) (leaders : List ℕ) (rows : List SlotRow) : Type 0 where
+pub record AreKept (nodes : List NodeAddress) (kept : List Shard) (ranges : List SlotRange) (leaders : List ℕ) (rows : List SlotRow) : Type 0 where
   pub nodes_are : nodes ≡ addresses rows
   pub few : length nodes < 4_294_967_296
   pub shards_are : kept ≡ shards rows
-  pub entries_are : AreEntries entries rows
+  pub ranges_are : AreRanges ranges rows
   pub leaders_are : leaders ≡ primaries rows
