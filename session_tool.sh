@@ -103,6 +103,7 @@ build() {
   fi
   cp "$copy/crates/$name/out/$name" "$program.new"
   mv "$program.new" "$program"
+  rm -rf "$copy"
   printf '%s\n' "$lines" >"$out/$name.crates"
   say "proved and built in $SECONDS s"
 }
